@@ -1,0 +1,11 @@
+pub mod AgeLemmas
+pub mod FieldLemmas
+pub mod HeadersLemmas
+pub mod MarkLemmas
+pub mod NumberLemmas
+pub mod PieceLemmas
+pub mod ReadLemmas
+pub mod ShownLemmas
+pub mod TextLemmas
+pub mod TrimLemmas
+pub mod ValidLemmas

@@ -1,0 +1,55 @@
+-- Headers: a finite map from names in lower case to their values, where the order of names does not count.
+use Rattle.std.specs.Prelude.{◌≡◌, ℕ, ◌+◌, ◌^◌, ◌≤◌, ◌⊎◌, List, [], length, map, Option, Some, None, Bool, is_some, option_and_then, slice_get, sum_by, unwrap_or}
+use Rattle.std.specs.Ordering.{nat_cmp}
+use Rattle.std.specs.Cmp.Lexicographic.{slice_cmp}
+use Rattle.std.specs.Coded.{Coded, coded_list, coded_ℕ}
+use Rattle.std.specs.FinMap as fin
+use Rattle.http_header.specs.FieldValue.{FieldValue}
+use Rattle.http_header.specs.HeaderMap.{Entries}
+use Rattle.http_cache_semantics.specs.Text.{text_of}
+
+abbrev pub Headers : Type 0
+Headers = fin.FinMap (slice_cmp nat_cmp) (List (List ℕ))
+
+abbrev pub headers_code : Coded Headers
+headers_code = fin.code (coded_list coded_ℕ) (coded_list (coded_list coded_ℕ))
+
+-- values as bytes; that a value is kept out of logs isn't seen
+abbrev pub bytes_of : List FieldValue → List (List ℕ)
+bytes_of values = map (λ v. v.bytes) values
+
+-- a name with its values as bytes
+abbrev pub entry_of : List ℕ × List FieldValue → List ℕ × List (List ℕ)
+entry_of e = (e.0, bytes_of e.1)
+
+-- what a header map holds
+abbrev pub headers_of : Entries FieldValue → Headers
+headers_of m = fin.from_entries (map entry_of m)
+
+-- the values under a name, in their order
+abbrev pub values : Headers → List ℕ → List (List ℕ)
+values h name = unwrap_or (fin.get h name) []
+
+-- the first value under a name
+abbrev pub first : Headers → List ℕ → Option (List ℕ)
+first h name = slice_get (values h name) 0
+
+-- the first value under a name, if it is text
+abbrev pub first_text : Headers → List ℕ → Option (List ℕ)
+first_text h name = option_and_then text_of (first h name)
+
+-- there is a value under a name, text or not
+abbrev pub holds : Headers → List ℕ → Bool
+holds h name = is_some (first h name)
+
+-- how many values there are, under all names
+abbrev pub value_count : Headers → ℕ
+value_count h = sum_by (λ e. length e.1) (fin.entries h)
+
+-- one more name would pass the greatest count of names or of values
+abbrev pub IsFull : Headers → Type 0
+IsFull h = (24576 ≤ fin.len h) ⊎ (2 ^ 64 ≤ value_count h + 1)
+
+-- the name is new and there is no room for it
+abbrev pub RefusesName : Headers → List ℕ → Type 0
+RefusesName h name = (fin.get h name ≡ None) × IsFull h

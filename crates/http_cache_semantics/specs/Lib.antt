@@ -1,0 +1,15 @@
+pub mod Text
+pub mod Number
+pub mod Headers
+pub mod Pieces
+pub mod Directives
+pub mod Shown
+pub mod Readable
+pub mod Ratio
+pub mod Options
+pub mod Exchange
+pub mod Storable
+pub mod Lifetime
+pub mod Age
+pub mod Inside
+pub mod Rows

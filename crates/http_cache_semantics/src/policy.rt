@@ -1,0 +1,234 @@
+//! A stored exchange: whether it may be stored, how old it is and how long it stays fresh.
+ghost use Rattle.std.specs.Prelude.{◌≡◌, ℤ, ◌-ℤ◌, ◌≤ℤ◌, ◌≤◌, ◌↔◌, IsTrue, IfOk, IsOkUnless};
+ghost use Rattle.std.specs.Duration.{as_nanos};
+ghost use Rattle.http_cache_semantics.specs.Headers.{headers_of};
+ghost use Rattle.http_cache_semantics.specs.Options.{options_of, default_options};
+ghost use Rattle.http_cache_semantics.specs.Age.{elapsed};
+
+mod lifetime;
+mod like;
+mod options;
+mod storable;
+#[cfg(test)]
+mod tests;
+
+use crate::directives::cache_control_of;
+use crate::error::CacheError;
+use crate::headers::copy_of_map;
+use crate::policy::lifetime::{lifetime_of, received_age};
+use crate::policy::storable::is_storable;
+use http::{HeaderMap, Method, StatusCode, Uri, Version, request, response};
+use jiff::Timestamp;
+pub use like::{RequestLike, ResponseLike};
+pub use options::{CacheOptions, Fraction};
+use std::alloc::Global;
+use std::marker::Model;
+use std::time::Duration;
+
+/// A request, the response that came for it, and when it came. It tells when the response may be
+/// used again.
+#[derive(Debug, Drop)]
+pub struct CachePolicy {
+    uri: Uri,
+    method: Method,
+    status: StatusCode,
+    req: HeaderMap,
+    res: HeaderMap,
+    opts: CacheOptions,
+    response_time: Timestamp,
+    // What is read once, so that the answers below take no memory.
+    storable: bool,
+    received_age: u64,
+    lifetime: Duration,
+}
+
+impl Model for CachePolicy {
+    ghost use Rattle.http_cache_semantics.specs.Exchange.{Exchange, exchange_code};
+
+    ghost Value = { Exchange };
+
+    ghost coded = { exchange_code };
+
+    ghost use Rattle.http_cache_semantics.specs.Inside.{exchange_in, IsDerived};
+
+    ghost view = { exchange_in };
+
+    ghost invariant = { IsDerived };
+}
+
+// A copy of a target.
+fn copy_of_target(target: &Uri) -> Result<Uri, CacheError>
+    ensures value { IfOk result (λ copy. copy ≡ target.now) }
+    ensures only_memory { IsOkUnless result CacheError.Memory }
+{
+    target.clone().map_err(|_| CacheError::Memory)
+}
+
+// A copy of a method.
+fn copy_of_method(method: &Method) -> Result<Method, CacheError>
+    ensures value { IfOk result (λ copy. copy ≡ method.now) }
+    ensures only_memory { IsOkUnless result CacheError.Memory }
+{
+    method.clone().map_err(|_| CacheError::Memory)
+}
+
+impl CachePolicy {
+    ghost use Rattle.http_cache_semantics.specs.Storable.{is_storable};
+    ghost use Rattle.http_cache_semantics.specs.Age.{age_at, time_to_live_at, is_stale_at};
+
+    /// The policy of a response that came for a request at a moment, with the default options. It
+    /// is refused for want of memory alone.
+    pub fn new<Req: RequestLike, Res: ResponseLike>(
+        alloc: Global,
+        req: &Req,
+        res: &Res,
+        response_time: Timestamp,
+    ) -> Result<CachePolicy, CacheError>
+        ensures value { IfOk result (λ policy. policy ≡ record {
+          target = Req.uri req.now;
+          method = Req.method req.now;
+          status = Res.status res.now;
+          request = Req.headers req.now;
+          response = Res.headers res.now;
+          options = default_options;
+          moment = response_time.nanosecond;
+        }) }
+        ensures only_memory { IsOkUnless result CacheError.Memory }
+    {
+        CachePolicy::new_options(alloc, req, res, response_time, CacheOptions::default())
+    }
+
+    /// The policy of a response that came for a request at a moment. It is refused for want of
+    /// memory alone.
+    pub fn new_options<Req: RequestLike, Res: ResponseLike>(
+        alloc: Global,
+        req: &Req,
+        res: &Res,
+        response_time: Timestamp,
+        opts: CacheOptions,
+    ) -> Result<CachePolicy, CacheError>
+        ensures value { IfOk result (λ policy. policy ≡ record {
+          target = Req.uri req.now;
+          method = Req.method req.now;
+          status = Res.status res.now;
+          request = Req.headers req.now;
+          response = Res.headers res.now;
+          options = options_of opts;
+          moment = response_time.nanosecond;
+        }) }
+        ensures only_memory { IsOkUnless result CacheError.Memory }
+    {
+        let request = request::Parts {
+            method: copy_of_method(req.method())?,
+            uri: req.uri(alloc)?,
+            version: Version::HTTP_11,
+            headers: copy_of_map(req.headers())?,
+        };
+        let response = response::Parts {
+            status: res.status(),
+            version: Version::HTTP_11,
+            headers: copy_of_map(res.headers())?,
+        };
+        CachePolicy::from_parts(alloc, request, response, response_time, opts)
+    }
+
+    fn from_parts(
+        alloc: Global,
+        request: request::Parts,
+        response: response::Parts,
+        response_time: Timestamp,
+        opts: CacheOptions,
+    ) -> Result<CachePolicy, CacheError>
+        ensures value { IfOk result (λ policy. policy ≡ record {
+          target = request.uri;
+          method = request.method;
+          status = response.status;
+          request = headers_of request.headers;
+          response = headers_of response.headers;
+          options = options_of opts;
+          moment = response_time.nanosecond;
+        }) }
+        ensures only_memory { IsOkUnless result CacheError.Memory }
+    {
+        let directives = cache_control_of(alloc, &response.headers)?;
+        let asked = cache_control_of(alloc, &request.headers)?;
+        let storable = is_storable(opts.shared, &request, &response, &asked, &directives);
+        let received_age = received_age(&response.headers);
+        let lifetime = lifetime_of(storable, &response.headers, &directives, &opts);
+        Ok(CachePolicy {
+            uri: request.uri,
+            method: request.method,
+            status: response.status,
+            req: request.headers,
+            res: response.headers,
+            opts,
+            response_time,
+            storable,
+            received_age,
+            lifetime,
+        })
+    }
+
+    /// The same policy. It is refused for want of memory alone.
+    pub fn try_clone(&self) -> Result<CachePolicy, CacheError>
+        ensures value { IfOk result (λ copy. copy ≡ self.now) }
+        ensures only_memory { IsOkUnless result CacheError.Memory }
+    {
+        Ok(CachePolicy {
+            uri: copy_of_target(&self.uri)?,
+            method: copy_of_method(&self.method)?,
+            status: self.status,
+            req: copy_of_map(&self.req)?,
+            res: copy_of_map(&self.res)?,
+            opts: self.opts,
+            response_time: self.response_time,
+            storable: self.storable,
+            received_age: self.received_age,
+            lifetime: self.lifetime,
+        })
+    }
+
+    /// Whether the response may be stored (RFC 7234, section 3).
+    pub fn is_storable(&self) -> bool
+        ensures { result ≡ is_storable self.now }
+    {
+        self.storable
+    }
+
+    /// The age at a moment: the received Age and the time since then, which stops at the greatest
+    /// duration (RFC 7234, section 4.2.3).
+    pub fn age(&self, now: Timestamp) -> Duration
+        ensures value { as_nanos result ≡ age_at self.now now.nanosecond }
+        ensures rises { (earlier : ℤ) → earlier ≤ℤ now.nanosecond → age_at self.now earlier ≤ as_nanos result }
+    {
+        let received = Duration::from_secs(self.received_age);
+        received.saturating_add(elapsed(self.response_time, now))
+    }
+
+    /// How much of the lifetime is left at a moment, or zero (RFC 7234, section 4.2).
+    pub fn time_to_live(&self, now: Timestamp) -> Duration
+        ensures { as_nanos result ≡ time_to_live_at self.now now.nanosecond }
+    {
+        self.lifetime.saturating_sub(self.age(now))
+    }
+
+    /// Whether nothing is left of the lifetime at a moment (RFC 7234, section 4.2).
+    pub fn is_stale(&self, now: Timestamp) -> bool
+        ensures value { result ≡ is_stale_at self.now now.nanosecond }
+        ensures nothing_left { IsTrue result ↔ (time_to_live_at self.now now.nanosecond ≡ 0) }
+    {
+        self.lifetime.as_nanos() <= self.age(now).as_nanos()
+    }
+}
+
+// The time from one moment to a later one, or zero.
+fn elapsed(from: Timestamp, to: Timestamp) -> Duration
+    ensures { as_nanos result ≡ elapsed (to.nanosecond -ℤ from.nanosecond) }
+{
+    let nanos = to.as_nanosecond() - from.as_nanosecond();
+    if nanos <= 0 {
+        Duration::ZERO
+    } else {
+        Duration::from_nanos_u128(nanos as u128)
+    }
+}
