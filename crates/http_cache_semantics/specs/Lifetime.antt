@@ -35,21 +35,21 @@ varies_always response =
 abbrev pub immutable_floor : List Directive → Options → ℕ
 immutable_floor ds options = if has ds (codes "immutable") then options.immutable_nanos else 0
 
--- the lifetime, by whether the response may be stored
+-- the table of lifetimes, by whether the response may be stored
+abbrev pub lifetime_rows : Bool → Headers → List Directive → Options → List Row
+lifetime_rows storable response ds options =
+    (not storable || has ds (codes "no-cache"), 0)
+    ∷ (options.shared && has_own_cookies response ds, 0)
+    ∷ (varies_always response, 0)
+    ∷ (options.shared && has ds (codes "proxy-revalidate"), 0)
+    ∷ (options.shared && is_some (text_under ds (codes "s-maxage")), seconds_in (text_under ds (codes "s-maxage")))
+    ∷ (is_some (text_under ds (codes "max-age")), seconds_in (text_under ds (codes "max-age")))
+    ∷ []
+
+-- the lifetime of the first row that applies, else that of an immutable response
 abbrev pub lifetime_of : Bool → Headers → List Directive → Options → ℕ
 lifetime_of storable response ds options =
-    let shared = options.shared in
-    let shared_age = text_under ds (codes "s-maxage") in
-    let max_age = text_under ds (codes "max-age") in
-    first_row (
-    (not storable || has ds (codes "no-cache"), 0)
-    ∷ (shared && has_own_cookies response ds, 0)
-    ∷ (varies_always response, 0)
-    ∷ (shared && has ds (codes "proxy-revalidate"), 0)
-    ∷ (shared && is_some shared_age, seconds_in shared_age)
-    ∷ (is_some max_age, seconds_in max_age)
-    ∷ []
-    ) (immutable_floor ds options)
+    first_row (lifetime_rows storable response ds options) (immutable_floor ds options)
 
 -- how long the response stays fresh, in nanoseconds
 abbrev pub lifetime : Exchange → ℕ
