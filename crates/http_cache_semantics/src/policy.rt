@@ -1,6 +1,7 @@
 //! A stored exchange: whether it may be stored, how old it is and how long it stays fresh.
 ghost use Rattle.std.specs.Prelude.{◌≡◌, ℤ, ◌-ℤ◌, ◌≤ℤ◌, ◌≤◌, ◌↔◌, IsTrue, IfOk, IsOkUnless};
 ghost use Rattle.std.specs.Duration.{as_nanos};
+ghost use Rattle.http.specs.declared.version.TheConstants.Version.{HTTP_11};
 ghost use Rattle.http_cache_semantics.specs.Headers.{headers_of};
 ghost use Rattle.http_cache_semantics.specs.Options.{options_of, default_options};
 ghost use Rattle.http_cache_semantics.specs.Age.{elapsed};
@@ -64,12 +65,33 @@ fn copy_of_target(target: &Uri) -> Result<Uri, CacheError>
     target.clone().map_err(|_| CacheError::Memory)
 }
 
-// A copy of a method.
-fn copy_of_method(method: &Method) -> Result<Method, CacheError>
-    ensures value { IfOk result (λ copy. copy ≡ method.now) }
+// The head of a request for a target, with copies of a method and of headers.
+fn copy_of_request(
+    method: &Method,
+    uri: Uri,
+    headers: &HeaderMap,
+) -> Result<request::Parts, CacheError>
+    ensures value { IfOk result (λ copy. copy ≡ record { method = method.now; uri = uri; version = HTTP_11; headers = headers.now }) }
     ensures only_memory { IsOkUnless result CacheError.Memory }
 {
-    method.clone().map_err(|_| CacheError::Memory)
+    Ok(request::Parts {
+        method: method.clone().map_err(|_| CacheError::Memory)?,
+        uri,
+        version: Version::HTTP_11,
+        headers: copy_of_map(headers)?,
+    })
+}
+
+// The head of a response with a status and a copy of headers.
+fn copy_of_response(status: StatusCode, headers: &HeaderMap) -> Result<response::Parts, CacheError>
+    ensures value { IfOk result (λ copy. copy ≡ record { status = status; version = HTTP_11; headers = headers.now }) }
+    ensures only_memory { IsOkUnless result CacheError.Memory }
+{
+    Ok(response::Parts {
+        status,
+        version: Version::HTTP_11,
+        headers: copy_of_map(headers)?,
+    })
 }
 
 impl CachePolicy {
@@ -118,17 +140,9 @@ impl CachePolicy {
         }) }
         ensures only_memory { IsOkUnless result CacheError.Memory }
     {
-        let request = request::Parts {
-            method: copy_of_method(req.method())?,
-            uri: req.uri(alloc)?,
-            version: Version::HTTP_11,
-            headers: copy_of_map(req.headers())?,
-        };
-        let response = response::Parts {
-            status: res.status(),
-            version: Version::HTTP_11,
-            headers: copy_of_map(res.headers())?,
-        };
+        let uri = req.uri(alloc)?;
+        let request = copy_of_request(req.method(), uri, req.headers())?;
+        let response = copy_of_response(res.status(), res.headers())?;
         CachePolicy::from_parts(alloc, request, response, response_time, opts)
     }
 
@@ -169,23 +183,15 @@ impl CachePolicy {
         })
     }
 
-    /// The same policy. It is refused for want of memory alone.
-    pub fn try_clone(&self) -> Result<CachePolicy, CacheError>
+    /// The same policy, made anew from copies of its parts. It is refused for want of memory alone.
+    pub fn try_clone(&self, alloc: Global) -> Result<CachePolicy, CacheError>
         ensures value { IfOk result (λ copy. copy ≡ self.now) }
         ensures only_memory { IsOkUnless result CacheError.Memory }
     {
-        Ok(CachePolicy {
-            uri: copy_of_target(&self.uri)?,
-            method: copy_of_method(&self.method)?,
-            status: self.status,
-            req: copy_of_map(&self.req)?,
-            res: copy_of_map(&self.res)?,
-            opts: self.opts,
-            response_time: self.response_time,
-            storable: self.storable,
-            received_age: self.received_age,
-            lifetime: self.lifetime,
-        })
+        let uri = copy_of_target(&self.uri)?;
+        let request = copy_of_request(&self.method, uri, &self.req)?;
+        let response = copy_of_response(self.status, &self.res)?;
+        CachePolicy::from_parts(alloc, request, response, self.response_time, self.opts)
     }
 
     /// Whether the response may be stored (RFC 7234, section 3).

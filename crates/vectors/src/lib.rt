@@ -1,0 +1,9 @@
+//! Worked cases of the library, as tests over its public calls.
+#![tactic(auto)]
+
+#[cfg(test)]
+mod fixtures;
+#[cfg(test)]
+mod reading;
+#[cfg(test)]
+mod storing;
