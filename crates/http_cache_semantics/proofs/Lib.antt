@@ -1,4 +1,7 @@
 pub mod AgeLemmas
+pub mod ContainsLemmas
+pub mod DateLemmas
+pub mod DateTextLemmas
 pub mod FieldLemmas
 pub mod HeadersLemmas
 pub mod MarkLemmas

@@ -4,6 +4,7 @@ use Rattle.std.specs.Coded.{Coded, code_by, coded×, coded_list, coded_ℕ, code
 use Rattle.http_uri.specs.declared.uri.Uri.{Uri}
 use Rattle.http_uri.specs.contracts.uri.Uri as uri
 use Rattle.http_cache_semantics.specs.Headers.{Headers, headers_code}
+use Rattle.http_cache_semantics.specs.Directives.{Directive, cache_control}
 use Rattle.http_cache_semantics.specs.Options.{Options, options_code}
 
 -- what a policy keeps; the moment is the nanosecond since 1970 at which the response came
@@ -24,3 +25,11 @@ exchange_code =
     (λ e. (e.target, (e.method, (e.status, (e.request, (e.response, (e.options, e.moment)))))))
     (λ t. record { target = t.0; method = t.1.0; status = t.1.1.0; request = t.1.1.1.0; response = t.1.1.1.1.0; options = t.1.1.1.1.1.0; moment = t.1.1.1.1.1.1 })
     (λ _. refl)
+
+-- the directives of the stored response
+abbrev pub stored_directives : Exchange → List Directive
+stored_directives e = cache_control e.response
+
+-- the directives of the stored request
+abbrev pub request_directives : Exchange → List Directive
+request_directives e = cache_control e.request

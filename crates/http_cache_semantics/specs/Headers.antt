@@ -1,5 +1,5 @@
 -- Headers: a finite map from names in lower case to their values, where the order of names does not count.
-use Rattle.std.specs.Prelude.{◌≡◌, ℕ, ◌+◌, ◌^◌, ◌≤◌, ◌⊎◌, List, [], length, map, Option, Some, None, Bool, is_some, option_and_then, slice_get, sum_by, unwrap_or}
+use Rattle.std.specs.Prelude.{◌≡◌, ℕ, ◌+◌, ◌^◌, ◌≤◌, ◌⊎◌, List, [], ◌∷◌, length, map, Option, Some, None, Bool, is_some, option_and_then, slice_get, sum_by, unwrap_or}
 use Rattle.std.specs.Ordering.{nat_cmp}
 use Rattle.std.specs.Cmp.Lexicographic.{slice_cmp}
 use Rattle.std.specs.Coded.{Coded, coded_list, coded_ℕ}
@@ -41,6 +41,10 @@ first_text h name = option_and_then text_of (first h name)
 -- there is a value under a name, text or not
 abbrev pub holds : Headers → List ℕ → Bool
 holds h name = is_some (first h name)
+
+-- the headers with one value in place of those under a name
+abbrev pub set : Headers → List ℕ → List ℕ → Headers
+set h name value = fin.insert h name (value ∷ [])
 
 -- how many values there are, under all names
 abbrev pub value_count : Headers → ℕ

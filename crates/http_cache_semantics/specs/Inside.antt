@@ -3,7 +3,7 @@ use Rattle.std.specs.Prelude.{◌≡◌}
 use Rattle.std.specs.Duration.{as_nanos}
 use Rattle.http_cache_semantics.specs.Headers.{headers_of}
 use Rattle.http_cache_semantics.specs.Options.{options_of}
-use Rattle.http_cache_semantics.specs.Exchange.{Exchange}
+use Rattle.http_cache_semantics.specs.Exchange.{Exchange, stored_directives}
 use Rattle.http_cache_semantics.specs.Storable.{is_storable}
 use Rattle.http_cache_semantics.specs.Lifetime.{lifetime}
 use Rattle.http_cache_semantics.specs.Age.{received_age}
@@ -23,6 +23,7 @@ exchange_in p = record {
 
 -- what is read once from the exchange
 pub record IsDerived (p : Inside) : Type 0 where
+  pub directives_are : p.res_cc ≡ stored_directives (exchange_in p)
   pub storable : p.storable ≡ is_storable (exchange_in p)
   pub received : p.received_age ≡ received_age (exchange_in p)
   pub lifetime_is : as_nanos p.lifetime ≡ lifetime (exchange_in p)

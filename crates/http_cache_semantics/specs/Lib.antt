@@ -12,4 +12,11 @@ pub mod Storable
 pub mod Lifetime
 pub mod Age
 pub mod Inside
+pub mod Dates
+pub mod Asks
+pub mod Match
+pub mod Verdict
+pub mod Fresh
+pub mod Stale
+pub mod Answer
 pub mod Rows

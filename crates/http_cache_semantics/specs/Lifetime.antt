@@ -3,9 +3,9 @@ use Rattle.std.specs.Prelude.{ℕ, ◌*◌, Bool, false, not, ◌&&◌, ◌||◌
 use Rattle.http_cache_semantics.specs.Text.{trim}
 use Rattle.http_cache_semantics.specs.Number.{number}
 use Rattle.http_cache_semantics.specs.Headers.{Headers, holds, first_text}
-use Rattle.http_cache_semantics.specs.Directives.{Directive, has, text_under, cache_control}
+use Rattle.http_cache_semantics.specs.Directives.{Directive, has, text_under}
 use Rattle.http_cache_semantics.specs.Options.{Options}
-use Rattle.http_cache_semantics.specs.Exchange.{Exchange}
+use Rattle.http_cache_semantics.specs.Exchange.{Exchange, stored_directives}
 use Rattle.http_cache_semantics.specs.Storable.{is_storable}
 
 -- a row of the table: where it applies, and the lifetime that it gives, in nanoseconds
@@ -53,4 +53,4 @@ lifetime_of storable response ds options =
 
 -- how long the response stays fresh, in nanoseconds
 abbrev pub lifetime : Exchange → ℕ
-lifetime e = lifetime_of (is_storable e) e.response (cache_control e.response) e.options
+lifetime e = lifetime_of (is_storable e) e.response (stored_directives e) e.options

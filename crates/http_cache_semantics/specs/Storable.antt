@@ -2,8 +2,8 @@
 use Rattle.std.specs.Prelude.{ℕ, Bool, not, ◌&&◌, ◌||◌, ◌==◌, List, [], ◌∷◌, codes, bytes_eq}
 use Rattle.std.specs.List.{list_any}
 use Rattle.http_cache_semantics.specs.Headers.{Headers, holds}
-use Rattle.http_cache_semantics.specs.Directives.{Directive, has, cache_control}
-use Rattle.http_cache_semantics.specs.Exchange.{Exchange}
+use Rattle.http_cache_semantics.specs.Directives.{Directive, has}
+use Rattle.http_cache_semantics.specs.Exchange.{Exchange, stored_directives, request_directives}
 
 -- the response itself says when it expires, to a cache that is shared or not
 abbrev pub has_explicit_expiration : Bool → Headers → List Directive → Bool
@@ -53,4 +53,4 @@ is_storable_by shared method status request response asked ds =
 
 abbrev pub is_storable : Exchange → Bool
 is_storable e =
-    is_storable_by e.options.shared e.method e.status e.request e.response (cache_control e.request) (cache_control e.response)
+    is_storable_by e.options.shared e.method e.status e.request e.response (request_directives e) (stored_directives e)

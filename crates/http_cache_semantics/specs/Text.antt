@@ -1,5 +1,5 @@
 -- Texts in headers, their marks, and what stands between them.
-use Rattle.std.specs.Prelude.{ℕ, Bool, ◌||◌, ◌==◌, List, [], ◌∷◌, Option, Some, None, if◌then◌else◌}
+use Rattle.std.specs.Prelude.{ℕ, Bool, ◌||◌, ◌==◌, List, [], ◌∷◌, length, take, bytes_eq, Option, Some, None, if◌then◌else◌}
 use Rattle.http_header.specs.FieldValue.{is_visible_text}
 
 -- each byte is visible ASCII, a space or a tab
@@ -9,6 +9,11 @@ is_text = is_visible_text
 -- the value, if it is text
 abbrev pub text_of : List ℕ → Option (List ℕ)
 text_of value = if is_text value then Some value else None
+
+-- the part stands somewhere in the text
+abbrev pub contains : List ℕ → List ℕ → Bool
+contains part [] = bytes_eq part []
+contains part (b ∷ bs) = bytes_eq part (take (length part) (b ∷ bs)) || contains part bs
 
 -- one of two bytes
 abbrev pub is_either : ℕ → ℕ → ℕ → Bool

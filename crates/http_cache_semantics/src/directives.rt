@@ -5,7 +5,7 @@ ghost use Rattle.http_header.specs.FieldValue.{FieldValue};
 ghost use Rattle.http_cache_semantics.specs.Pieces.{pieces_of_line, pieces_of_values, pieces_left, pieces_of_rest, text_lines};
 ghost use Rattle.http_header.specs.Token.{lowercase};
 ghost use Rattle.http_cache_semantics.specs.Headers.{headers_of, bytes_of, first_text};
-ghost use Rattle.http_cache_semantics.specs.Directives.{name_of, raw_value_of, kept_value_of, same_value, value_under, set_directive, has, directives, cache_control};
+ghost use Rattle.http_cache_semantics.specs.Directives.{text_under, name_of, raw_value_of, kept_value_of, same_value, value_under, set_directive, has, directives, cache_control};
 ghost use Rattle.http_cache_semantics.specs.Shown.{shown_entry};
 ghost use Rattle.http_cache_semantics.specs.Readable.{IsDirective, AreDirectives};
 
@@ -157,6 +157,13 @@ impl CacheControl {
     {
         let value = self.directives.get(name)?;
         Some(value.as_deref())
+    }
+
+    /// The value of the directive with the name, if the name is there and has one.
+    pub(crate) fn text(&self, name: &str) -> Option<&str>
+        ensures { option_copied result ≡ text_under self.now name.now }
+    {
+        self.get(name)?
     }
 
     /// The name and the value at a place in the order.

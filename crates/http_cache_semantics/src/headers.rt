@@ -1,10 +1,12 @@
-//! What is read of header maps, and their copies.
-ghost use Rattle.std.specs.Prelude.{◌≡◌, IfOk, IsOkUnless};
+//! What is read of header maps, their copies, and single changes of them.
+ghost use Rattle.std.specs.Prelude.{◌≡◌, ◌⊎◌, IfOk, IfErr, OnOk, IsErrOf, IsOkUnless};
 ghost use Rattle.http_header.specs.Token.{lowercase};
-ghost use Rattle.http_cache_semantics.specs.Headers.{headers_of, holds};
+ghost use Rattle.http_header.specs.FieldValue.{IsFieldValue, plain_value};
+ghost use Rattle.http_cache_semantics.specs.Headers.{headers_of, first, holds, set, RefusesName};
+ghost use Rattle.http_cache_semantics.specs.Directives.{same_value};
 
 use crate::error::CacheError;
-use http_header::HeaderMap;
+use http_header::{HeaderMap, HeaderMapError, HeaderValue, HeaderValueError, IntoHeaderName};
 
 /// Whether there is a value under a name, text or not.
 pub(crate) fn holds(map: &HeaderMap, name: &str) -> bool
@@ -19,4 +21,49 @@ pub(crate) fn copy_of_map(map: &HeaderMap) -> Result<HeaderMap, CacheError>
     ensures only_memory { IsOkUnless result CacheError.Memory }
 {
     map.clone().map_err(|_| CacheError::Memory)
+}
+
+/// Whether the first values under a name are both absent, or have the same bytes.
+pub(crate) fn has_same_first(a: &HeaderMap, b: &HeaderMap, name: &str) -> bool
+    ensures { result ≡ same_value (first (headers_of a.now) (lowercase name.now)) (first (headers_of b.now) (lowercase name.now)) }
+{
+    match (a.get(name), b.get(name)) {
+        (None, None) => true,
+        (Some(x), Some(y)) => x.as_bytes() == y.as_bytes(),
+        _ => false,
+    }
+}
+
+/// The bytes as a value.
+pub(crate) fn value_of(bytes: Vec<u8>) -> Result<HeaderValue, CacheError>
+    requires { IsFieldValue bytes.items }
+    ensures ok { IfOk result (λ value. value ≡ plain_value bytes.items) }
+    ensures only_memory { IsOkUnless result CacheError.Memory }
+{
+    match HeaderValue::from_vec(bytes) {
+        Ok(value) => Ok(value),
+        Err(HeaderValueError::OutOfMemory) => Err(CacheError::Memory),
+        Err(HeaderValueError::Invalid) => unreachable!(),
+    }
+}
+
+/// Puts one value in place of those under a name, and tells a full map from want of memory.
+pub(crate) fn put<K: IntoHeaderName>(
+    map: &mut HeaderMap,
+    name: K,
+    value: HeaderValue,
+) -> Result<(), CacheError>
+    requires { K.is_valid name }
+    ensures ok { OnOk result (headers_of map.new ≡ set (headers_of map.old) (K.name name) value.bytes) }
+    ensures room { OnOk result (¬ (RefusesName (headers_of map.old) (K.name name))) }
+    ensures full { IsErrOf result CacheError.HeaderMapFull → RefusesName (headers_of map.old) (K.name name) }
+    ensures known { IfErr result (λ e. (e ≡ CacheError.HeaderMapFull) ⊎ (e ≡ CacheError.Memory)) }
+{
+    // The length tells the proof that this is a header map.
+    let _length = map.len();
+    match map.insert(name, value) {
+        Ok(_) => Ok(()),
+        Err(HeaderMapError::MaxSizeReached) => Err(CacheError::HeaderMapFull),
+        Err(HeaderMapError::OutOfMemory) => Err(CacheError::Memory),
+    }
 }

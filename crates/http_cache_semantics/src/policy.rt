@@ -13,7 +13,7 @@ mod storable;
 #[cfg(test)]
 mod tests;
 
-use crate::directives::cache_control_of;
+use crate::directives::{CacheControl, cache_control_of};
 use crate::error::CacheError;
 use crate::headers::copy_of_map;
 use crate::policy::lifetime::{lifetime_of, received_age};
@@ -38,6 +38,7 @@ pub struct CachePolicy {
     opts: CacheOptions,
     response_time: Timestamp,
     // What is read once, so that the answers below take no memory.
+    res_cc: CacheControl,
     storable: bool,
     received_age: u64,
     lifetime: Duration,
@@ -57,16 +58,16 @@ impl Model for CachePolicy {
     ghost invariant = { IsDerived };
 }
 
-// A copy of a target.
-fn copy_of_target(target: &Uri) -> Result<Uri, CacheError>
+/// A copy of a target.
+pub(crate) fn copy_of_target(target: &Uri) -> Result<Uri, CacheError>
     ensures value { IfOk result (λ copy. copy ≡ target.now) }
     ensures only_memory { IsOkUnless result CacheError.Memory }
 {
     target.clone().map_err(|_| CacheError::Memory)
 }
 
-// The head of a request for a target, with copies of a method and of headers.
-fn copy_of_request(
+/// The head of a request for a target, with copies of a method and of headers.
+pub(crate) fn copy_of_request(
     method: &Method,
     uri: Uri,
     headers: &HeaderMap,
@@ -82,8 +83,11 @@ fn copy_of_request(
     })
 }
 
-// The head of a response with a status and a copy of headers.
-fn copy_of_response(status: StatusCode, headers: &HeaderMap) -> Result<response::Parts, CacheError>
+/// The head of a response with a status and a copy of headers.
+pub(crate) fn copy_of_response(
+    status: StatusCode,
+    headers: &HeaderMap,
+) -> Result<response::Parts, CacheError>
     ensures value { IfOk result (λ copy. copy ≡ record { status = status; version = HTTP_11; headers = headers.now }) }
     ensures only_memory { IsOkUnless result CacheError.Memory }
 {
@@ -95,7 +99,9 @@ fn copy_of_response(status: StatusCode, headers: &HeaderMap) -> Result<response:
 }
 
 impl CachePolicy {
+    ghost use Rattle.http_cache_semantics.specs.Exchange.{stored_directives};
     ghost use Rattle.http_cache_semantics.specs.Storable.{is_storable};
+    ghost use Rattle.http_cache_semantics.specs.Lifetime.{lifetime};
     ghost use Rattle.http_cache_semantics.specs.Age.{age_at, time_to_live_at, is_stale_at};
 
     /// The policy of a response that came for a request at a moment, with the default options. It
@@ -164,11 +170,11 @@ impl CachePolicy {
         }) }
         ensures only_memory { IsOkUnless result CacheError.Memory }
     {
-        let directives = cache_control_of(alloc, &response.headers)?;
-        let asked = cache_control_of(alloc, &request.headers)?;
-        let storable = is_storable(opts.shared, &request, &response, &asked, &directives);
+        let res_cc = cache_control_of(alloc, &response.headers)?;
+        let req_cc = cache_control_of(alloc, &request.headers)?;
+        let storable = is_storable(opts.shared, &request, &response, &req_cc, &res_cc);
         let received_age = received_age(&response.headers);
-        let lifetime = lifetime_of(storable, &response.headers, &directives, &opts);
+        let lifetime = lifetime_of(storable, &response.headers, &res_cc, &opts);
         Ok(CachePolicy {
             uri: request.uri,
             method: request.method,
@@ -177,6 +183,7 @@ impl CachePolicy {
             res: response.headers,
             opts,
             response_time,
+            res_cc,
             storable,
             received_age,
             lifetime,
@@ -192,6 +199,55 @@ impl CachePolicy {
         let request = copy_of_request(&self.method, uri, &self.req)?;
         let response = copy_of_response(self.status, &self.res)?;
         CachePolicy::from_parts(alloc, request, response, self.response_time, self.opts)
+    }
+
+    /// The stored target.
+    pub(crate) fn stored_target(&self) -> &Uri
+        ensures { result.now ≡ self.now.target }
+    {
+        &self.uri
+    }
+
+    /// The stored method.
+    pub(crate) fn stored_method(&self) -> &Method
+        ensures { result.now ≡ self.now.method }
+    {
+        &self.method
+    }
+
+    /// The stored status.
+    pub(crate) fn stored_status(&self) -> StatusCode
+        ensures { result ≡ self.now.status }
+    {
+        self.status
+    }
+
+    /// The headers of the stored request.
+    pub(crate) fn request_headers(&self) -> &HeaderMap
+        ensures { headers_of result.now ≡ self.now.request }
+    {
+        &self.req
+    }
+
+    /// The headers of the stored response.
+    pub(crate) fn response_headers(&self) -> &HeaderMap
+        ensures { headers_of result.now ≡ self.now.response }
+    {
+        &self.res
+    }
+
+    /// The directives of the stored response.
+    pub(crate) fn stored_directives(&self) -> &CacheControl
+        ensures { result.now ≡ stored_directives self.now }
+    {
+        &self.res_cc
+    }
+
+    /// How long the stored response stays fresh.
+    pub(crate) fn lifetime(&self) -> Duration
+        ensures { as_nanos result ≡ lifetime self.now }
+    {
+        self.lifetime
     }
 
     /// Whether the response may be stored (RFC 7234, section 3).

@@ -1,7 +1,7 @@
 //! Texts and numbers in headers. Nothing here allocates.
 ghost use Rattle.std.specs.Prelude.{◌≡◌, ◌<◌};
 ghost use Rattle.http_cache_semantics.specs.Number.{number};
-ghost use Rattle.http_cache_semantics.specs.Text.{is_either, trim_front, trim_back, trim_both, trim, unquote};
+ghost use Rattle.http_cache_semantics.specs.Text.{is_either, trim_front, trim_back, trim_both, trim, unquote, contains};
 
 // The text from the first character on that is neither `a` nor `b`.
 fn trim_front(text: &str, a: char, b: char) -> &str
@@ -51,6 +51,13 @@ pub(crate) fn unquote(text: &str) -> &str
     ensures { result.now ≡ unquote text.now }
 {
     trim_back(trim_front(text, '"', '"'), '"', '"')
+}
+
+/// Whether the part stands somewhere in the text.
+pub(crate) fn contains(text: &str, part: &str) -> bool
+    ensures { result ≡ contains part.now text.now }
+{
+    text.contains(part)
 }
 
 /// The number that a text writes.

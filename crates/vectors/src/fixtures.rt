@@ -1,30 +1,38 @@
-//! Requests, responses and moments that the cases are made of.
+//! Tables of cases, and the requests, responses and moments that they are made of.
+//!
+//! A table is a text with one case a line and `|` between its fields, so that the prover has no
+//! long constants to carry. Headers are written `Name: value`, with `~` between them.
 use http::header::{HeaderName, HeaderValue};
 use http::{HeaderMap, Method, StatusCode, Uri, Version, request, response};
 use http_cache_semantics::{CacheOptions, CachePolicy};
 use jiff::Timestamp;
 use std::alloc::Global;
 use std::test::Fail;
+use std::time::Duration;
 
 /// 2024-01-01T00:00:00Z, the moment from which the cases count.
 pub const START: i64 = 1704067200;
 
-/// The name and the value of a header.
-pub type Line = (&'static str, &'static str);
+/// A field of a case, trimmed.
+pub fn field(case: &str, place: usize) -> Result<&str, Fail> {
+    Ok(case.split('|').nth(place).ok_or("no such field")?.trim())
+}
 
-/// A map of lines, appended in order.
-pub fn headers(alloc: Global, lines: &[Line]) -> Result<HeaderMap, Fail> {
+/// A map of the headers of a field, appended in order.
+pub fn headers(alloc: Global, text: &str) -> Result<HeaderMap, Fail> {
     let mut map = HeaderMap::new(alloc);
-    for (name, value) in lines {
-        let name = HeaderName::from_bytes(alloc, name.as_bytes())?;
-        let value = HeaderValue::from_bytes(alloc, value.as_bytes())?;
-        map.append(name, value)?;
+    for line in text.split('~') {
+        if let Some((name, value)) = line.split_once(':') {
+            let name = HeaderName::from_bytes(alloc, name.trim().as_bytes())?;
+            let value = HeaderValue::from_bytes(alloc, value.trim().as_bytes())?;
+            map.append(name, value)?;
+        }
     }
     Ok(map)
 }
 
 /// A request for `/a`.
-pub fn request(alloc: Global, method: &str, lines: &[Line]) -> Result<request::Parts, Fail> {
+pub fn request(alloc: Global, method: &str, lines: &str) -> Result<request::Parts, Fail> {
     Ok(request::Parts {
         method: Method::from_bytes(alloc, method.as_bytes())?,
         uri: Uri::from_str(alloc, "/a")?,
@@ -34,31 +42,37 @@ pub fn request(alloc: Global, method: &str, lines: &[Line]) -> Result<request::P
 }
 
 /// A response.
-pub fn response(alloc: Global, status: u16, lines: &[Line]) -> Result<response::Parts, Fail> {
+pub fn response(alloc: Global, status: &str, lines: &str) -> Result<response::Parts, Fail> {
     Ok(response::Parts {
-        status: StatusCode::from_u16(status)?,
+        status: StatusCode::from_bytes(status.as_bytes())?,
         version: Version::HTTP_11,
         headers: headers(alloc, lines)?,
     })
 }
 
-/// The moment so many seconds and nanoseconds after the start.
-pub fn after(seconds: i64, nanos: i128) -> Result<Timestamp, Fail> {
-    let second = (START as i128).saturating_add(seconds as i128);
-    Ok(Timestamp::from_nanosecond(second.saturating_mul(1_000_000_000).saturating_add(nanos))?)
+/// The moment so many nanoseconds after the start.
+pub fn after(nanos: i64) -> Result<Timestamp, Fail> {
+    let start = START as i128 * 1_000_000_000;
+    Ok(Timestamp::from_nanosecond(start + nanos as i128)?)
 }
 
-/// The options of a cache that isn't shared.
-pub fn own_cache() -> CacheOptions {
+/// The duration of a field that holds a number of seconds.
+pub fn seconds(text: &str) -> Result<Duration, Fail> {
+    Ok(Duration::from_secs(text.parse::<u64>()?))
+}
+
+/// The options of a cache that is `shared` or `own`.
+pub fn options(kind: &str) -> CacheOptions {
     CacheOptions {
-        shared: false,
+        shared: kind == "shared",
         ..CacheOptions::default()
     }
 }
 
-/// The policy of a GET of `/a` without headers, answered by a status 200 at the start.
-pub fn policy(alloc: Global, lines: &[Line], opts: CacheOptions) -> Result<CachePolicy, Fail> {
-    let request = request(alloc, "GET", &[])?;
-    let response = response(alloc, 200, lines)?;
-    Ok(CachePolicy::new_options(alloc, &request, &response, after(0, 0)?, opts)?)
+/// The policy of a shared cache for a GET of `/a` without headers, answered by a status 200 with
+/// these headers at the start.
+pub fn policy(alloc: Global, lines: &str) -> Result<CachePolicy, Fail> {
+    let request = request(alloc, "GET", "")?;
+    let response = response(alloc, "200", lines)?;
+    Ok(CachePolicy::new(alloc, &request, &response, after(0)?)?)
 }

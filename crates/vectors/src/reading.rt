@@ -1,63 +1,58 @@
 //! Texts, pieces and directives.
-use crate::fixtures::headers;
-use http_cache_semantics::directives::{GetHeaderStr, get_all_comma, parse_cache_control};
+use crate::fixtures::{field, headers};
+use http_cache_semantics::directives::{
+    CacheControl, GetHeaderStr, get_all_comma, parse_cache_control,
+};
 use http_header::{HeaderMap, HeaderValue};
+use std::alloc::Global;
 use std::test::Fail;
 
-#[test]
-fn directives_of_two_lines(rt: HostRuntime) -> Result<(), Fail> {
-    let lines = [
-        ("cache-control", "a=\"x,y\""),
-        ("Cache-Control", "b=1, B=2"),
-    ];
-    let map = headers(rt.alloc(), &lines)?;
-    let read = parse_cache_control(rt.alloc(), map.get_all("cache-control"))?;
-    assert_eq!(rt; read.len(), 4);
-    assert_eq!(rt; read.entry_at(0), Some(("a", Some("x"))));
-    assert_eq!(rt; read.entry_at(1), Some(("y\"", None)));
-    assert_eq!(rt; read.entry_at(2), Some(("b", Some("1"))));
-    assert_eq!(rt; read.entry_at(3), Some(("B", Some("2"))));
-    assert_eq!(rt; read.entry_at(4), None);
-    assert!(rt; !read.contains_key("must-revalidate"));
-    assert_eq!(rt; read.get("B"), Some(Some("2")));
-    assert_eq!(rt; read.get("y\""), Some(None));
-    assert_eq!(rt; read.get("A"), None);
-    Ok(())
+fn directives() -> &'static str {
+    r#"Cache-Control: a="x,y" ~ cache-control: b=1, B=2 | a=x;y";b=1;B=2;
+       Cache-Control: max-age="10", max-age="10"        | max-age=10;must-revalidate;
+       Cache-Control: max-age="10", max-age=10          | max-age=10;
+       Cache-Control: max-age=100, max-age=200          | max-age=100;must-revalidate;
+       Cache-Control: must-revalidate=1, a, a=2         | must-revalidate;a;
+       Cache-Control: a="b"c", =x, d=" 1 ", e=          | a=b"c;d= 1 ;e=;
+       Pragma: a                                        | "#
+}
+
+// The directives in order, each with its value and a semicolon.
+fn shown(alloc: Global, read: &CacheControl) -> Result<String, Fail> {
+    let mut text = String::new(alloc);
+    for place in 0..read.len() {
+        let (name, value) = read.entry_at(place).ok_or("a directive")?;
+        text.push_str(name)?;
+        if let Some(value) = value {
+            text.push('=')?;
+            text.push_str(value)?;
+        }
+        text.push(';')?;
+    }
+    Ok(text)
 }
 
 #[test]
-fn conflicts_set_must_revalidate(rt: HostRuntime) -> Result<(), Fail> {
-    let rows = [
-        (
-            "max-age=\"10\", max-age=\"10\"",
-            2,
-            Some(("must-revalidate", None)),
-        ),
-        ("max-age=\"10\", max-age=10", 1, None),
-        (
-            "max-age=100, max-age=200",
-            2,
-            Some(("must-revalidate", None)),
-        ),
-        ("must-revalidate=1, a, a=2", 2, Some(("a", None))),
-    ];
-    for (line, len, second) in rows {
-        let map = headers(rt.alloc(), &[("cache-control", line)])?;
+fn directives_of_lines(rt: HostRuntime) -> Result<(), Fail> {
+    for case in directives().lines() {
+        let map = headers(rt.alloc(), field(case, 0)?)?;
         let read = parse_cache_control(rt.alloc(), map.get_all("cache-control"))?;
-        assert_eq!(rt; read.len(), len, "at {line}");
-        assert_eq!(rt; read.entry_at(1), second, "at {line}");
+        let text = shown(rt.alloc(), &read)?;
+        assert_eq!(rt; text.as_str(), field(case, 1)?, "at {case}");
     }
     Ok(())
 }
 
 #[test]
-fn a_conflict_takes_the_value_in_place(rt: HostRuntime) -> Result<(), Fail> {
-    let map = headers(
-        rt.alloc(),
-        &[("cache-control", "must-revalidate=1, a, a=2")],
-    )?;
+fn directives_by_name(rt: HostRuntime) -> Result<(), Fail> {
+    let map = headers(rt.alloc(), "Cache-Control: a, B=2")?;
     let read = parse_cache_control(rt.alloc(), map.get_all("cache-control"))?;
-    assert_eq!(rt; read.entry_at(0), Some(("must-revalidate", None)));
+    assert!(rt; read.contains_key("a"));
+    assert!(rt; !read.contains_key("b"));
+    assert_eq!(rt; read.get("B"), Some(Some("2")));
+    assert_eq!(rt; read.get("a"), Some(None));
+    assert_eq!(rt; read.get("A"), None);
+    assert!(rt; read.entry_at(2).is_none());
     Ok(())
 }
 
@@ -67,12 +62,14 @@ fn pieces_of_text_values_alone(rt: HostRuntime) -> Result<(), Fail> {
     map.append("x", HeaderValue::from_bytes(rt.alloc(), b"a,\t,b c ")?)?;
     map.append("x", HeaderValue::from_bytes(rt.alloc(), b"\xff")?)?;
     map.append("x", HeaderValue::from_static(""))?;
+    let mut text = String::new(rt.alloc());
     let mut pieces = get_all_comma(map.get_all("x"));
-    for piece in ["a", "", "b c", ""] {
-        assert_eq!(rt; pieces.next(), Some(piece));
+    while let Some(piece) = pieces.next() {
+        text.push_str(piece)?;
+        text.push(';')?;
     }
-    assert_eq!(rt; pieces.next(), None);
-    assert_eq!(rt; pieces.next(), None);
+    assert_eq!(rt; text.as_str(), "a;;b c;;");
+    assert!(rt; pieces.next().is_none());
     assert_eq!(rt; map.get_str("X"), Some("a,\t,b c "));
     assert_eq!(rt; map.get_str("a b"), None);
     assert_eq!(rt; map.get_str("y"), None);

@@ -1,9 +1,7 @@
 //! How long a response stays fresh, and how old it came (RFC 7234, sections 4.2.1 and 4.2.3).
 ghost use Rattle.std.specs.Prelude.{◌≡◌};
 ghost use Rattle.std.specs.Duration.{as_nanos};
-ghost use Rattle.std.specs.Option.{option_copied};
 ghost use Rattle.http_cache_semantics.specs.Headers.{headers_of};
-ghost use Rattle.http_cache_semantics.specs.Directives.{text_under};
 ghost use Rattle.http_cache_semantics.specs.Options.{options_of};
 ghost use Rattle.http_cache_semantics.specs.Lifetime.{has_own_cookies, varies_always, seconds_in, immutable_floor, lifetime_of};
 ghost use Rattle.http_cache_semantics.specs.Age.{received_age_of};
@@ -23,13 +21,6 @@ pub(crate) fn received_age(res: &HeaderMap) -> u64
         Some(text) => number(text).unwrap_or(0),
         None => 0,
     }
-}
-
-// The value of a directive that has one.
-fn text_under<'a>(directives: &'a CacheControl, name: &str) -> Option<&'a str>
-    ensures { option_copied result ≡ text_under directives.now name.now }
-{
-    directives.get(name)?
 }
 
 // The duration of a number of seconds. What is no number counts as 0.
@@ -90,11 +81,11 @@ pub(crate) fn lifetime_of(
         return Duration::ZERO;
     }
     if opts.shared
-        && let Some(text) = text_under(directives, "s-maxage")
+        && let Some(text) = directives.text("s-maxage")
     {
         return seconds(text);
     }
-    if let Some(text) = text_under(directives, "max-age") {
+    if let Some(text) = directives.text("max-age") {
         return seconds(text);
     }
     immutable_floor(directives, opts)
