@@ -1,5 +1,5 @@
 -- Values that are steps, and lists of them.
-use Rattle.std.proofs.Common.{◌≡◌, ℕ, suc, ◌+◌, ◌<◌, ◌==◌, Bool, true, false, true≢false, List, ◌∷◌, ◌++◌, map, length, take, drop, get_or, Option, Some, None, nat_eq, codes, refl, sym, ap, ◌∙◌, subst, arith}
+use Rattle.std.proofs.Common.{◌≡◌, ℤ, ℕ, suc, ◌+◌, ◌<◌, ◌==◌, Bool, true, false, true≢false, List, ◌∷◌, ◌++◌, map, length, take, drop, get_or, Option, Some, None, nat_eq, codes, refl, sym, ap, ◌∙◌, subst, arith}
 use Rattle.std.specs.List.{AllZip}
 use Rattle.std.proofs.lemmas.Bool.Decides.{Decides-eqb}
 use Rattle.serde_json.specs.Data.{Data, null, boolean, number, string, array, object}
@@ -8,6 +8,7 @@ use Rattle.serde_json.specs.Find.{as_str}
 use Rattle.serde_json.specs.View.{view}
 use Rattle.serde_json.specs.declared.value.Value.{Value}
 use Rattle.cache_script.specs.Form.{has_members}
+use Rattle.cache_script.specs.Messages.{RequestSeen, ResponseSeen}
 use Rattle.cache_script.specs.Steps.{StepSeen, asks, receives, restarts, ask_form, receive_form, IsStep}
 use Rattle.cache_script.proofs.SomeLemmas.{same_some}
 use Rattle.cache_script.proofs.ZipLemmas.{place, zip_cut}
@@ -57,6 +58,26 @@ pub text_is_restart : (d : Data) (text : List ℕ) → Some text ≡ as_str d �
 text_is_restart d text e (asks r t) h = absurd (rw (text_asks_not d text e) at h)
 text_is_restart d text e (receives r s t) h = absurd (rw (text_receives_not d text e) at h)
 text_is_restart d text e restarts h = same_some (as_str d) text (codes "restart") e h
+
+members_no_text : (n : ℕ) (d : Data) → has_members n d ≡ true → as_str d ≡ None
+members_no_text n (string s) e = cc
+members_no_text n null e = refl
+members_no_text n (boolean b) e = refl
+members_no_text n (number m) e = refl
+members_no_text n (array ds) e = refl
+members_no_text n (object ms) e = refl
+
+-- an object of two members is a step only where it asks
+pub two_ask : (d : Data) → has_members 2 d ≡ true → ((r : RequestSeen) (t : ℤ) → IsStep d (asks r t) → ⊥) → (s : StepSeen) → IsStep d s → ⊥
+two_ask d e none (asks r t) h = none r t h
+two_ask d e none (receives r s t) h = rw (two_receive_not d e) at h
+two_ask d e none restarts h = none_some (codes "restart") (sym (members_no_text 2 d e) ∙ h)
+
+-- what is no text and no object of two members is a step only where it receives
+pub other_receives : (d : Data) → as_str d ≡ None → has_members 2 d ≡ false → ((r : RequestSeen) (s : ResponseSeen) (t : ℤ) → IsStep d (receives r s t) → ⊥) → (s : StepSeen) → IsStep d s → ⊥
+other_receives d n e none (asks r t) h = rw (other_asks_not d e) at h
+other_receives d n e none (receives r s t) h = none r s t h
+other_receives d n e none restarts h = none_some (codes "restart") (sym n ∙ h)
 
 -- where a value is no step, the list is no list of steps
 pub no_steps : (vs : List Value) (i : ℕ) (v : Value) → i < length vs → v ≡ get_or vs i v → ((s : StepSeen) → IsStep (view v) s → ⊥)
