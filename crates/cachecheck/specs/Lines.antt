@@ -18,9 +18,13 @@ nine_digits n = replicate (9 - length (decimal n)) 48 ++ decimal n
 abbrev pub seconds_text : ℕ → List ℕ
 seconds_text nanos = decimal (nanos / 1_000_000_000) ++ codes "." ++ nine_digits (nanos % 1_000_000_000)
 
--- whether the response may be stored, and how much of its lifetime is left at a moment
-unfoldable pub first_line : Exchange → ℤ → List ℕ
-first_line e now = codes "storable " ++ truth (is_storable e) ++ codes " ttl " ++ seconds_text (time_to_live_at e now) ++ codes "\n"
+-- whether a response may be stored, and how many nanoseconds of its lifetime are left
+unfoldable pub storable_line : Bool → ℕ → List ℕ
+storable_line storable left = codes "storable " ++ truth storable ++ codes " ttl " ++ seconds_text left ++ codes "\n"
+
+-- the line of an exchange at a moment
+abbrev pub first_line : Exchange → ℤ → List ℕ
+first_line e now = storable_line (is_storable e) (time_to_live_at e now)
 
 -- the text where there are no steps; what follows a step isn't written yet
 abbrev pub without_steps : List StepSeen → List ℕ → Option (List ℕ)

@@ -1,16 +1,25 @@
 //! What is written for a script.
-ghost use Rattle.std.specs.Prelude.{◌≡◌, Some, IfOk, IfErr, IsErrOf, IsOkUnless, string_bytes};
+ghost use Rattle.std.specs.Prelude.{◌≡◌, Some, IfOk, IfErr, IsErrOf, IsOkUnless, option_map, string_bytes};
+ghost use Rattle.std.specs.Duration.{as_nanos};
 ghost use Rattle.cache_script.specs.Script.{ScriptSeen, script_seen, exchange_of, IsScript};
-ghost use Rattle.cachecheck.specs.Lines.{first_line, output_of, IsUnanswered};
+ghost use Rattle.cachecheck.specs.Lines.{storable_line, first_line, output_of, IsUnanswered};
 ghost use Rattle.cachecheck.specs.Status.{IsRefusal};
 
 use crate::error::ScriptError;
 use cache_script::{Script, Unread, script_from_bytes};
 use http_cache_semantics::{CacheError, CachePolicy};
-use std::alloc::Global;
+use std::alloc::{AllocError, Global};
+use std::time::Duration;
 
-/// Whether the response may be stored, and how much of its lifetime is left as it comes.
-#[tactic(auto, unfolding(crate::specs::Lines::first_line))]
+#[tactic(auto, unfolding(crate::specs::Lines::storable_line))]
+fn storable_line(alloc: Global, storable: bool, left: Duration) -> Result<String, AllocError>
+    ensures { IfOk result (λ line. string_bytes line ≡ storable_line storable (as_nanos left)) }
+{
+    let seconds = left.as_secs();
+    let nanos = left.subsec_nanos();
+    format!(in alloc; "storable {storable} ttl {seconds}.{nanos:09}\n")
+}
+
 fn first_line(alloc: Global, script: &Script) -> Result<String, CacheError>
     ensures value { IfOk result (λ line. string_bytes line
         ≡ first_line (exchange_of (script_seen script.now)) script.now.received.nanosecond) }
@@ -23,11 +32,19 @@ fn first_line(alloc: Global, script: &Script) -> Result<String, CacheError>
         script.received,
         script.options,
     )?;
-    let storable = policy.is_storable();
     let left = policy.time_to_live(script.received);
-    let seconds = left.as_secs();
-    let nanos = left.subsec_nanos();
-    Ok(format!(in alloc; "storable {storable} ttl {seconds}.{nanos:09}\n")?)
+    Ok(storable_line(alloc, policy.is_storable(), left)?)
+}
+
+fn output(alloc: Global, script: &Script) -> Result<Option<String>, CacheError>
+    ensures value { IfOk result (λ text. option_map string_bytes text ≡ output_of (script_seen script.now)) }
+    ensures only_memory { IsOkUnless result CacheError.Memory }
+{
+    if script.steps.is_empty() {
+        Ok(Some(first_line(alloc, script)?))
+    } else {
+        Ok(None)
+    }
 }
 
 /// All that is written for the script that the bytes are.
@@ -42,8 +59,9 @@ pub fn answer(alloc: Global, bytes: &[u8]) -> Result<String, ScriptError>
         Err(Unread::Memory) => return Err(ScriptError::Cache(CacheError::Memory)),
         Err(Unread::NoScript) => return Err(ScriptError::NotReadable),
     };
-    if !script.steps.is_empty() {
-        return Err(ScriptError::NotReadable);
+    match output(alloc, &script) {
+        Ok(Some(text)) => Ok(text),
+        Ok(None) => Err(ScriptError::NotReadable),
+        Err(e) => Err(ScriptError::Cache(e)),
     }
-    first_line(alloc, &script).map_err(ScriptError::Cache)
 }
