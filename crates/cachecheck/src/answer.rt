@@ -11,7 +11,6 @@ use http_cache_semantics::{CacheError, CachePolicy};
 use std::alloc::{AllocError, Global};
 use std::time::Duration;
 
-#[tactic(auto, unfolding(crate::specs::Lines::storable_line))]
 fn storable_line(alloc: Global, storable: bool, left: Duration) -> Result<String, AllocError>
     ensures { IfOk result (λ line. string_bytes line ≡ storable_line storable (as_nanos left)) }
 {

@@ -1,8 +1,12 @@
-use Rattle.cachecheck.specs.Lines.{storable_line}
+use Rattle.std.proofs.Common.{◌∙◌}
+use Rattle.std.specs.Duration.{as_nanos}
 use Rattle.std.proofs.lemmas.Result.{IfOk-weaker}
-use Rattle.cachecheck.proofs.LineLemmas.{nine}
+use Rattle.cachecheck.proofs.LineLemmas.{nine, line_of_pieces}
 use Rattle.cachecheck.proofs.answer.storable_line.Goals as goal
 
 pub returns : goal.returns
-unfolding storable_line
-returns c = IfOk-weaker c.format.result _ _ (λ line h. let e = nine c.laid_out.result c.subsec_nanos-nanos.result c.laid_out.ensures in ?) c.format.ensures.ok
+returns c =
+    let nanos = c.subsec_nanos-nanos.result in
+    IfOk-weaker c.format.result _ _
+    (λ line h. rw (c.laid_out.ensures, nine nanos) at h ∙ line_of_pieces c.args.storable c.as_secs-seconds.result nanos (as_nanos c.args.left) c.as_secs-seconds.ensures c.subsec_nanos-nanos.ensures)
+    c.format.ensures.ok
