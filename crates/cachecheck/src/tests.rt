@@ -108,11 +108,13 @@ impl Sink for Gate {
     }
 }
 
-const SCRIPT: &str = r#"{"options":{"shared":true,"cache_heuristic":[1,10],"immutable_min_time_to_live":[86400,0],"ignore_cargo_cult":false},"received":[1704067200,0],"request":{"uri":"/a","method":"GET","headers":[]},"response":{"status":200,"headers":[["Cache-Control","max-age=10"]]},"steps":[]}"#;
+const SCRIPT: &str =
+    r#"{"options":{"shared":true,"cache_heuristic":[1,10],"immutable_min_time_to_live":[86400,0],"ignore_cargo_cult":false},"received":[1704067200,0],"request":{"uri":"/a","method":"GET","headers":[]},"response":{"status":200,"headers":[["Cache-Control","max-age=10"]]},"steps":[]}"#;
 
 const LINE: &[u8] = b"storable true ttl 10.000000000\n";
 
-const STEPS: &str = r#""steps":[{"ask":{"uri":"/a","method":"GET","headers":[["A","1"],["a","2"]]},"at":[1704067205,500000000]},"restart",{"receive":{"uri":"/b","method":"GET","headers":[]},"response":{"status":304,"headers":[]},"at":[-1,0]}]"#;
+const STEPS: &str =
+    r#""steps":[{"ask":{"uri":"/a","method":"GET","headers":[["A","1"],["a","2"]]},"at":[1704067205,500000000]},"restart",{"receive":{"uri":"/b","method":"GET","headers":[]},"response":{"status":304,"headers":[]},"at":[-1,0]}]"#;
 
 /// What stands in the script, and what makes it none in its place.
 const CHANGES: [(&str, &str); 22] = [
@@ -132,8 +134,8 @@ const CHANGES: [(&str, &str); 22] = [
     ("[1704067200,0]", "[1704067200]"),
     ("\"/a\"", "\"/a b\""),
     ("\"GET\"", "\"G T\""),
-    ("200", "99"),
-    ("200", "1000"),
+    ("\"status\":200", "\"status\":99"),
+    ("\"status\":200", "\"status\":1000"),
     ("Cache-Control", "Cache Control"),
     ("max-age=10", "max-age=10\\u0000"),
     ("\"max-age=10\"", "10"),

@@ -1,4 +1,4 @@
-use Rattle.std.proofs.Common.{List, ℕ, Some, ◌≡◌, string_bytes, refl, subst, sym}
+use Rattle.std.proofs.Common.{List, ℕ, Some, ◌≡◌, string_bytes, refl, subst}
 use Rattle.std.specs.Io.KnownBytes.{Appends}
 use Rattle.cache_script.specs.Script.{ScriptSeen, IsScript}
 use Rattle.cachecheck.specs.Lines.{output_of}
