@@ -1,9 +1,12 @@
 //! What a cache answers to a request.
-use crate::fixtures::{after, field, policy, request, response};
-use http::HeaderMap;
-use http_cache_semantics::directives::GetHeaderStr;
+//!
+//! Each function below makes at most one policy, message or answer and hands it on, since the
+//! prover looks at every place where one is let go.
+use crate::fixtures::{after, field, policy, policy_for, request, text_of};
+use http::{request, response};
 use http_cache_semantics::{BeforeRequest, CacheError, CachePolicy};
 use std::alloc::Global;
+use std::process::Abort;
 use std::test::Fail;
 
 // The stored request's and response's headers, the method and the headers of the asking request,
@@ -40,24 +43,6 @@ fn cases() -> &'static str {
      |Age: 7 ~ Cache-Control: max-age=10|GET||2999999999|fresh 9"
 }
 
-fn policy_of(alloc: Global, case: &str) -> Result<CachePolicy, Fail> {
-    let request = request(alloc, "GET", field(case, 0)?)?;
-    let response = response(alloc, "200", field(case, 1)?)?;
-    Ok(CachePolicy::new(alloc, &request, &response, after(0)?)?)
-}
-
-fn answer_of(alloc: Global, case: &str) -> Result<BeforeRequest, Fail> {
-    let policy = policy_of(alloc, case)?;
-    let request = request(alloc, field(case, 2)?, field(case, 3)?)?;
-    let now = after(field(case, 4)?.parse::<i64>()?)?;
-    Ok(policy.before_request(alloc, &request, now)?)
-}
-
-// A header that has to be there, as text.
-fn text_of<'a>(headers: &'a HeaderMap, name: &str) -> Result<&'a str, Fail> {
-    Ok(headers.get_str(name).ok_or("no such header")?)
-}
-
 fn shown(alloc: Global, answer: &BeforeRequest) -> Result<String, Fail> {
     match answer {
         BeforeRequest::Fresh(parts) => {
@@ -68,31 +53,61 @@ fn shown(alloc: Global, answer: &BeforeRequest) -> Result<String, Fail> {
     }
 }
 
+fn is_answer(
+    rt: &impl Abort,
+    alloc: Global,
+    case: &str,
+    answer: &BeforeRequest,
+) -> Result<(), Fail> {
+    let wanted = field(case, 5)?;
+    let is_fresh = wanted.starts_with("fresh");
+    assert_eq!(rt;
+        answer.satisfies_without_revalidation(),
+        is_fresh,
+        "at {case}"
+    );
+    let got = shown(alloc, answer)?;
+    assert_eq!(rt; got.as_str(), wanted, "at {case}");
+    Ok(())
+}
+
+fn answers(
+    rt: &impl Abort,
+    alloc: Global,
+    case: &str,
+    policy: &CachePolicy,
+    request: &request::Parts,
+) -> Result<(), Fail> {
+    let now = after(field(case, 4)?.parse::<i64>()?)?;
+    let answer = policy.before_request(alloc, request, now)?;
+    is_answer(rt, alloc, case, &answer)
+}
+
+fn is_asked(rt: &impl Abort, alloc: Global, case: &str, policy: &CachePolicy) -> Result<(), Fail> {
+    let request = request(alloc, field(case, 2)?, field(case, 3)?)?;
+    answers(rt, alloc, case, policy, &request)
+}
+
+fn holds(rt: &impl Abort, alloc: Global, case: &str) -> Result<(), Fail> {
+    let policy = policy_for(alloc, "GET", field(case, 0)?, "200", field(case, 1)?)?;
+    is_asked(rt, alloc, case, &policy)
+}
+
 #[test]
 fn answers_to_requests(rt: HostRuntime) -> Result<(), Fail> {
     for case in cases().lines() {
-        let answer = answer_of(rt.alloc(), case)?;
-        let wanted = field(case, 5)?;
-        let got = shown(rt.alloc(), &answer)?;
-        assert_eq!(rt; got.as_str(), wanted, "at {case}");
-        let is_fresh = wanted.starts_with("fresh");
-        assert_eq!(rt;
-            answer.satisfies_without_revalidation(),
-            is_fresh,
-            "at {case}"
-        );
+        holds(&rt, rt.alloc(), case)?;
     }
     Ok(())
 }
 
-#[test]
-fn fresh_answers_have_the_stored_status_and_the_date_of_now(rt: HostRuntime) -> Result<(), Fail> {
-    let policy = policy(rt.alloc(), "Cache-Control: max-age=100 ~ X: 1")?;
-    let request = request(rt.alloc(), "GET", "")?;
-    let now = after(3_500_000_000)?;
-    let BeforeRequest::Fresh(parts) = policy.before_request(rt.alloc(), &request, now)? else {
-        return Err("not fresh")?;
-    };
+// The answer of a policy to a GET of `/a` at a moment.
+fn asked(alloc: Global, policy: &CachePolicy, nanos: i64) -> Result<BeforeRequest, Fail> {
+    let request = request(alloc, "GET", "")?;
+    Ok(policy.before_request(alloc, &request, after(nanos)?)?)
+}
+
+fn is_fresh_after_three_seconds(rt: &impl Abort, parts: &response::Parts) -> Result<(), Fail> {
     assert_eq!(rt; parts.status.as_u16(), 200);
     assert_eq!(rt; text_of(&parts.headers, "x")?, "1");
     assert_eq!(rt; text_of(&parts.headers, "age")?, "3");
@@ -103,34 +118,63 @@ fn fresh_answers_have_the_stored_status_and_the_date_of_now(rt: HostRuntime) -> 
     Ok(())
 }
 
-#[test]
-fn stale_answers_ask_for_the_stored_target(rt: HostRuntime) -> Result<(), Fail> {
-    let policy = policy(rt.alloc(), "")?;
-    let request = request(rt.alloc(), "POST", "X: 1")?;
-    let answer = policy.before_request(rt.alloc(), &request, after(0)?)?;
-    let BeforeRequest::Stale { request, matches } = answer else {
-        return Err("not stale")?;
-    };
-    assert!(rt; !matches);
+fn asks_for_the_stored_target(rt: &impl Abort, request: &request::Parts) {
     assert_eq!(rt; request.method.as_str(), "GET");
     assert_eq!(rt; request.uri.path(), "/a");
-    assert_eq!(rt; text_of(&request.headers, "x")?, "1");
+}
+
+#[test]
+fn parts_of_answers(rt: HostRuntime) -> Result<(), Fail> {
+    let policy = policy(rt.alloc(), "Cache-Control: max-age=100 ~ X: 1")?;
+    for nanos in [3_500_000_000, 100_000_000_000] {
+        match &asked(rt.alloc(), &policy, nanos)? {
+            BeforeRequest::Fresh(parts) => is_fresh_after_three_seconds(&rt, parts)?,
+            BeforeRequest::Stale { request, matches } => {
+                assert!(rt; *matches && nanos > 4_000_000_000);
+                asks_for_the_stored_target(&rt, request);
+            }
+        }
+    }
     Ok(())
+}
+
+fn is_refused_in_1899(
+    rt: &impl Abort,
+    alloc: Global,
+    policy: &CachePolicy,
+    request: &request::Parts,
+) -> Result<(), Fail> {
+    let moment = after(-3_913_056_001_000_000_000)?;
+    let answer = policy.before_request(alloc, request, moment);
+    assert!(rt; matches!(&answer, Err(CacheError::DateNotPrintable)));
+    Ok(())
+}
+
+fn is_dated_1900(
+    rt: &impl Abort,
+    alloc: Global,
+    policy: &CachePolicy,
+    request: &request::Parts,
+) -> Result<(), Fail> {
+    let moment = after(-3_913_056_000_000_000_000)?;
+    match &policy.before_request(alloc, request, moment)? {
+        BeforeRequest::Fresh(parts) => {
+            let date = text_of(&parts.headers, "date")?;
+            assert_eq!(rt; date, "Mon, 01 Jan 1900 00:00:00 +0000");
+        }
+        BeforeRequest::Stale { .. } => assert!(rt; false, "stale"),
+    }
+    Ok(())
+}
+
+fn is_dated_from_1900_on(rt: &impl Abort, alloc: Global, policy: &CachePolicy) -> Result<(), Fail> {
+    let request = request(alloc, "GET", "")?;
+    is_refused_in_1899(rt, alloc, policy, &request)?;
+    is_dated_1900(rt, alloc, policy, &request)
 }
 
 #[test]
 fn dates_from_1900_on(rt: HostRuntime) -> Result<(), Fail> {
     let policy = policy(rt.alloc(), "Cache-Control: max-age=100")?;
-    let request = request(rt.alloc(), "GET", "")?;
-    let before = policy.before_request(rt.alloc(), &request, after(-3_913_056_001_000_000_000)?);
-    assert!(rt; matches!(&before, Err(CacheError::DateNotPrintable)));
-    let first = policy.before_request(rt.alloc(), &request, after(-3_913_056_000_000_000_000)?)?;
-    let BeforeRequest::Fresh(parts) = first else {
-        return Err("not fresh")?;
-    };
-    assert_eq!(rt;
-        text_of(&parts.headers, "date")?,
-        "Mon, 01 Jan 1900 00:00:00 +0000"
-    );
-    Ok(())
+    is_dated_from_1900_on(&rt, rt.alloc(), &policy)
 }

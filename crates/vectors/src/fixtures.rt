@@ -4,6 +4,7 @@
 //! long constants to carry. Headers are written `Name: value`, with `~` between them.
 use http::header::{HeaderName, HeaderValue};
 use http::{HeaderMap, Method, StatusCode, Uri, Version, request, response};
+use http_cache_semantics::directives::GetHeaderStr;
 use http_cache_semantics::{CacheOptions, CachePolicy};
 use jiff::Timestamp;
 use std::alloc::Global;
@@ -69,10 +70,37 @@ pub fn options(kind: &str) -> CacheOptions {
     }
 }
 
+// The policy of a shared cache for a request, answered at the start.
+fn policy_of(
+    alloc: Global,
+    request: &request::Parts,
+    status: &str,
+    told: &str,
+) -> Result<CachePolicy, Fail> {
+    let received = after(0)?;
+    let response = response(alloc, status, told)?;
+    Ok(CachePolicy::new(alloc, request, &response, received)?)
+}
+
+/// The policy of a shared cache for a request of `/a`, answered at the start.
+pub fn policy_for(
+    alloc: Global,
+    method: &str,
+    asked: &str,
+    status: &str,
+    told: &str,
+) -> Result<CachePolicy, Fail> {
+    let request = request(alloc, method, asked)?;
+    policy_of(alloc, &request, status, told)
+}
+
 /// The policy of a shared cache for a GET of `/a` without headers, answered by a status 200 with
 /// these headers at the start.
 pub fn policy(alloc: Global, lines: &str) -> Result<CachePolicy, Fail> {
-    let request = request(alloc, "GET", "")?;
-    let response = response(alloc, "200", lines)?;
-    Ok(CachePolicy::new(alloc, &request, &response, after(0)?)?)
+    policy_for(alloc, "GET", "", "200", lines)
+}
+
+/// A header that has to be there, as text.
+pub fn text_of<'a>(headers: &'a HeaderMap, name: &str) -> Result<&'a str, Fail> {
+    Ok(headers.get_str(name).ok_or("no such header")?)
 }

@@ -1,7 +1,6 @@
 //! Which responses may be stored, for how long, and how old they are.
 use crate::fixtures::{after, field, options, policy, request, response, seconds};
-use http::header::HeaderValue;
-use http::{Method, Request, Response};
+use http::{Method, Request, Response, request, response};
 use http_cache_semantics::policy::Fraction;
 use http_cache_semantics::{CacheOptions, CachePolicy, RequestLike, ResponseLike};
 use std::alloc::Global;
@@ -21,8 +20,8 @@ fn lasts_999_seconds(rt: &impl Abort, policy: &CachePolicy) -> Result<(), Fail> 
     Ok(())
 }
 
-// A policy through the bounds, by `new` and by `new_options` with the default options.
-fn both_last_999_seconds<Req: RequestLike, Res: ResponseLike>(
+// The policy that `new` makes through the bounds, and a clone of it.
+fn new_lasts_999_seconds<Req: RequestLike, Res: ResponseLike>(
     rt: &impl Abort,
     alloc: Global,
     req: &Req,
@@ -30,33 +29,77 @@ fn both_last_999_seconds<Req: RequestLike, Res: ResponseLike>(
 ) -> Result<(), Fail> {
     let received = after(0)?;
     let policy = CachePolicy::new(alloc, req, res, received)?;
-    lasts_999_seconds(rt, &policy)?;
-    lasts_999_seconds(rt, &policy.try_clone(alloc)?)?;
+    lasts_999_seconds(rt, &policy)
+}
+
+// The policy that `new_options` makes with the default options.
+fn new_options_lasts_999_seconds<Req: RequestLike, Res: ResponseLike>(
+    rt: &impl Abort,
+    alloc: Global,
+    req: &Req,
+    res: &Res,
+) -> Result<(), Fail> {
+    let received = after(0)?;
     let opts = CacheOptions::default();
     let policy = CachePolicy::new_options(alloc, req, res, received, opts)?;
     lasts_999_seconds(rt, &policy)
 }
 
-fn messages(alloc: Global) -> Result<(Request<()>, Response<()>), Fail> {
-    let request = Request::get(alloc, "/a").body(())?;
-    let response = Response::builder(alloc)
-        .header("cache-control", "max-age=999")
-        .body(())?;
-    Ok((request, response))
+fn both_last_999_seconds<Req: RequestLike, Res: ResponseLike>(
+    rt: &impl Abort,
+    alloc: Global,
+    req: &Req,
+    res: &Res,
+) -> Result<(), Fail> {
+    new_lasts_999_seconds(rt, alloc, req, res)?;
+    new_options_lasts_999_seconds(rt, alloc, req, res)
 }
 
-#[test]
-fn policies_of_messages(rt: HostRuntime) -> Result<(), Fail> {
-    let (request, response) = messages(rt.alloc())?;
-    both_last_999_seconds(&rt, rt.alloc(), &request, &response)
+const LINES: &str = "Cache-Control: max-age=999";
+
+fn parts_last_999_seconds(
+    rt: &impl Abort,
+    alloc: Global,
+    request: &request::Parts,
+) -> Result<(), Fail> {
+    let response = response(alloc, "200", LINES)?;
+    both_last_999_seconds(rt, alloc, request, &response)
 }
 
 #[test]
 fn policies_of_parts(rt: HostRuntime) -> Result<(), Fail> {
-    let (request, response) = messages(rt.alloc())?;
-    let (request, _) = request.into_parts();
-    let (response, _) = response.into_parts();
-    both_last_999_seconds(&rt, rt.alloc(), &request, &response)
+    let request = request(rt.alloc(), "GET", "")?;
+    parts_last_999_seconds(&rt, rt.alloc(), &request)
+}
+
+fn messages_last_999_seconds(
+    rt: &impl Abort,
+    alloc: Global,
+    request: &Request<()>,
+) -> Result<(), Fail> {
+    let response = Response::from_parts(response(alloc, "200", LINES)?, ());
+    both_last_999_seconds(rt, alloc, request, &response)
+}
+
+#[test]
+fn policies_of_messages(rt: HostRuntime) -> Result<(), Fail> {
+    let request = Request::from_parts(request(rt.alloc(), "GET", "")?, ());
+    messages_last_999_seconds(&rt, rt.alloc(), &request)
+}
+
+fn clone_lasts_999_seconds(
+    rt: &impl Abort,
+    alloc: Global,
+    policy: &CachePolicy,
+) -> Result<(), Fail> {
+    let copy = policy.try_clone(alloc)?;
+    lasts_999_seconds(rt, &copy)
+}
+
+#[test]
+fn a_clone_answers_as_its_policy(rt: HostRuntime) -> Result<(), Fail> {
+    let policy = policy(rt.alloc(), LINES)?;
+    clone_lasts_999_seconds(&rt, rt.alloc(), &policy)
 }
 
 fn means_a_get<Req: RequestLike>(
@@ -78,14 +121,17 @@ fn means_a_200<Res: ResponseLike>(rt: &impl Abort, response: &Res) {
 }
 
 #[test]
-fn messages_mean_their_fields(rt: HostRuntime) -> Result<(), Fail> {
-    let (request, response) = messages(rt.alloc())?;
-    means_a_get(&rt, rt.alloc(), &request)?;
-    means_a_200(&rt, &response);
-    let (request, _) = request.into_parts();
-    let (response, _) = response.into_parts();
-    means_a_get(&rt, rt.alloc(), &request)?;
-    means_a_200(&rt, &response);
+fn requests_mean_their_fields(rt: HostRuntime) -> Result<(), Fail> {
+    let parts = request(rt.alloc(), "GET", "")?;
+    means_a_get(&rt, rt.alloc(), &parts)?;
+    means_a_get(&rt, rt.alloc(), &Request::from_parts(parts, ()))
+}
+
+#[test]
+fn responses_mean_their_fields(rt: HostRuntime) -> Result<(), Fail> {
+    let parts = response(rt.alloc(), "200", LINES)?;
+    means_a_200(&rt, &parts);
+    means_a_200(&rt, &Response::from_parts(parts, ()));
     Ok(())
 }
 
@@ -141,61 +187,90 @@ fn cases() -> &'static str {
      shared|GET||200|Cache-Control: max-age=10 ~ Vary: Accept ~ Vary: *|true|10"
 }
 
-fn policy_of(alloc: Global, case: &str) -> Result<CachePolicy, Fail> {
-    let request = request(alloc, field(case, 1)?, field(case, 2)?)?;
-    let response = response(alloc, field(case, 3)?, field(case, 4)?)?;
+fn is_kept(rt: &impl Abort, case: &str, policy: &CachePolicy) -> Result<(), Fail> {
+    let storable = field(case, 5)? == "true";
+    let left = seconds(field(case, 6)?)?;
+    assert_eq!(rt; policy.is_storable(), storable, "at {case}");
+    assert_eq!(rt; policy.time_to_live(after(0)?), left, "at {case}");
+    assert_eq!(rt; policy.is_stale(after(0)?), left.is_zero(), "at {case}");
+    Ok(())
+}
+
+fn is_kept_of(
+    rt: &impl Abort,
+    alloc: Global,
+    case: &str,
+    request: &request::Parts,
+    response: &response::Parts,
+) -> Result<(), Fail> {
     let opts = options(field(case, 0)?);
-    Ok(CachePolicy::new_options(alloc, &request, &response, after(0)?, opts)?)
+    let received = after(0)?;
+    let policy = CachePolicy::new_options(alloc, request, response, received, opts)?;
+    is_kept(rt, case, &policy)
+}
+
+fn is_kept_for(
+    rt: &impl Abort,
+    alloc: Global,
+    case: &str,
+    request: &request::Parts,
+) -> Result<(), Fail> {
+    let response = response(alloc, field(case, 3)?, field(case, 4)?)?;
+    is_kept_of(rt, alloc, case, request, &response)
+}
+
+fn holds(rt: &impl Abort, alloc: Global, case: &str) -> Result<(), Fail> {
+    let request = request(alloc, field(case, 1)?, field(case, 2)?)?;
+    is_kept_for(rt, alloc, case, &request)
 }
 
 #[test]
 fn storable_and_seconds_to_live(rt: HostRuntime) -> Result<(), Fail> {
     for case in cases().lines() {
-        let policy = policy_of(rt.alloc(), case)?;
-        let storable = field(case, 5)? == "true";
-        let left = seconds(field(case, 6)?)?;
-        assert_eq!(rt; policy.is_storable(), storable, "at {case}");
-        assert_eq!(rt; policy.time_to_live(after(0)?), left, "at {case}");
-        assert_eq!(rt; policy.is_stale(after(0)?), left.is_zero(), "at {case}");
+        holds(&rt, rt.alloc(), case)?;
     }
     Ok(())
 }
 
-// The received Age, the nanoseconds since then, and the age in seconds and nanoseconds.
+// The header, the nanoseconds since it came, and the age in seconds and nanoseconds.
 fn ages() -> &'static str {
-    "40|59000000000|99|0
-     40|-3600000000000|40|0
-     x|0|0|0
+    "Age: 40|59000000000|99|0
+     Age: 40|-3600000000000|40|0
+     Age: x|0|0|0
      |0|0|0
-     18446744073709551615|1000000000|18446744073709551615|999999999
-     18446744073709551615|2000000000|18446744073709551615|999999999"
+     Age: 18446744073709551615|1000000000|18446744073709551615|999999999
+     Age: 18446744073709551615|2000000000|18446744073709551615|999999999"
+}
+
+fn has_age(rt: &impl Abort, case: &str, policy: &CachePolicy) -> Result<(), Fail> {
+    let age = policy.age(after(field(case, 1)?.parse::<i64>()?)?);
+    assert_eq!(rt; age.as_secs(), field(case, 2)?.parse::<u64>()?, "at {case}");
+    assert_eq!(rt;
+        age.subsec_nanos(),
+        field(case, 3)?.parse::<u32>()?,
+        "at {case}"
+    );
+    Ok(())
 }
 
 #[test]
 fn ages_of_received_ages(rt: HostRuntime) -> Result<(), Fail> {
     for case in ages().lines() {
-        let mut response = response(rt.alloc(), "200", "")?;
-        let received = HeaderValue::from_bytes(rt.alloc(), field(case, 0)?.as_bytes())?;
-        response.headers.insert("age", received)?;
-        let request = request(rt.alloc(), "GET", "")?;
-        let policy = CachePolicy::new(rt.alloc(), &request, &response, after(0)?)?;
-        let age = policy.age(after(field(case, 1)?.parse::<i64>()?)?);
-        assert_eq!(rt; age.as_secs(), field(case, 2)?.parse::<u64>()?, "at {case}");
-        assert_eq!(rt;
-            age.subsec_nanos(),
-            field(case, 3)?.parse::<u32>()?,
-            "at {case}"
-        );
+        has_age(&rt, case, &policy(rt.alloc(), field(case, 0)?)?)?;
     }
+    Ok(())
+}
+
+fn lasts_sixty_seconds(rt: &impl Abort, policy: &CachePolicy) -> Result<(), Fail> {
+    let left = policy.time_to_live(after(59_000_000_000)?);
+    assert_eq!(rt; left, Duration::from_secs(1));
+    assert!(rt; !policy.is_stale(after(59_999_999_999)?));
+    assert!(rt; policy.is_stale(after(60_000_000_000)?));
     Ok(())
 }
 
 #[test]
 fn a_received_age_is_part_of_the_lifetime(rt: HostRuntime) -> Result<(), Fail> {
     let policy = policy(rt.alloc(), "Age: 40 ~ Cache-Control: max-age=100")?;
-    let left = policy.time_to_live(after(59_000_000_000)?);
-    assert_eq!(rt; left, Duration::from_secs(1));
-    assert!(rt; !policy.is_stale(after(59_999_999_999)?));
-    assert!(rt; policy.is_stale(after(60_000_000_000)?));
-    Ok(())
+    lasts_sixty_seconds(&rt, &policy)
 }
