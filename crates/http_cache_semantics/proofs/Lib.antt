@@ -8,7 +8,9 @@ pub mod MarkLemmas
 pub mod NumberLemmas
 pub mod PieceLemmas
 pub mod ReadLemmas
+pub mod ReadableLemmas
 pub mod ShownLemmas
 pub mod TextLemmas
 pub mod TrimLemmas
 pub mod ValidLemmas
+pub mod WriteLemmas

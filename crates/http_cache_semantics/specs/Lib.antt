@@ -5,9 +5,12 @@ pub mod Pieces
 pub mod Directives
 pub mod Shown
 pub mod Readable
+pub mod Written
+pub mod CargoCult
 pub mod Ratio
 pub mod Options
 pub mod Exchange
+pub mod Kept
 pub mod Storable
 pub mod Lifetime
 pub mod Age
