@@ -1,9 +1,11 @@
 pub mod AgeLemmas
+pub mod AreDirectivesLemmas
 pub mod ContainsLemmas
 pub mod DateLemmas
 pub mod DateTextLemmas
 pub mod FieldLemmas
 pub mod HeadersLemmas
+pub mod KeptLemmas
 pub mod MarkLemmas
 pub mod NumberLemmas
 pub mod PieceLemmas

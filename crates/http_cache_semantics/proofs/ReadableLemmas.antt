@@ -133,7 +133,7 @@ all_named (d ∷ ds) h =
         filled : (n : List ℕ) → 0 < length n → nat_lt 0 (length n) ≡ true
         filled n q = grind (arith, nat_tests)
 
-other_way : (a b : List ℕ) → bytes_eq a b ≡ false → bytes_eq b a ≡ false
+pub other_way : (a b : List ℕ) → bytes_eq a b ≡ false → bytes_eq b a ≡ false
 other_way a b e = by (bytes_eq b a) refl
   where
     by : (t : Bool) → bytes_eq b a ≡ t → bytes_eq b a ≡ false

@@ -7,15 +7,16 @@ pub mod Shown
 pub mod Readable
 pub mod Written
 pub mod CargoCult
+pub mod Pragma
 pub mod Ratio
 pub mod Options
 pub mod Exchange
 pub mod Kept
 pub mod Storable
+pub mod Dates
 pub mod Lifetime
 pub mod Age
 pub mod Inside
-pub mod Dates
 pub mod Asks
 pub mod Match
 pub mod Verdict

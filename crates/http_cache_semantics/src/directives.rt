@@ -307,10 +307,7 @@ fn push_value(line: &mut String, value: Option<&str>) -> Result<(), AllocError>
 /// Writes directives in order as one line, a value between quotes where it is empty or has other
 /// bytes than ASCII letters and digits. The line reads back as the same directives. It is refused
 /// for want of memory alone.
-pub fn format_cache_control(
-    alloc: Global,
-    control: &CacheControl,
-) -> Result<String, CacheError>
+pub fn format_cache_control(alloc: Global, control: &CacheControl) -> Result<String, CacheError>
     ensures value { IfOk result (λ line. string_bytes line ≡ written control.now) }
     ensures reads_back { IfOk result (λ line. directives (pieces (string_bytes line ∷ [])) ≡ control.now) }
     ensures text { IfOk result (λ line. IsTrue (is_text (string_bytes line))) }
