@@ -1,6 +1,7 @@
 pub mod AgeLemmas
 pub mod AreDirectivesLemmas
 pub mod ContainsLemmas
+pub mod DateExamples
 pub mod DateLemmas
 pub mod DateTextLemmas
 pub mod FieldLemmas
