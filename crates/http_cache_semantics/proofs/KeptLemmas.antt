@@ -75,7 +75,7 @@ read_again h =
     let valid : AreDirectives ds = AreDirectives-filter (λ d. not (is_cargo_cult d.0)) (cache_control h) (AreDirectives-cache_control h) in
     cache_control-with_line_alone h (written ds) (visible-written ds valid.each) ∙ directives-written ds valid
 
-pub kept_response-settled : (ignores : Bool) (h : Headers) → kept_response ignores (kept_response ignores h) ≡ kept_response ignores h
+kept_response-settled : (ignores : Bool) (h : Headers) → kept_response ignores (kept_response ignores h) ≡ kept_response ignores h
 kept_response-settled ignores h = by (ignores && has_cargo_cult (cache_control h)) refl
   where
     line : List ℕ
@@ -93,12 +93,6 @@ kept_response-settled ignores h = by (ignores && has_cargo_cult (cache_control h
         ap (λ t. if t then with_line_alone after (written (without_cargo_cult (cache_control after))) else after) none
     by false e = ap (λ t. if t then with_line_alone h line else h) e
 
--- an exchange with headers that are kept is its own kept exchange
-pub kept-from_response : (e : Exchange) (h : Headers) → e.response ≡ kept_response e.options.ignores_cargo_cult h → kept e ≡ e
-kept-from_response e h from =
-    let ignores = e.options.ignores_cargo_cult in
-    ap (λ (g : Headers). record e { response = g }) (ap (kept_response ignores) from ∙ kept_response-settled ignores h ∙ sym from)
-
 -- what is kept of an exchange is kept whole
 pub kept-settled : (e : Exchange) → kept (kept e) ≡ kept e
-kept-settled e = kept-from_response (kept e) e.response refl
+kept-settled e = ap (λ (h : Headers). record e { response = h }) (kept_response-settled e.options.ignores_cargo_cult e.response)

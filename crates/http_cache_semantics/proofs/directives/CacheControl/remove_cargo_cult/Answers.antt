@@ -10,15 +10,12 @@ use Rattle.http_cache_semantics.proofs.directives.CacheControl.remove_cargo_cult
 
 pub invariant_of-self : goal.invariant_of-self
 invariant_of-self c =
-    let es = c.self.inside.directives.entries in
-    let cut : shown c.retain.new.self.entries ≡ without_cargo_cult (shown es) =
-    ap shown (filter-RetainsPairs _ _ _ (λ k v b w g call. search rules) _ _ c.retain.ensures.filtered)
-    ∙ shown-filter (λ n. not (is_cargo_cult n)) es in
-    subst (AllByRecursion IsDirective) (sym cut) (each-filter (λ d. not (is_cargo_cult d.0)) (shown es) c.self.invariant)
+    subst (AllByRecursion IsDirective)
+    (sym (ap shown (filter-RetainsPairs _ _ _ (λ k v b w g call. search rules) _ _ c.retain.ensures.filtered) ∙ shown-filter (λ n. not (is_cargo_cult n)) c.self.inside.directives.entries))
+    (each-filter (λ d. not (is_cargo_cult d.0)) (shown c.self.inside.directives.entries) c.self.invariant)
 
 pub returns : goal.returns
 returns c =
-    let es = c.self.inside.directives.entries in
     ap shown (filter-RetainsPairs _ _ _ (λ k v b w g call. search rules) _ _ c.retain.ensures.filtered)
-    ∙ shown-filter (λ n. not (is_cargo_cult n)) es
+    ∙ shown-filter (λ n. not (is_cargo_cult n)) c.self.inside.directives.entries
     ∙ ap without_cargo_cult c.self.view_is
