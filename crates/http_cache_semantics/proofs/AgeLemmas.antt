@@ -15,4 +15,5 @@ elapsed_rises a b m h = omega (arith, ints, elapsed-is (a -ℤ m), elapsed-is (b
 
 -- an age never falls
 pub age_at-rises : (e : Exchange) (a b : ℤ) → a ≤ℤ b → age_at e a ≤ age_at e b
+unfolding age_at
 age_at-rises e a b h = let l = elapsed_rises a b e.moment h in omega arith

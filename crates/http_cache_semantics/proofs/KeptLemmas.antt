@@ -95,4 +95,5 @@ kept_response-settled ignores h = by (ignores && has_cargo_cult (cache_control h
 
 -- what is kept of an exchange is kept whole
 pub kept-settled : (e : Exchange) → kept (kept e) ≡ kept e
+unfolding kept
 kept-settled e = ap (λ (h : Headers). record e { response = h }) (kept_response-settled e.options.ignores_cargo_cult e.response)

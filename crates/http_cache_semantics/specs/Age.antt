@@ -11,17 +11,17 @@ use Rattle.http_cache_semantics.specs.Lifetime.{lifetime}
 abbrev pub received_age_of : Headers → ℕ
 received_age_of response = unwrap_or (option_and_then number (first_text response (codes "age"))) 0
 
-abbrev pub received_age : Exchange → ℕ
+unfoldable pub received_age : Exchange → ℕ
 received_age e = received_age_of e.response
 
 -- the age at a moment in nanoseconds, which stops at the greatest duration
-abbrev pub age_at : Exchange → ℤ → ℕ
+unfoldable pub age_at : Exchange → ℤ → ℕ
 age_at e now = min (received_age e * 1_000_000_000 + elapsed (now -ℤ e.moment)) max_nanos
 
 -- how much of the lifetime is left, in nanoseconds
-abbrev pub time_to_live_at : Exchange → ℤ → ℕ
+unfoldable pub time_to_live_at : Exchange → ℤ → ℕ
 time_to_live_at e now = lifetime e - age_at e now
 
 -- nothing is left
-abbrev pub is_stale_at : Exchange → ℤ → Bool
+unfoldable pub is_stale_at : Exchange → ℤ → Bool
 is_stale_at e now = nat_le (lifetime e) (age_at e now)

@@ -20,11 +20,11 @@ pub record IsFreshHeaders (e : Exchange) (now : ℤ) (h : Headers) : Type 0 wher
   pub headers : h ≡ set (aged e now) (codes "date") date
 
 -- a step has to add a name to a map that is full
-abbrev pub RefusesFreshHeaders : Exchange → ℤ → Type 0
+unfoldable pub RefusesFreshHeaders : Exchange → ℤ → Type 0
 RefusesFreshHeaders e now =
     RefusesName e.response (codes "age")
     ⊎ (IsPrintable now × RefusesName (aged e now) (codes "date"))
 
 -- the date can't be printed, and no step before it was refused
-abbrev pub HasNoDate : Exchange → ℤ → Type 0
+unfoldable pub HasNoDate : Exchange → ℤ → Type 0
 HasNoDate e now = ¬ (RefusesName e.response (codes "age")) × ¬ (IsPrintable now)

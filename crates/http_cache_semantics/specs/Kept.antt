@@ -19,5 +19,5 @@ kept_response ignores h =
     then with_line_alone h (written (without_cargo_cult (cache_control h))) else h
 
 -- the exchange as a policy keeps it
-abbrev pub kept : Exchange → Exchange
+unfoldable pub kept : Exchange → Exchange
 kept e = record e { response = kept_response e.options.ignores_cargo_cult e.response }

@@ -91,5 +91,5 @@ lifetime_of storable response ds options moment =
     first_row (lifetime_rows storable response ds options moment) (immutable_floor ds options)
 
 -- how long the response stays fresh, in nanoseconds
-abbrev pub lifetime : Exchange → ℕ
+unfoldable pub lifetime : Exchange → ℕ
 lifetime e = lifetime_of (is_storable e) e.response (stored_directives e) e.options e.moment

@@ -20,7 +20,7 @@ named_parts e is_same_uri method request = record {
 }
 
 -- the target, the Host and the method are the stored ones, and the stored response doesn't vary
-abbrev pub matches : Exchange → NamedParts → Bool
+unfoldable pub matches : Exchange → NamedParts → Bool
 matches e named =
     named.same_target
     && same_value (first e.request (codes "host")) named.host

@@ -51,6 +51,6 @@ is_storable_by shared method status request response asked ds =
     && not (shared && is_kept_from_shared request ds)
     && is_marked_cacheable shared status response ds
 
-abbrev pub is_storable : Exchange → Bool
+unfoldable pub is_storable : Exchange → Bool
 is_storable e =
     is_storable_by e.options.shared e.method e.status e.request e.response (request_directives e) (stored_directives e)

@@ -41,6 +41,6 @@ satisfies e named asks now =
     && is_let_through e (asked asks) now)
 
 -- the verdict on a request, by how it compares targets, its method and its headers
-abbrev pub is_fresh_for : Exchange → (Uri → Bool) → List ℕ → Headers → ℤ → Bool
+unfoldable pub is_fresh_for : Exchange → (Uri → Bool) → List ℕ → Headers → ℤ → Bool
 is_fresh_for e is_same_uri method request now =
     satisfies e (named_parts e is_same_uri method request) (asks_of request) now

@@ -114,6 +114,7 @@ impl CachePolicy {
     ///
     /// `HeaderMapFull` comes where `age` or `date` has to be added to stored headers that are full,
     /// `DateNotPrintable` where the moment is earlier than 1900, both for a fresh answer alone.
+    #[tactic(auto, unfolding(crate::specs::Verdict::is_fresh_for))]
     pub fn before_request<Req: RequestLike>(
         &self,
         alloc: Global,
@@ -149,6 +150,7 @@ impl CachePolicy {
     }
 
     // Whether the stored response is the answer to a request.
+    #[tactic(auto, unfolding(crate::specs::Match::matches))]
     fn request_matches<Req: RequestLike>(&self, req: &Req) -> bool
         ensures { result ≡ matches self.now (named_parts self.now (Req.is_same_uri req.now) (Req.method req.now) (Req.headers req.now)) }
     {
@@ -180,6 +182,7 @@ impl CachePolicy {
     }
 
     // The stored status, and the headers of a fresh answer at a moment.
+    #[tactic(auto, unfolding(crate::specs::Fresh::RefusesFreshHeaders, crate::specs::Fresh::HasNoDate))]
     fn fresh_parts(&self, alloc: Global, now: Timestamp) -> Result<response::Parts, CacheError>
         ensures status { IfOk result (λ parts. parts.status ≡ self.now.status) }
         ensures headers { IfOk result (λ parts. IsFreshHeaders self.now now.nanosecond (headers_of parts.headers)) }

@@ -196,6 +196,7 @@ impl CachePolicy {
         CachePolicy::from_parts(alloc, request, response, response_time, opts)
     }
 
+    #[tactic(auto, unfolding(crate::specs::Kept::kept))]
     fn from_parts(
         alloc: Global,
         request: request::Parts,
@@ -319,6 +320,7 @@ impl CachePolicy {
     }
 
     /// How much of the lifetime is left at a moment, or zero (RFC 7234, section 4.2).
+    #[tactic(auto, unfolding(crate::specs::Age::time_to_live_at))]
     pub fn time_to_live(&self, now: Timestamp) -> Duration
         ensures { as_nanos result ≡ time_to_live_at self.now now.nanosecond }
     {
@@ -326,6 +328,7 @@ impl CachePolicy {
     }
 
     /// Whether nothing is left of the lifetime at a moment (RFC 7234, section 4.2).
+    #[tactic(auto, unfolding(crate::specs::Age::is_stale_at, crate::specs::Age::time_to_live_at))]
     pub fn is_stale(&self, now: Timestamp) -> bool
         ensures value { result ≡ is_stale_at self.now now.nanosecond }
         ensures nothing_left { IsTrue result ↔ (time_to_live_at self.now now.nanosecond ≡ 0) }

@@ -1,5 +1,6 @@
 //! Which responses may be stored, for how long, and how old they are.
 use crate::fixtures::{after, field, options, policy, request, response, seconds};
+use http::header::HeaderValue;
 use http::{Method, Request, Response};
 use http_cache_semantics::policy::Fraction;
 use http_cache_semantics::{CacheOptions, CachePolicy, RequestLike, ResponseLike};
@@ -160,23 +161,41 @@ fn storable_and_seconds_to_live(rt: HostRuntime) -> Result<(), Fail> {
     Ok(())
 }
 
+// The received Age, the nanoseconds since then, and the age in seconds and nanoseconds.
+fn ages() -> &'static str {
+    "40|59000000000|99|0
+     40|-3600000000000|40|0
+     x|0|0|0
+     |0|0|0
+     18446744073709551615|1000000000|18446744073709551615|999999999
+     18446744073709551615|2000000000|18446744073709551615|999999999"
+}
+
 #[test]
-fn ages_with_a_received_age(rt: HostRuntime) -> Result<(), Fail> {
-    let aged = policy(rt.alloc(), "Age: 40 ~ Cache-Control: max-age=100")?;
-    assert_eq!(rt;
-        aged.time_to_live(after(59_000_000_000)?),
-        Duration::from_secs(1)
-    );
-    assert!(rt; !aged.is_stale(after(59_999_999_999)?));
-    assert!(rt; aged.is_stale(after(60_000_000_000)?));
-    assert_eq!(rt;
-        aged.age(after(-3_600_000_000_000)?),
-        Duration::from_secs(40)
-    );
-    let unread = policy(rt.alloc(), "Age: x")?;
-    assert_eq!(rt; unread.age(after(0)?), Duration::ZERO);
-    let greatest = policy(rt.alloc(), "Age: 18446744073709551615")?;
-    let most = Duration::new(18446744073709551615, 999_999_999);
-    assert_eq!(rt; greatest.age(after(1_000_000_000)?), most);
+fn ages_of_received_ages(rt: HostRuntime) -> Result<(), Fail> {
+    for case in ages().lines() {
+        let mut response = response(rt.alloc(), "200", "")?;
+        let received = HeaderValue::from_bytes(rt.alloc(), field(case, 0)?.as_bytes())?;
+        response.headers.insert("age", received)?;
+        let request = request(rt.alloc(), "GET", "")?;
+        let policy = CachePolicy::new(rt.alloc(), &request, &response, after(0)?)?;
+        let age = policy.age(after(field(case, 1)?.parse::<i64>()?)?);
+        assert_eq!(rt; age.as_secs(), field(case, 2)?.parse::<u64>()?, "at {case}");
+        assert_eq!(rt;
+            age.subsec_nanos(),
+            field(case, 3)?.parse::<u32>()?,
+            "at {case}"
+        );
+    }
+    Ok(())
+}
+
+#[test]
+fn a_received_age_is_part_of_the_lifetime(rt: HostRuntime) -> Result<(), Fail> {
+    let policy = policy(rt.alloc(), "Age: 40 ~ Cache-Control: max-age=100")?;
+    let left = policy.time_to_live(after(59_000_000_000)?);
+    assert_eq!(rt; left, Duration::from_secs(1));
+    assert!(rt; !policy.is_stale(after(59_999_999_999)?));
+    assert!(rt; policy.is_stale(after(60_000_000_000)?));
     Ok(())
 }

@@ -4,11 +4,13 @@ use Rattle.http_cache_semantics.specs.Options.{options_of}
 use Rattle.http_cache_semantics.specs.Exchange.{Exchange, stored_directives, request_directives}
 use Rattle.http_cache_semantics.specs.Storable.{is_storable, is_storable_by}
 use Rattle.http_cache_semantics.specs.Kept.{kept}
-use Rattle.http_cache_semantics.specs.Lifetime.{lifetime_of}
+use Rattle.http_cache_semantics.specs.Lifetime.{lifetime, lifetime_of}
+use Rattle.http_cache_semantics.specs.Age.{received_age}
 use Rattle.http_cache_semantics.proofs.KeptLemmas.{kept-settled}
 use Rattle.http_cache_semantics.proofs.policy.CachePolicy.from_parts.Goals as goal
 
 pub invariant_of-result : goal.invariant_of-result
+unfolding kept is_storable lifetime received_age
 invariant_of-result c =
     let handed_in : Exchange = record {
       target = c.args.request.uri;

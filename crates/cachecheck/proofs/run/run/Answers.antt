@@ -1,0 +1,18 @@
+use Rattle.std.proofs.Common.{List, ℕ, Some, ◌≡◌, string_bytes, refl, subst}
+use Rattle.std.specs.Io.KnownBytes.{Appends}
+use Rattle.cache_script.specs.Script.{ScriptSeen, IsScript}
+use Rattle.cachecheck.specs.Lines.{output_of}
+use Rattle.cachecheck.proofs.AnswerLemmas.{of_all}
+use Rattle.cachecheck.proofs.run.run.Goals as goal
+
+pub returns-then-write_out-clause-done : goal.returns-then-write_out-clause-done
+returns-then-write_out-clause-done g c =
+    let (s, is, out) = c.in_ok-text.ensures.found in
+    let before = g.W.Write.contents c.args.writer.now in
+    let after = g.W.Write.contents c.write_out.new.writer in
+    let text = string_bytes c.in_ok-text.text in
+    let went : Appends before after text = subst (Appends before after) c.as_bytes.ensures.value (c.if-write_out.ensures.ok refl) in
+    of_all (g.R.Read.remaining c.args.reader.now) c.in-Ok.bytes.items
+    (λ bytes. (s : ScriptSeen) × (text : List ℕ) × IsScript bytes s × (output_of s ≡ Some text) × Appends before after text)
+    c.in-Ok.ensures.all
+    (s, text, subst (λ (bytes : List ℕ). IsScript bytes s) c.as_slice.ensures.value is, out, went)
