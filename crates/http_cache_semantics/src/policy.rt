@@ -169,8 +169,9 @@ impl CachePolicy {
         CachePolicy::new_options(alloc, req, res, response_time, CacheOptions::default())
     }
 
-    /// The policy of a response that came for a request at a moment. It is refused for want of
-    /// memory alone.
+    /// The policy of a response that came for a request at a moment. Where cargo cult is ignored and
+    /// both of its marks are there, its directives, Expires and Pragma aren't kept. It is refused for
+    /// want of memory alone.
     pub fn new_options<Req: RequestLike, Res: ResponseLike>(
         alloc: Global,
         req: &Req,

@@ -138,7 +138,14 @@ fn cases() -> &'static str {
      shared|GET||200|Cache-Control: immutable|true|86400
      shared|GET||200|Cache-Control: immutable, max-age=5|true|5
      shared|GET||200|Cache-Control: max-age=10 ~ Vary: *|true|0
-     shared|GET||200|Cache-Control: max-age=10 ~ Vary: Accept ~ Vary: *|true|10"
+     shared|GET||200|Cache-Control: max-age=10 ~ Vary: Accept ~ Vary: *|true|10
+     shared|GET||200|Cache-Control: immutable ~ Expires: 0|true|0
+     shared|GET||200|Pragma: no-cache|true|0
+     shared|GET||200|Expires: 0|true|0
+     shared|GET||302|Expires: é|true|0
+     shared|GET||200|Expires: é ~ Last-Modified: Sat, 23 Sep 2023 00:00:00 GMT|true|864000
+     shared|GET||200|Date: Mon, 01 Jan 2024 00:00:00 GMT ~ Expires: Mon, 01 Jan 2024 00:01:40 GMT|true|100
+     shared|GET||200|Last-Modified: Sat, 23 Sep 2023 00:00:00 GMT|true|864000"
 }
 
 fn policy_of(alloc: Global, case: &str) -> Result<CachePolicy, Fail> {
