@@ -1,6 +1,7 @@
 -- What is written for a script.
 use Rattle.std.specs.Prelude.{◌≡◌, ℕ, ◌-◌, ◌/◌, ◌%◌, ℤ, List, [], ◌∷◌, ◌++◌, length, replicate, Bool, Option, Some, None, if◌then◌else◌, codes, decimal}
 use Rattle.http_cache_semantics.specs.Exchange.{Exchange}
+use Rattle.http_cache_semantics.specs.Kept.{kept}
 use Rattle.http_cache_semantics.specs.Storable.{is_storable}
 use Rattle.http_cache_semantics.specs.Age.{time_to_live_at}
 use Rattle.cache_script.specs.Script.{ScriptSeen, IsScript, exchange_of}
@@ -33,7 +34,7 @@ without_steps (step ∷ steps) text = None
 
 -- all that is written for a script
 abbrev pub output_of : ScriptSeen → Option (List ℕ)
-output_of s = without_steps s.steps (first_line (exchange_of s) s.received)
+output_of s = without_steps s.steps (first_line (kept (exchange_of s)) s.received)
 
 -- bytes that are no script, or one that nothing is written for
 abbrev pub IsUnanswered : List ℕ → Type 0

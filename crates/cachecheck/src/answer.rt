@@ -1,6 +1,7 @@
 //! What is written for a script.
 ghost use Rattle.std.specs.Prelude.{◌≡◌, Some, IfOk, IfErr, IsErrOf, IsOkUnless, option_map, string_bytes};
 ghost use Rattle.std.specs.Duration.{as_nanos};
+ghost use Rattle.http_cache_semantics.specs.Kept.{kept};
 ghost use Rattle.cache_script.specs.Script.{ScriptSeen, script_seen, exchange_of, IsScript};
 ghost use Rattle.cachecheck.specs.Lines.{storable_line, first_line, output_of, IsUnanswered};
 ghost use Rattle.cachecheck.specs.Status.{IsRefusal};
@@ -21,7 +22,7 @@ fn storable_line(alloc: Global, storable: bool, left: Duration) -> Result<String
 
 fn first_line(alloc: Global, script: &Script) -> Result<String, CacheError>
     ensures value { IfOk result (λ line. string_bytes line
-        ≡ first_line (exchange_of (script_seen script.now)) script.now.received.nanosecond) }
+        ≡ first_line (kept (exchange_of (script_seen script.now))) script.now.received.nanosecond) }
     ensures only_memory { IsOkUnless result CacheError.Memory }
 {
     let policy = CachePolicy::new_options(

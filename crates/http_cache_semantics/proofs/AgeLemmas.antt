@@ -3,7 +3,8 @@ use Rattle.std.proofs.Common.{◌≡◌, ℤ, ◌-◌, ◌-ℤ◌, ◌≤◌, �
 use Rattle.std.proofs.lemmas.Int.{ints}
 use borrow.Author.Differences.{up, down}
 use Rattle.http_cache_semantics.specs.Exchange.{Exchange}
-use Rattle.http_cache_semantics.specs.Age.{elapsed, age_at}
+use Rattle.http_cache_semantics.specs.Age.{age_at}
+use Rattle.http_cache_semantics.specs.Dates.{elapsed}
 
 elapsed-is : (z : ℤ) → elapsed z ≡ up z - down z
 elapsed-is (pos n) = omega arith

@@ -1,5 +1,5 @@
 -- Look-ups and changes of a map of texts, seen as directives.
-use Rattle.std.proofs.Common.{◌≡◌, ℕ, Bool, true, false, cond, List, [], ◌∷◌, Option, Some, None, refl, ap, is_some, string_bytes}
+use Rattle.std.proofs.Common.{◌≡◌, ℕ, Bool, true, false, cond, List, [], ◌∷◌, Option, Some, None, refl, ap, is_some, filter, string_bytes}
 use Rattle.std.specs.Option.{option_map}
 use Rattle.std.specs.Map.{lookup}
 use Rattle.std.specs.Str.{bytes_eq}
@@ -37,3 +37,13 @@ module _ {A B : Type 0} where
           → shown (cond b ((e.0, v) ∷ es) (e ∷ insert_entry string_eq es k v)) ≡ cond b ((string_bytes e.0, option_map string_bytes v) ∷ shown es) ((string_bytes e.0, option_map string_bytes e.1) ∷ insert_entry bytes_eq (shown es) (string_bytes k) (option_map string_bytes v))
       by true h = refl
       by false h = ap (λ ds. (string_bytes e.0, option_map string_bytes e.1) ∷ ds) h
+
+  -- the entries that pass a test by their names are the directives that do
+  pub shown-filter : (test : List ℕ → Bool) (es : List (String A × Option (String B))) → shown (filter (λ e. test (string_bytes e.0)) es) ≡ filter (λ d. test d.0) (shown es)
+  shown-filter test [] = refl
+  shown-filter test (e ∷ es) = by (test (string_bytes e.0)) (shown-filter test es)
+    where
+      by : (b : Bool) → shown (filter (λ e. test (string_bytes e.0)) es) ≡ filter (λ d. test d.0) (shown es)
+          → shown (cond b (e ∷ filter (λ e. test (string_bytes e.0)) es) (filter (λ e. test (string_bytes e.0)) es)) ≡ cond b ((string_bytes e.0, option_map string_bytes e.1) ∷ filter (λ d. test d.0) (shown es)) (filter (λ d. test d.0) (shown es))
+      by true h = ap (λ ds. (string_bytes e.0, option_map string_bytes e.1) ∷ ds) h
+      by false h = h

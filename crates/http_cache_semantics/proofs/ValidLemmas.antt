@@ -1,5 +1,5 @@
 -- What is read is of the form that writing keeps.
-use Rattle.std.proofs.Common.{◌≡◌, ℕ, ◌+◌, ◌<◌, Bool, true, false, cond, List, [], ◌∷◌, ◌++◌, length, map, nat_lt, Option, Some, None, IfSome, if◌then◌else◌, refl, arith, string_bytes, bytes_eq, codes}
+use Rattle.std.proofs.Common.{◌≡◌, ℕ, ◌+◌, ◌<◌, Bool, true, false, cond, List, [], ◌∷◌, ◌++◌, length, map, filter, nat_lt, Option, Some, None, IfSome, if◌then◌else◌, refl, arith, string_bytes, bytes_eq, codes}
 use Rattle.std.specs.List.{list_all, list_any, before_first, after_first, position_or_len, flat_map, AllByRecursion, IsDistinct}
 use Rattle.std.specs.Option.{option_map}
 use Rattle.std.specs.Map.{keys_of}
@@ -74,6 +74,14 @@ each-set_directive (c ∷ ds) d h k = by (bytes_eq d.0 c.0) (each-set_directive 
     by : (t : Bool) → AllByRecursion IsDirective (set_directive ds d) → AllByRecursion IsDirective (cond t ((c.0, d.1) ∷ ds) (c ∷ set_directive ds d))
     by true m = (record { named = h.0.named; bytes = h.0.bytes; trimmed = h.0.trimmed; value = k.value }, h.1)
     by false m = (h.0, m)
+
+pub each-filter : (test : Directive → Bool) (ds : List Directive) → AllByRecursion IsDirective ds → AllByRecursion IsDirective (filter test ds)
+each-filter test [] h = tt
+each-filter test (d ∷ ds) h = by (test d) (each-filter test ds h.1)
+  where
+    by : (t : Bool) → AllByRecursion IsDirective (filter test ds) → AllByRecursion IsDirective (cond t (d ∷ filter test ds) (filter test ds))
+    by true m = (h.0, m)
+    by false m = m
 
 -- the names of a map of texts are apart as its keys are
 pub distinct-shown : {A B : Type 0} (es : List (String A × Option (String B))) → IsDistinct string_eq (keys_of es) → IsDistinct bytes_eq (map (λ d. d.0) (shown es))

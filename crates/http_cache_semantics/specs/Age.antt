@@ -1,15 +1,11 @@
 -- The age of a response, and what is left of its lifetime (RFC 7234, sections 4.2 and 4.2.3).
-use Rattle.std.specs.Prelude.{ℕ, ℤ, pos, negsuc, ◌+◌, ◌*◌, ◌-◌, ◌-ℤ◌, Bool, codes, min, nat_le, option_and_then, unwrap_or}
+use Rattle.std.specs.Prelude.{ℕ, ℤ, ◌+◌, ◌*◌, ◌-◌, ◌-ℤ◌, Bool, codes, min, nat_le, option_and_then, unwrap_or}
 use Rattle.std.specs.Duration.{max_nanos}
 use Rattle.http_cache_semantics.specs.Number.{number}
 use Rattle.http_cache_semantics.specs.Headers.{Headers, first_text}
+use Rattle.http_cache_semantics.specs.Dates.{elapsed}
 use Rattle.http_cache_semantics.specs.Exchange.{Exchange}
 use Rattle.http_cache_semantics.specs.Lifetime.{lifetime}
-
--- a difference of moments in nanoseconds, or 0 where it is negative
-abbrev pub elapsed : ℤ → ℕ
-elapsed (pos n) = n
-elapsed (negsuc n) = 0
 
 -- the age, in seconds, that the response came with
 abbrev pub received_age_of : Headers → ℕ

@@ -5,6 +5,7 @@ use Rattle.http_uri.specs.declared.uri.Uri.{Uri}
 use Rattle.http_uri.specs.contracts.uri.Uri as uri
 use Rattle.http_cache_semantics.specs.Headers.{Headers, headers_code}
 use Rattle.http_cache_semantics.specs.Directives.{Directive, cache_control}
+use Rattle.http_cache_semantics.specs.Pragma.{with_pragma}
 use Rattle.http_cache_semantics.specs.Options.{Options, options_code}
 
 -- what a policy keeps; the moment is the nanosecond since 1970 at which the response came
@@ -26,9 +27,9 @@ exchange_code =
     (λ t. record { target = t.0; method = t.1.0; status = t.1.1.0; request = t.1.1.1.0; response = t.1.1.1.1.0; options = t.1.1.1.1.1.0; moment = t.1.1.1.1.1.1 })
     (λ _. refl)
 
--- the directives of the stored response
+-- the directives of the stored response, those of its Pragma too where it has no Cache-Control
 abbrev pub stored_directives : Exchange → List Directive
-stored_directives e = cache_control e.response
+stored_directives e = with_pragma e.response (cache_control e.response)
 
 -- the directives of the stored request
 abbrev pub request_directives : Exchange → List Directive

@@ -4,6 +4,7 @@ use Rattle.std.specs.Duration.{as_nanos}
 use Rattle.http_cache_semantics.specs.Headers.{headers_of}
 use Rattle.http_cache_semantics.specs.Options.{options_of}
 use Rattle.http_cache_semantics.specs.Exchange.{Exchange, stored_directives}
+use Rattle.http_cache_semantics.specs.Kept.{kept}
 use Rattle.http_cache_semantics.specs.Storable.{is_storable}
 use Rattle.http_cache_semantics.specs.Lifetime.{lifetime}
 use Rattle.http_cache_semantics.specs.Age.{received_age}
@@ -21,8 +22,9 @@ exchange_in p = record {
   moment = p.response_time.nanosecond;
 }
 
--- what is read once from the exchange
+-- the exchange is one that is kept, and what is read once from it
 pub record IsDerived (p : Inside) : Type 0 where
+  pub settled : kept (exchange_in p) ≡ exchange_in p
   pub directives_are : p.res_cc ≡ stored_directives (exchange_in p)
   pub storable : p.storable ≡ is_storable (exchange_in p)
   pub received : p.received_age ≡ received_age (exchange_in p)

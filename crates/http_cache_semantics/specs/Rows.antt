@@ -1,7 +1,10 @@
 -- Worked rows, each computed.
-use Rattle.std.specs.Prelude.{◌≡◌, [], ◌∷◌, Some, None, codes, refl}
+use Rattle.std.specs.Prelude.{◌≡◌, ◌*◌, ℤ, pos, neg_ℤ, [], ◌∷◌, Some, None, codes, refl}
 use Rattle.http_cache_semantics.specs.Pieces.{pieces}
 use Rattle.http_cache_semantics.specs.Directives.{directives}
+use Rattle.http_cache_semantics.specs.Written.{written}
+use Rattle.http_cache_semantics.specs.CargoCult.{is_cargo_cult, without_cargo_cult}
+use Rattle.http_cache_semantics.specs.Lifetime.{date_or, time_until, seconds_since, fraction_of}
 
 row_quoted_comma : directives (pieces (codes "a=\"x,y\"" ∷ codes "b=1, B=2" ∷ []))
     ≡ (codes "a", Some (codes "x")) ∷ (codes "y\"", None) ∷ (codes "b", Some (codes "1")) ∷ (codes "B", Some (codes "2")) ∷ []
@@ -22,3 +25,31 @@ row_conflict_in_place = refl
 row_inner_quote : directives (pieces (codes "a=\"b\"c\", = x, d=\" 10 \"" ∷ []))
     ≡ (codes "a", Some (codes "b\"c")) ∷ (codes "d", Some (codes " 10 ")) ∷ []
 row_inner_quote = refl
+
+row_written : written (directives (pieces (codes "max-age=\"100\", x=\"\", a=\"b\"c\", d=\" 10 \", no-cache, s-maxage=0" ∷ [])))
+    ≡ codes "max-age=100, x=\"\", a=\"b\"c\", d=\" 10 \", no-cache, s-maxage=0"
+row_written = refl
+
+row_cargo_cult : written (without_cargo_cult (directives (pieces (codes "pre-check=0, post-check=0, no-store, no-cache, max-age=100, x=\"\"" ∷ []))))
+    ≡ codes "max-age=100, x=\"\""
+unfolding is_cargo_cult
+row_cargo_cult = refl
+
+row_marks_alone : written (without_cargo_cult (directives (pieces (codes "pre-check, post-check" ∷ [])))) ≡ []
+unfolding is_cargo_cult
+row_marks_alone = refl
+
+row_date_before_1970 : time_until (Some (pos 60_000_000_000)) (date_or (Some (neg_ℤ (pos 10_000_000_000))) (pos 10_000_000_000)) 0 ≡ 50 * 1_000_000_000
+row_date_before_1970 = refl
+
+row_unreadable_expires : time_until None (pos 0) 86_400_000_000_000 ≡ 0
+row_unreadable_expires = refl
+
+row_expires_before_date : time_until (Some (pos 5)) (pos 10) 86_400_000_000_000 ≡ 86_400_000_000_000
+row_expires_before_date = refl
+
+row_two_thirds : fraction_of (record { numerator = 2; denominator = 3 }) (seconds_since (Some (pos 0)) (pos 100_500_000_000)) ≡ 66 * 1_000_000_000
+row_two_thirds = refl
+
+row_greatest_fraction : fraction_of (record { numerator = 4294967295; denominator = 1 }) 8640000 ≡ 37108517428800000 * 1_000_000_000
+row_greatest_fraction = refl

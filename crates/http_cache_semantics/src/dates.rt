@@ -1,15 +1,55 @@
 //! Dates as headers write them.
-ghost use Rattle.std.specs.Prelude.{◌≡◌, ◌↔◌, ◌<◌, ◌≤◌, ◌+◌, ◌/◌, ◌%◌, ◌≤ℤ◌, pos, [], ◌∷◌, IfSome, IsSome};
+ghost use Rattle.std.specs.Prelude.{◌≡◌, ◌↔◌, ◌<◌, ◌≤◌, ◌+◌, ◌/◌, ◌%◌, ◌≤ℤ◌, pos, int_div, [], ◌∷◌, option_map, IfSome, IsSome, IfOk, IsOkUnless};
 ghost use Rattle.jiff_core.specs.Weekday.{monday_zero};
 ghost use Rattle.jiff_fmt.specs.Rfc2822.{weekday_text, month_text};
-ghost use Rattle.http_cache_semantics.specs.Dates.{clock_text, IsDateText, IsPrintable};
+ghost use Rattle.http_cache_semantics.specs.Dates.{when, read_second, second_start, clock_text, IsDateText, IsPrintable};
 
+use crate::error::CacheError;
 use jiff::Timestamp;
+use jiff::fmt::rfc2822::DateTimeParser;
 use jiff::tz::Offset;
 use jiff_core::civil::{DateTime, Weekday};
+use std::alloc::Global;
 
 /// 1900-01-01T00:00:00Z in nanoseconds since 1970.
 const FIRST_PRINTABLE: i128 = -2_208_988_800_000_000_000;
+
+/// The moment of a date text, if it is one: what jiff reads as a date of RFC 2822, with `+0000` in
+/// place of a final `GMT`. It is refused for want of memory alone.
+#[tactic(auto, unfolding(crate::specs::Dates::when))]
+pub(crate) fn read_date(alloc: Global, text: &str) -> Result<Option<Timestamp>, CacheError>
+    ensures value { IfOk result (λ date. option_map (λ d. d.nanosecond) date ≡ option_map second_start (when text.now)) }
+    ensures only_memory { IsOkUnless result CacheError.Memory }
+{
+    let bytes = text.as_bytes();
+    let Some(front) = bytes.strip_suffix(b"GMT") else {
+        return Ok(moment_of(bytes));
+    };
+    let mut replaced = Vec::from_slice(alloc, front)?;
+    replaced.extend_from_slice(b"+0000")?;
+    Ok(moment_of(replaced.as_slice()))
+}
+
+// The moment of a text that jiff reads as it stands.
+#[tactic(auto, unfolding(crate::specs::Dates::read_second))]
+fn moment_of(text: &[u8]) -> Option<Timestamp>
+    ensures { option_map (λ d. d.nanosecond) result ≡ option_map second_start (read_second text.now) }
+{
+    match DateTimeParser::new().parse_timestamp(text) {
+        Ok(plain) => Some(to_second(Timestamp::from_plain(plain))),
+        Err(_) => None,
+    }
+}
+
+// The moment without the part of a second that it is away from 1970.
+fn to_second(moment: Timestamp) -> Timestamp
+    ensures { result.nanosecond ≡ second_start (int_div moment.nanosecond (pos 1_000_000_000)) }
+{
+    match Timestamp::from_second(moment.as_second()) {
+        Ok(second) => second,
+        Err(_) => unreachable!(),
+    }
+}
 
 /// The date of a moment from 1900 on, as `Mon, 01 Jan 2024 00:00:00 +0000`.
 pub(crate) fn print_date(moment: Timestamp) -> Option<[u8; 31]>

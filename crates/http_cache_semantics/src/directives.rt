@@ -1,13 +1,16 @@
 //! The pieces and the directives of header lines.
-ghost use Rattle.std.specs.Prelude.{◌≡◌, ℕ, List, [], ◌∷◌, ◌++◌, Option, None, Some, option_copied, option_map, MatchOption, IsTrue, IsSome, ◌↔◌, length, slice_get, OnOk, OnErr, IfOk, IsOkUnless, string_bytes};
+ghost use Rattle.std.specs.Prelude.{◌≡◌, ℕ, not, List, [], ◌∷◌, ◌++◌, Option, None, Some, option_copied, option_map, MatchOption, IsTrue, IsSome, ◌↔◌, length, slice_get, OnOk, OnErr, IfOk, IsOkUnless, string_bytes};
 ghost use Rattle.std.specs.Iterator.{YieldsFirstRef, item_count};
 ghost use Rattle.http_header.specs.FieldValue.{FieldValue};
-ghost use Rattle.http_cache_semantics.specs.Pieces.{pieces_of_line, pieces_of_values, pieces_left, pieces_of_rest, text_lines};
+ghost use Rattle.http_cache_semantics.specs.Pieces.{pieces, pieces_of_line, pieces_of_values, pieces_left, pieces_of_rest, text_lines};
 ghost use Rattle.http_header.specs.Token.{lowercase};
 ghost use Rattle.http_cache_semantics.specs.Headers.{headers_of, bytes_of, first_text};
 ghost use Rattle.http_cache_semantics.specs.Directives.{text_under, name_of, raw_value_of, kept_value_of, same_value, value_under, set_directive, has, directives, cache_control};
 ghost use Rattle.http_cache_semantics.specs.Shown.{shown_entry};
 ghost use Rattle.http_cache_semantics.specs.Readable.{IsDirective, AreDirectives};
+ghost use Rattle.http_cache_semantics.specs.Text.{is_text};
+ghost use Rattle.http_cache_semantics.specs.Written.{is_bare, written_rest, written};
+ghost use Rattle.http_cache_semantics.specs.CargoCult.{is_cargo_cult, without_cargo_cult};
 
 pub use crate::error::CacheError;
 use crate::text::{trim, unquote};
@@ -174,6 +177,17 @@ impl CacheControl {
         Some((name.as_str(), value.as_deref()))
     }
 
+    /// Takes out what is cargo cult. The others close up.
+    pub(crate) fn remove_cargo_cult(&mut self)
+        ensures { self.new ≡ without_cargo_cult self.old }
+    {
+        self.directives.retain(
+            |name: &String, value: &mut Option<String>| -> bool
+                ensures { (result ≡ not (is_cargo_cult (string_bytes name.now))) × (value.new ≡ value.old) }
+            { !is_cargo_cult(name.as_str()) },
+        );
+    }
+
     /// Gives the name a value, in its place if it is there, else last.
     pub(crate) fn set(&mut self, name: &str, value: Option<&str>) -> Result<(), CacheError>
         requires { IsDirective (name.now, option_copied value) }
@@ -188,6 +202,17 @@ impl CacheControl {
         self.directives.insert(key, value)?;
         Ok(())
     }
+}
+
+// Whether a directive of the name is cargo cult, or set beside it.
+#[tactic(auto, unfolding(crate::specs::CargoCult::is_cargo_cult))]
+fn is_cargo_cult(name: &str) -> bool
+    ensures { result ≡ is_cargo_cult name.now }
+{
+    matches!(
+        name,
+        "pre-check" | "post-check" | "no-cache" | "no-store" | "must-revalidate"
+    )
 }
 
 // A copy of a value.
@@ -251,6 +276,53 @@ pub fn parse_cache_control(
         read.set("must-revalidate", None)?;
     }
     Ok(read)
+}
+
+// Whether a value needs no quotes.
+fn is_bare(value: &str) -> bool
+    ensures { result ≡ is_bare value.now }
+{
+    !value.is_empty() && value.as_bytes().iter().all(|b| b.is_ascii_alphanumeric())
+}
+
+// Writes `=` and the value, if there is one.
+fn push_value(line: &mut String, value: Option<&str>) -> Result<(), AllocError>
+    ensures { OnOk result
+        (string_bytes line.new ≡ string_bytes line.old ++ written_rest (option_copied value.entry)) }
+{
+    let Some(value) = value else {
+        return Ok(());
+    };
+    line.push('=')?;
+    if is_bare(value) {
+        line.push_str(value)?;
+    } else {
+        line.push('"')?;
+        line.push_str(value)?;
+        line.push('"')?;
+    }
+    Ok(())
+}
+
+/// Writes directives in order as one line, a value between quotes where it is empty or has other
+/// bytes than ASCII letters and digits. The line reads back as the same directives. It is refused
+/// for want of memory alone.
+pub fn format_cache_control(alloc: Global, control: &CacheControl) -> Result<String, CacheError>
+    ensures value { IfOk result (λ line. string_bytes line ≡ written control.now) }
+    ensures reads_back { IfOk result (λ line. directives (pieces (string_bytes line ∷ [])) ≡ control.now) }
+    ensures text { IfOk result (λ line. IsTrue (is_text (string_bytes line))) }
+    ensures only_memory { IsOkUnless result CacheError.Memory }
+{
+    let mut line = String::new(alloc);
+    for i in 0..control.len() {
+        let (name, value) = control.entry_at(i).unwrap();
+        if i > 0 {
+            line.push_str(", ")?;
+        }
+        line.push_str(name)?;
+        push_value(&mut line, value)?;
+    }
+    Ok(line)
 }
 
 /// The directives of the Cache-Control lines of a map.

@@ -1,11 +1,15 @@
 //! A stored exchange: whether it may be stored, how old it is and how long it stays fresh.
-ghost use Rattle.std.specs.Prelude.{◌≡◌, ℤ, ◌-ℤ◌, ◌≤ℤ◌, ◌≤◌, ◌↔◌, IsTrue, IfOk, IsOkUnless};
+ghost use Rattle.std.specs.Prelude.{◌≡◌, ℤ, ◌≤ℤ◌, ◌≤◌, ◌↔◌, IsTrue, IfOk, IsOkUnless};
 ghost use Rattle.std.specs.Duration.{as_nanos};
 ghost use Rattle.http.specs.declared.version.TheConstants.Version.{HTTP_11};
 ghost use Rattle.http_cache_semantics.specs.Headers.{headers_of};
 ghost use Rattle.http_cache_semantics.specs.Options.{options_of, default_options};
-ghost use Rattle.http_cache_semantics.specs.Age.{elapsed};
+ghost use Rattle.http_cache_semantics.specs.Directives.{cache_control};
+ghost use Rattle.http_cache_semantics.specs.Storable.{is_storable_by};
+ghost use Rattle.http_cache_semantics.specs.Lifetime.{lifetime_of};
+ghost use Rattle.http_cache_semantics.specs.Age.{received_age_of};
 
+mod kept;
 mod lifetime;
 mod like;
 mod options;
@@ -16,7 +20,8 @@ mod tests;
 use crate::directives::{CacheControl, cache_control_of};
 use crate::error::CacheError;
 use crate::headers::copy_of_map;
-use crate::policy::lifetime::{lifetime_of, received_age};
+use crate::policy::kept::keep;
+use crate::policy::lifetime::{elapsed, lifetime_of, received_age};
 use crate::policy::storable::is_storable;
 use http::{HeaderMap, Method, StatusCode, Uri, Version, request, response};
 use jiff::Timestamp;
@@ -98,8 +103,45 @@ pub(crate) fn copy_of_response(
     })
 }
 
+// What is read once of an exchange.
+#[derive(Clone, Copy)]
+struct Reading {
+    storable: bool,
+    received_age: u64,
+    lifetime: Duration,
+}
+
+impl Reading {
+    // What is read of a request and a response with its directives.
+    fn of(
+        alloc: Global,
+        request: &request::Parts,
+        status: StatusCode,
+        res: &HeaderMap,
+        directives: &CacheControl,
+        moment: Timestamp,
+        opts: &CacheOptions,
+    ) -> Result<Reading, CacheError>
+        ensures storable { IfOk result (λ read. read.storable
+            ≡ is_storable_by opts.now.shared request.now.method status (headers_of request.now.headers) (headers_of res.now) (cache_control (headers_of request.now.headers)) directives.now) }
+        ensures received { IfOk result (λ read. read.received_age ≡ received_age_of (headers_of res.now)) }
+        ensures lifetime { IfOk result (λ read. as_nanos read.lifetime
+            ≡ lifetime_of read.storable (headers_of res.now) directives.now (options_of opts.now) moment.nanosecond) }
+        ensures only_memory { IsOkUnless result CacheError.Memory }
+    {
+        let asked = cache_control_of(alloc, &request.headers)?;
+        let storable = is_storable(opts.shared, request, status, res, &asked, directives);
+        Ok(Reading {
+            storable,
+            received_age: received_age(res),
+            lifetime: lifetime_of(alloc, storable, res, directives, opts, moment)?,
+        })
+    }
+}
+
 impl CachePolicy {
     ghost use Rattle.http_cache_semantics.specs.Exchange.{stored_directives};
+    ghost use Rattle.http_cache_semantics.specs.Kept.{kept};
     ghost use Rattle.http_cache_semantics.specs.Storable.{is_storable};
     ghost use Rattle.http_cache_semantics.specs.Lifetime.{lifetime};
     ghost use Rattle.http_cache_semantics.specs.Age.{age_at, time_to_live_at, is_stale_at};
@@ -112,7 +154,7 @@ impl CachePolicy {
         res: &Res,
         response_time: Timestamp,
     ) -> Result<CachePolicy, CacheError>
-        ensures value { IfOk result (λ policy. policy ≡ record {
+        ensures value { IfOk result (λ policy. policy ≡ kept (record {
           target = Req.uri req.now;
           method = Req.method req.now;
           status = Res.status res.now;
@@ -120,14 +162,16 @@ impl CachePolicy {
           response = Res.headers res.now;
           options = default_options;
           moment = response_time.nanosecond;
-        }) }
+        })) }
+        ensures settled { IfOk result (λ policy. kept policy ≡ policy) }
         ensures only_memory { IsOkUnless result CacheError.Memory }
     {
         CachePolicy::new_options(alloc, req, res, response_time, CacheOptions::default())
     }
 
-    /// The policy of a response that came for a request at a moment. It is refused for want of
-    /// memory alone.
+    /// The policy of a response that came for a request at a moment. Where cargo cult is ignored and
+    /// both of its marks are there, its directives, Expires and Pragma aren't kept. It is refused for
+    /// want of memory alone.
     pub fn new_options<Req: RequestLike, Res: ResponseLike>(
         alloc: Global,
         req: &Req,
@@ -135,7 +179,7 @@ impl CachePolicy {
         response_time: Timestamp,
         opts: CacheOptions,
     ) -> Result<CachePolicy, CacheError>
-        ensures value { IfOk result (λ policy. policy ≡ record {
+        ensures value { IfOk result (λ policy. policy ≡ kept (record {
           target = Req.uri req.now;
           method = Req.method req.now;
           status = Res.status res.now;
@@ -143,7 +187,8 @@ impl CachePolicy {
           response = Res.headers res.now;
           options = options_of opts;
           moment = response_time.nanosecond;
-        }) }
+        })) }
+        ensures settled { IfOk result (λ policy. kept policy ≡ policy) }
         ensures only_memory { IsOkUnless result CacheError.Memory }
     {
         let uri = req.uri(alloc)?;
@@ -152,7 +197,7 @@ impl CachePolicy {
         CachePolicy::from_parts(alloc, request, response, response_time, opts)
     }
 
-    #[tactic(auto, unfolding(crate::specs::Storable::is_storable, crate::specs::Lifetime::lifetime, crate::specs::Age::received_age))]
+    #[tactic(auto, unfolding(crate::specs::Kept::kept))]
     fn from_parts(
         alloc: Global,
         request: request::Parts,
@@ -160,7 +205,7 @@ impl CachePolicy {
         response_time: Timestamp,
         opts: CacheOptions,
     ) -> Result<CachePolicy, CacheError>
-        ensures value { IfOk result (λ policy. policy ≡ record {
+        ensures value { IfOk result (λ policy. policy ≡ kept (record {
           target = request.uri;
           method = request.method;
           status = response.status;
@@ -168,26 +213,33 @@ impl CachePolicy {
           response = headers_of response.headers;
           options = options_of opts;
           moment = response_time.nanosecond;
-        }) }
+        })) }
         ensures only_memory { IsOkUnless result CacheError.Memory }
     {
-        let res_cc = cache_control_of(alloc, &response.headers)?;
-        let req_cc = cache_control_of(alloc, &request.headers)?;
-        let storable = is_storable(opts.shared, &request, &response, &req_cc, &res_cc);
-        let received_age = received_age(&response.headers);
-        let lifetime = lifetime_of(storable, &response.headers, &res_cc, &opts);
+        let status = response.status;
+        let mut headers = response.headers;
+        let res_cc = keep(alloc, &mut headers, opts.ignore_cargo_cult)?;
+        let reading = Reading::of(
+            alloc,
+            &request,
+            status,
+            &headers,
+            &res_cc,
+            response_time,
+            &opts,
+        )?;
         Ok(CachePolicy {
             uri: request.uri,
             method: request.method,
-            status: response.status,
+            status,
             req: request.headers,
-            res: response.headers,
+            res: headers,
             opts,
             response_time,
             res_cc,
-            storable,
-            received_age,
-            lifetime,
+            storable: reading.storable,
+            received_age: reading.received_age,
+            lifetime: reading.lifetime,
         })
     }
 
@@ -283,17 +335,5 @@ impl CachePolicy {
         ensures nothing_left { IsTrue result ↔ (time_to_live_at self.now now.nanosecond ≡ 0) }
     {
         self.lifetime.as_nanos() <= self.age(now).as_nanos()
-    }
-}
-
-// The time from one moment to a later one, or zero.
-fn elapsed(from: Timestamp, to: Timestamp) -> Duration
-    ensures { as_nanos result ≡ elapsed (to.nanosecond -ℤ from.nanosecond) }
-{
-    let nanos = to.as_nanosecond() - from.as_nanosecond();
-    if nanos <= 0 {
-        Duration::ZERO
-    } else {
-        Duration::from_nanos_u128(nanos as u128)
     }
 }

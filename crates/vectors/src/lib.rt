@@ -6,6 +6,8 @@ mod asking;
 #[cfg(test)]
 mod fixtures;
 #[cfg(test)]
+mod keeping;
+#[cfg(test)]
 mod reading;
 #[cfg(test)]
 mod storing;

@@ -5,7 +5,7 @@ ghost use Rattle.http_cache_semantics.specs.Storable.{has_explicit_expiration, i
 
 use crate::directives::CacheControl;
 use crate::headers::holds;
-use http::{HeaderMap, Method, StatusCode, request, response};
+use http::{HeaderMap, Method, StatusCode, request};
 
 const UNDERSTOOD_STATUSES: [u16; 14] = [
     200, 203, 204, 300, 301, 302, 303, 307, 308, 404, 405, 410, 414, 501,
@@ -76,17 +76,18 @@ fn is_marked_cacheable(
 pub(crate) fn is_storable(
     shared: bool,
     request: &request::Parts,
-    response: &response::Parts,
+    status: StatusCode,
+    res: &HeaderMap,
     asked: &CacheControl,
     directives: &CacheControl,
 ) -> bool
-    ensures { result ≡ is_storable_by shared request.now.method response.now.status (headers_of request.now.headers) (headers_of response.now.headers) asked.now directives.now }
+    ensures { result ≡ is_storable_by shared request.now.method status (headers_of request.now.headers) (headers_of res.now) asked.now directives.now }
 {
-    let explicit = has_explicit_expiration(shared, &response.headers, directives);
+    let explicit = has_explicit_expiration(shared, res, directives);
     !asked.contains_key("no-store")
         && is_method_cacheable(&request.method, explicit)
-        && is_status_understood(response.status)
+        && is_status_understood(status)
         && !directives.contains_key("no-store")
         && !(shared && is_kept_from_shared(&request.headers, directives))
-        && is_marked_cacheable(shared, response.status, &response.headers, directives)
+        && is_marked_cacheable(shared, status, res, directives)
 }
