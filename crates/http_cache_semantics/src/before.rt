@@ -1,5 +1,5 @@
 //! Whether a stored response answers a request, and what goes to the origin where it doesn't.
-ghost use Rattle.std.specs.Prelude.{◌≡◌, ◌≢◌, ◌⊎◌, ◌&&◌, ◌*◌, ℕ, true, length, codes, IfOk, IfErr, IsErrOf, IsOkUnless};
+ghost use Rattle.std.specs.Prelude.{◌≡◌, ◌≢◌, ◌⊎◌, ◌&&◌, ◌*◌, ◌/◌, ℕ, [], ◌∷◌, true, length, codes, decimal, IfOk, IfErr, IsErrOf, IsOkUnless};
 ghost use Rattle.std.specs.Duration.{as_nanos};
 ghost use Rattle.http_cache_semantics.specs.Headers.{headers_of, values, first_text};
 ghost use Rattle.http_cache_semantics.specs.Age.{age_at, time_to_live_at};
@@ -125,9 +125,10 @@ impl CachePolicy {
             ≡ is_fresh_for self.now (Req.is_same_uri req.now) (Req.method req.now) (Req.headers req.now) now.nanosecond) }
         ensures fresh { IfOk result (WhereFresh (λ parts. (parts.status ≡ self.now.status)
             × IsFreshHeaders self.now now.nanosecond (headers_of parts.headers))) }
-        ensures dated_once { IfOk result (WhereFresh (λ parts.
-            (length (values (headers_of parts.headers) (codes "age")) ≡ 1)
-            × (length (values (headers_of parts.headers) (codes "date")) ≡ 1))) }
+        ensures aged { IfOk result (WhereFresh (λ parts. values (headers_of parts.headers) (codes "age")
+            ≡ decimal (age_at self.now now.nanosecond / 1_000_000_000) ∷ [])) }
+        ensures dated { IfOk result (WhereFresh (λ parts.
+            length (values (headers_of parts.headers) (codes "date")) ≡ 1)) }
         ensures stale { IfOk result (WhereStale (λ request matched.
             IsStaleRequest self.now (Req.headers req.now) request
             × (matched ≡ matches self.now (named_parts self.now (Req.is_same_uri req.now) (Req.method req.now) (Req.headers req.now))))) }
@@ -186,8 +187,9 @@ impl CachePolicy {
     fn fresh_parts(&self, alloc: Global, now: Timestamp) -> Result<response::Parts, CacheError>
         ensures status { IfOk result (λ parts. parts.status ≡ self.now.status) }
         ensures headers { IfOk result (λ parts. IsFreshHeaders self.now now.nanosecond (headers_of parts.headers)) }
-        ensures dated_once { IfOk result (λ parts. (length (values (headers_of parts.headers) (codes "age")) ≡ 1)
-            × (length (values (headers_of parts.headers) (codes "date")) ≡ 1)) }
+        ensures aged { IfOk result (λ parts. values (headers_of parts.headers) (codes "age")
+            ≡ decimal (age_at self.now now.nanosecond / 1_000_000_000) ∷ []) }
+        ensures dated { IfOk result (λ parts. length (values (headers_of parts.headers) (codes "date")) ≡ 1) }
         ensures full { IsErrOf result CacheError.HeaderMapFull → RefusesFreshHeaders self.now now.nanosecond }
         ensures unprintable { IsErrOf result CacheError.DateNotPrintable → HasNoDate self.now now.nanosecond }
         ensures no_other { result ≢ Err CacheError.Malformed }

@@ -1,4 +1,4 @@
-use Rattle.std.proofs.Common.{◌≡◌, ◌/◌, length, decimal, codes, refl, subst, ap, ◌∙◌}
+use Rattle.std.proofs.Common.{◌≡◌, ◌/◌, ℕ, List, [], ◌∷◌, length, decimal, codes, refl, subst, ap, ◌∙◌}
 use Rattle.http_cache_semantics.specs.Headers.{Headers, headers_of, values, set, RefusesName}
 use Rattle.http_cache_semantics.specs.Age.{age_at}
 use Rattle.http_cache_semantics.specs.Fresh.{aged, IsFreshHeaders}
@@ -27,14 +27,23 @@ returns-clause-headers c =
       headers = c.in_ok-put-2.ensures.ok ∙ (λ i. set (with_age i) (codes "date") (dated i));
     }
 
-pub returns-clause-dated_once : goal.returns-clause-dated_once
-returns-clause-dated_once c =
+pub returns-clause-aged : goal.returns-clause-aged
+returns-clause-aged c =
     let start = headers_of c.in_ok-parts.parts.headers in
-    let with_age : Headers = set start (codes "age") c.in_ok-age.age.bytes in
+    let age = c.in_ok-age.age.bytes in
+    let with_age : Headers = set start (codes "age") age in
     let date = c.in_ok-date.date.bytes in
     let last : headers_of c.put-2.new.map ≡ set with_age (codes "date") date =
-    c.in_ok-put-2.ensures.ok ∙ ap (λ (h : Headers). set h (codes "date") date) c.in_ok-put.ensures.ok in (
-      ap (λ (h : Headers). length (values h (codes "age"))) last ∙ ap length (values-set_other with_age (codes "date") date (codes "age") refl)
-          ∙ ap length (values-set_same start (codes "age") c.in_ok-age.age.bytes),
-      ap (λ (h : Headers). length (values h (codes "date"))) last ∙ ap length (values-set_same with_age (codes "date") date),
-    )
+    c.in_ok-put-2.ensures.ok ∙ ap (λ (h : Headers). set h (codes "date") date) c.in_ok-put.ensures.ok in
+    let seconds : c.as_secs.result ≡ age_at c.args.self.now c.args.now.nanosecond / 1_000_000_000 =
+    c.as_secs.ensures ∙ ap (λ n. n / 1_000_000_000) c.age.ensures.value in
+    let printed : age ≡ decimal (age_at c.args.self.now c.args.now.nanosecond / 1_000_000_000) =
+    ap (λ v. v.bytes) c.in_ok-age.ensures ∙ ap decimal seconds in
+    ap (λ (h : Headers). values h (codes "age")) last ∙ values-set_other with_age (codes "date") date (codes "age") refl
+    ∙ values-set_same start (codes "age") age ∙ ap (λ (a : List ℕ). a ∷ []) printed
+
+pub returns-clause-dated : goal.returns-clause-dated
+returns-clause-dated c =
+    let with_age : Headers = headers_of c.put.new.map in
+    let date = c.in_ok-date.date.bytes in
+    ap (λ (h : Headers). length (values h (codes "date"))) c.in_ok-put-2.ensures.ok ∙ ap length (values-set_same with_age (codes "date") date)
