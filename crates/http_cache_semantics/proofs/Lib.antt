@@ -8,6 +8,7 @@ pub mod FieldLemmas
 pub mod HeadersLemmas
 pub mod KeptLemmas
 pub mod MarkLemmas
+pub mod NameLemmas
 pub mod NumberLemmas
 pub mod PieceLemmas
 pub mod ReadLemmas
@@ -16,4 +17,5 @@ pub mod ShownLemmas
 pub mod TextLemmas
 pub mod TrimLemmas
 pub mod ValidLemmas
+pub mod VaryLemmas
 pub mod WriteLemmas

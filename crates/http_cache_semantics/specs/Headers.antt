@@ -1,9 +1,11 @@
 -- Headers: a finite map from names in lower case to their values, where the order of names does not count.
-use Rattle.std.specs.Prelude.{◌≡◌, ℕ, ◌+◌, ◌^◌, ◌≤◌, ◌⊎◌, List, [], ◌∷◌, length, map, Option, Some, None, Bool, is_some, option_and_then, slice_get, sum_by, unwrap_or}
+use Rattle.std.specs.Prelude.{◌≡◌, ℕ, ◌+◌, ◌^◌, ◌≤◌, ◌⊎◌, List, [], ◌∷◌, length, map, Option, Some, None, Bool, ◌&&◌, nat_lt, nat_le, if◌then◌else◌, is_some, option_and_then, slice_get, sum_by, unwrap_or}
 use Rattle.std.specs.Ordering.{nat_cmp}
 use Rattle.std.specs.Cmp.Lexicographic.{slice_cmp}
 use Rattle.std.specs.Coded.{Coded, coded_list, coded_ℕ}
 use Rattle.std.specs.FinMap as fin
+use Rattle.std.specs.List.{list_all}
+use Rattle.http_header.specs.Token.{is_token_byte, lowercase}
 use Rattle.http_header.specs.FieldValue.{FieldValue}
 use Rattle.http_header.specs.HeaderMap.{Entries}
 use Rattle.http_cache_semantics.specs.Text.{text_of}
@@ -37,6 +39,14 @@ first h name = slice_get (values h name) 0
 -- the first value under a name, if it is text
 abbrev pub first_text : Headers → List ℕ → Option (List ℕ)
 first_text h name = option_and_then text_of (first h name)
+
+-- the text is a header name: a token that isn't too long
+abbrev pub is_name : List ℕ → Bool
+is_name text = nat_lt 0 (length text) && list_all is_token_byte text && nat_le (length text) 65_535
+
+-- the first value under a text in any case; under a text that is no name there is nothing
+abbrev pub first_under : Headers → List ℕ → Option (List ℕ)
+first_under h text = if is_name text then first h (lowercase text) else None
 
 -- there is a value under a name, text or not
 abbrev pub holds : Headers → List ℕ → Bool

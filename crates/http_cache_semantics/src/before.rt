@@ -4,15 +4,15 @@ ghost use Rattle.std.specs.Duration.{as_nanos};
 ghost use Rattle.http_cache_semantics.specs.Headers.{headers_of, values, first_text};
 ghost use Rattle.http_cache_semantics.specs.Age.{age_at, time_to_live_at};
 ghost use Rattle.http_cache_semantics.specs.Asks.{asks_of, asked, forbids_cached, number_under};
-ghost use Rattle.http_cache_semantics.specs.Match.{named_parts, matches};
+ghost use Rattle.http_cache_semantics.specs.Match.{named_parts, varied_by, varies_alike, matches};
 ghost use Rattle.http_cache_semantics.specs.Verdict.{is_young_enough, lasts_long_enough, takes_stale, is_let_through, is_fresh_for};
 ghost use Rattle.http_cache_semantics.specs.Fresh.{aged, IsFreshHeaders, RefusesFreshHeaders, HasNoDate};
 ghost use Rattle.http_cache_semantics.specs.Stale.{IsStaleRequest};
 
 use crate::dates::print_date;
-use crate::directives::{CacheControl, GetHeaderStr, cache_control_of};
+use crate::directives::{CacheControl, GetHeaderStr, cache_control_of, get_all_comma};
 use crate::error::CacheError;
-use crate::headers::{has_same_first, holds, put, value_of};
+use crate::headers::{has_same_first, has_same_first_under, put, value_of};
 use crate::policy::{CachePolicy, RequestLike, copy_of_request, copy_of_response, copy_of_target};
 use crate::text::{contains, number};
 use http::header::HeaderValue;
@@ -157,8 +157,18 @@ impl CachePolicy {
     {
         req.is_same_uri(self.stored_target())
             && has_same_first(self.request_headers(), req.headers(), "host")
-            && !holds(self.response_headers(), "vary")
+            && self.varies_alike(req.headers())
             && *self.stored_method() == *req.method()
+    }
+
+    // Whether a request has the values that the stored response varies by.
+    #[tactic(auto, unfolding(crate::specs::Match::varies_alike))]
+    fn varies_alike(&self, headers: &HeaderMap) -> bool
+        ensures { result ≡ varies_alike self.now (varied_by self.now (headers_of headers.now)) }
+    {
+        get_all_comma(self.response_headers().get_all("vary")).all(|name| {
+            name != "*" && has_same_first_under(self.request_headers(), headers, name)
+        })
     }
 
     // Whether the response meets what is asked of its age at a moment.

@@ -2,11 +2,14 @@
 ghost use Rattle.std.specs.Prelude.{◌≡◌, ◌⊎◌, IfOk, IfErr, OnOk, IsErrOf, IsOkUnless};
 ghost use Rattle.http_header.specs.Token.{lowercase};
 ghost use Rattle.http_header.specs.FieldValue.{IsFieldValue, plain_value};
-ghost use Rattle.http_cache_semantics.specs.Headers.{headers_of, first, holds, set, RefusesName};
+ghost use Rattle.http_cache_semantics.specs.Headers.{headers_of, first, is_name, first_under, holds, set, RefusesName};
 ghost use Rattle.http_cache_semantics.specs.Directives.{same_value};
 
 use crate::error::CacheError;
-use http_header::{HeaderMap, HeaderMapError, HeaderValue, HeaderValueError, IntoHeaderName};
+use http_header::{
+    HeaderMap, HeaderMapError, HeaderValue, HeaderValueError, IntoHeaderName, MAX_HEADER_NAME_LEN,
+    is_token,
+};
 
 /// Whether there is a value under a name, text or not.
 pub(crate) fn holds(map: &HeaderMap, name: &str) -> bool
@@ -32,6 +35,21 @@ pub(crate) fn has_same_first(a: &HeaderMap, b: &HeaderMap, name: &str) -> bool
         (Some(x), Some(y)) => x.as_bytes() == y.as_bytes(),
         _ => false,
     }
+}
+
+// Whether a text is a header name.
+fn is_name(text: &str) -> bool
+    ensures { result ≡ is_name text.now }
+{
+    is_token(text.as_bytes()) && text.len() <= MAX_HEADER_NAME_LEN
+}
+
+/// Whether a text is no header name, or the first values under it are both absent or have the same
+/// bytes.
+pub(crate) fn has_same_first_under(a: &HeaderMap, b: &HeaderMap, text: &str) -> bool
+    ensures { result ≡ same_value (first_under (headers_of a.now) text.now) (first_under (headers_of b.now) text.now) }
+{
+    !is_name(text) || has_same_first(a, b, text)
 }
 
 /// The bytes as a value.
