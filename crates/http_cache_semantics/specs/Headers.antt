@@ -1,5 +1,5 @@
 -- Headers: a finite map from names in lower case to their values, where the order of names does not count.
-use Rattle.std.specs.Prelude.{◌≡◌, ℕ, ◌+◌, ◌^◌, ◌≤◌, ◌⊎◌, List, [], ◌∷◌, length, map, Option, Some, None, Bool, ◌&&◌, nat_lt, nat_le, if◌then◌else◌, is_some, option_and_then, slice_get, sum_by, unwrap_or}
+use Rattle.std.specs.Prelude.{◌≡◌, ℕ, ◌+◌, ◌^◌, ◌≤◌, ◌⊎◌, List, [], ◌∷◌, ◌++◌, length, map, Option, Some, None, Bool, ◌&&◌, nat_lt, nat_le, if◌then◌else◌, is_some, option_and_then, slice_get, sum_by, unwrap_or}
 use Rattle.std.specs.Ordering.{nat_cmp}
 use Rattle.std.specs.Cmp.Lexicographic.{slice_cmp}
 use Rattle.std.specs.Coded.{Coded, coded_list, coded_ℕ}
@@ -56,6 +56,15 @@ holds h name = is_some (first h name)
 abbrev pub set : Headers → List ℕ → List ℕ → Headers
 set h name value = fin.insert h name (value ∷ [])
 
+-- the headers with one value more behind those under a name
+abbrev pub added : Headers → List ℕ → List ℕ → Headers
+added h name value = fin.insert h name (values h name ++ value ∷ [])
+
+-- the headers with one value in place of those under a name, or without the name where the value is empty
+abbrev pub set_unless_empty : Headers → List ℕ → List ℕ → Headers
+set_unless_empty h name [] = fin.remove h name
+set_unless_empty h name (b ∷ bs) = set h name (b ∷ bs)
+
 -- how many values there are, under all names
 abbrev pub value_count : Headers → ℕ
 value_count h = sum_by (λ e. length e.1) (fin.entries h)
@@ -67,3 +76,7 @@ IsFull h = (24576 ≤ fin.len h) ⊎ (2 ^ 64 ≤ value_count h + 1)
 -- the name is new and there is no room for it
 abbrev pub RefusesName : Headers → List ℕ → Type 0
 RefusesName h name = (fin.get h name ≡ None) × IsFull h
+
+-- there is no room for one more value under the name, or for the name
+abbrev pub RefusesValue : Headers → List ℕ → Type 0
+RefusesValue h name = (2 ^ 64 ≤ value_count h + 1) ⊎ RefusesName h name

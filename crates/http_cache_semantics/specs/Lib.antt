@@ -20,6 +20,7 @@ pub mod Inside
 pub mod Asks
 pub mod Match
 pub mod Verdict
+pub mod Filter
 pub mod Fresh
 pub mod Stale
 pub mod Answer

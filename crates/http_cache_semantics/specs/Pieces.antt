@@ -1,5 +1,5 @@
 -- The pieces between the commas of header lines.
-use Rattle.std.specs.Prelude.{ℕ, List, [], ◌∷◌, ◌++◌, map, filter, Option, Some, None}
+use Rattle.std.specs.Prelude.{ℕ, List, [], ◌∷◌, ◌++◌, map, filter, codes, Option, Some, None}
 use Rattle.std.specs.Borrow.{Bor}
 use Rattle.std.specs.List.{flat_map, slice_split}
 use Rattle.http_header.specs.FieldValue.{FieldValue}
@@ -34,3 +34,18 @@ pieces_of_rest (Some line) = pieces_of_line line.now
 -- what is left of a line, and then the values
 abbrev pub pieces_left : Option (Bor (List ℕ)) → List FieldValue → List (List ℕ)
 pieces_left rest values = pieces_of_rest rest ++ pieces_of_values (bytes_of values)
+
+-- a text behind one that is there
+abbrev pub behind_comma : List ℕ → List ℕ
+behind_comma text = codes ", " ++ text
+
+-- texts on one line, in order: none in front of the first with a byte, and `, ` before each later one
+abbrev pub join : List (List ℕ) → List ℕ
+join [] = []
+join ([] ∷ texts) = join texts
+join ((b ∷ bs) ∷ texts) = (b ∷ bs) ++ flat_map behind_comma texts
+
+-- a line with one text more behind it
+abbrev pub joined_with : List ℕ → List ℕ → List ℕ
+joined_with [] text = text
+joined_with (b ∷ bs) text = (b ∷ bs) ++ behind_comma text

@@ -1,21 +1,23 @@
 //! Whether a stored response answers a request, and what goes to the origin where it doesn't.
-ghost use Rattle.std.specs.Prelude.{◌≡◌, ◌≢◌, ◌⊎◌, ◌&&◌, ◌*◌, ◌/◌, ℕ, [], ◌∷◌, true, length, codes, decimal, IfOk, IfErr, IsErrOf, IsOkUnless};
+ghost use Rattle.std.specs.Prelude.{◌≡◌, ◌≢◌, ◌⊎◌, ◌&&◌, ◌*◌, ◌/◌, ℕ, [], ◌∷◌, List, true, length, codes, decimal, IfOk, IfErr, IsErrOf, IsOkUnless};
 ghost use Rattle.std.specs.Duration.{as_nanos};
 ghost use Rattle.http_cache_semantics.specs.Headers.{headers_of, values, first_text};
 ghost use Rattle.http_cache_semantics.specs.Age.{age_at, time_to_live_at};
 ghost use Rattle.http_cache_semantics.specs.Asks.{asks_of, asked, forbids_cached, number_under};
 ghost use Rattle.http_cache_semantics.specs.Match.{named_parts, varied_by, varies_alike, matches};
 ghost use Rattle.http_cache_semantics.specs.Verdict.{is_young_enough, lasts_long_enough, takes_stale, is_let_through, is_fresh_for};
-ghost use Rattle.http_cache_semantics.specs.Fresh.{aged, IsFreshHeaders, RefusesFreshHeaders, HasNoDate};
+ghost use Rattle.http_cache_semantics.specs.Filter.{is_hop_by_hop};
+ghost use Rattle.http_cache_semantics.specs.Fresh.{IsFreshHeaders, RefusesFreshHeaders, HasNoDate};
 ghost use Rattle.http_cache_semantics.specs.Stale.{IsStaleRequest};
 
-use crate::dates::print_date;
+mod filter;
+mod fresh;
+
 use crate::directives::{CacheControl, GetHeaderStr, cache_control_of, get_all_comma};
 use crate::error::CacheError;
-use crate::headers::{has_same_first, has_same_first_under, put, value_of};
-use crate::policy::{CachePolicy, RequestLike, copy_of_request, copy_of_response, copy_of_target};
+use crate::headers::{has_same_first, has_same_first_under};
+use crate::policy::{CachePolicy, RequestLike, copy_of_request, copy_of_target};
 use crate::text::{contains, number};
-use http::header::HeaderValue;
 use http::{HeaderMap, request, response};
 use jiff::Timestamp;
 use std::alloc::Global;
@@ -112,8 +114,8 @@ impl CachePolicy {
     /// Whether the stored response may be used for a request at a moment without validation, and
     /// what is to be used or sent (RFC 7234, section 4).
     ///
-    /// `HeaderMapFull` comes where `age` or `date` has to be added to stored headers that are full,
-    /// `DateNotPrintable` where the moment is earlier than 1900, both for a fresh answer alone.
+    /// `HeaderMapFull` comes where `warning`, `age` or `date` has to be added to headers that are
+    /// full, `DateNotPrintable` where the moment is earlier than 1900, both for a fresh answer alone.
     #[tactic(auto, unfolding(crate::specs::Verdict::is_fresh_for))]
     pub fn before_request<Req: RequestLike>(
         &self,
@@ -129,6 +131,8 @@ impl CachePolicy {
             ≡ decimal (age_at self.now now.nanosecond / 1_000_000_000) ∷ [])) }
         ensures dated { IfOk result (WhereFresh (λ parts.
             length (values (headers_of parts.headers) (codes "date")) ≡ 1)) }
+        ensures no_hop { IfOk result (WhereFresh (λ parts. (name : List ℕ) → is_hop_by_hop name ≡ true
+            → name ≢ codes "date" → values (headers_of parts.headers) name ≡ [])) }
         ensures stale { IfOk result (WhereStale (λ request matched.
             IsStaleRequest self.now (Req.headers req.now) request
             × (matched ≡ matches self.now (named_parts self.now (Req.is_same_uri req.now) (Req.method req.now) (Req.headers req.now))))) }
@@ -190,29 +194,6 @@ impl CachePolicy {
         !self.is_stale(now)
             || (takes_stale(asked, staleness.as_nanos())
                 && !self.stored_directives().contains_key("must-revalidate"))
-    }
-
-    // The stored status, and the headers of a fresh answer at a moment.
-    #[tactic(auto, unfolding(crate::specs::Fresh::RefusesFreshHeaders, crate::specs::Fresh::HasNoDate))]
-    fn fresh_parts(&self, alloc: Global, now: Timestamp) -> Result<response::Parts, CacheError>
-        ensures status { IfOk result (λ parts. parts.status ≡ self.now.status) }
-        ensures headers { IfOk result (λ parts. IsFreshHeaders self.now now.nanosecond (headers_of parts.headers)) }
-        ensures aged { IfOk result (λ parts. values (headers_of parts.headers) (codes "age")
-            ≡ decimal (age_at self.now now.nanosecond / 1_000_000_000) ∷ []) }
-        ensures dated { IfOk result (λ parts. length (values (headers_of parts.headers) (codes "date")) ≡ 1) }
-        ensures full { IsErrOf result CacheError.HeaderMapFull → RefusesFreshHeaders self.now now.nanosecond }
-        ensures unprintable { IsErrOf result CacheError.DateNotPrintable → HasNoDate self.now now.nanosecond }
-        ensures no_other { result ≢ Err CacheError.Malformed }
-    {
-        let mut parts = copy_of_response(self.stored_status(), self.response_headers())?;
-        let age = HeaderValue::from_u64(alloc, self.age(now).as_secs())?;
-        put(&mut parts.headers, "age", age)?;
-        let Some(date) = print_date(now) else {
-            return Err(CacheError::DateNotPrintable);
-        };
-        let date = value_of(Vec::from_slice(alloc, &date)?)?;
-        put(&mut parts.headers, "date", date)?;
-        Ok(parts)
     }
 
     // The stored method and target, with the headers of the incoming request.

@@ -1,14 +1,15 @@
 //! What is read of header maps, their copies, and single changes of them.
 ghost use Rattle.std.specs.Prelude.{◌≡◌, ◌⊎◌, IfOk, IfErr, OnOk, IsErrOf, IsOkUnless};
+ghost use Rattle.std.specs.FinMap as fin;
 ghost use Rattle.http_header.specs.Token.{lowercase};
 ghost use Rattle.http_header.specs.FieldValue.{IsFieldValue, plain_value};
-ghost use Rattle.http_cache_semantics.specs.Headers.{headers_of, first, is_name, first_under, holds, set, RefusesName};
+ghost use Rattle.http_cache_semantics.specs.Headers.{headers_of, first, is_name, first_under, holds, set, added, RefusesName, RefusesValue};
 ghost use Rattle.http_cache_semantics.specs.Directives.{same_value};
 
 use crate::error::CacheError;
 use http_header::{
-    HeaderMap, HeaderMapError, HeaderValue, HeaderValueError, IntoHeaderName, MAX_HEADER_NAME_LEN,
-    is_token,
+    AsHeaderName, HeaderMap, HeaderMapError, HeaderValue, HeaderValueError, IntoHeaderName,
+    MAX_HEADER_NAME_LEN, is_token,
 };
 
 /// Whether there is a value under a name, text or not.
@@ -84,4 +85,35 @@ pub(crate) fn put<K: IntoHeaderName>(
         Err(HeaderMapError::MaxSizeReached) => Err(CacheError::HeaderMapFull),
         Err(HeaderMapError::OutOfMemory) => Err(CacheError::Memory),
     }
+}
+
+/// Puts one value behind those under a name, and tells a full map from want of memory.
+pub(crate) fn add<K: IntoHeaderName>(
+    map: &mut HeaderMap,
+    name: K,
+    value: HeaderValue,
+) -> Result<(), CacheError>
+    requires { K.is_valid name }
+    ensures ok { OnOk result (headers_of map.new ≡ added (headers_of map.old) (K.name name) value.bytes) }
+    ensures room { OnOk result (¬ (RefusesValue (headers_of map.old) (K.name name))) }
+    ensures full { IsErrOf result CacheError.HeaderMapFull → RefusesValue (headers_of map.old) (K.name name) }
+    ensures known { IfErr result (λ e. (e ≡ CacheError.HeaderMapFull) ⊎ (e ≡ CacheError.Memory)) }
+{
+    // The length tells the proof that this is a header map.
+    let _length = map.len();
+    match map.append(name, value) {
+        Ok(_) => Ok(()),
+        Err(HeaderMapError::MaxSizeReached) => Err(CacheError::HeaderMapFull),
+        Err(HeaderMapError::OutOfMemory) => Err(CacheError::Memory),
+    }
+}
+
+/// Takes a name away, with all its values.
+pub(crate) fn take_out<K: AsHeaderName>(map: &mut HeaderMap, name: K)
+    ensures { headers_of map.new ≡ fin.remove (headers_of map.old) (K.name name) }
+{
+    // The lengths tell the proof that these are header maps.
+    let _before = map.len();
+    map.remove(name);
+    let _after = map.len();
 }

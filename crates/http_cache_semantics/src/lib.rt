@@ -6,6 +6,7 @@ mod dates;
 pub mod directives;
 mod error;
 mod headers;
+mod join;
 pub mod policy;
 mod text;
 

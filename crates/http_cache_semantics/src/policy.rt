@@ -22,7 +22,7 @@ use crate::error::CacheError;
 use crate::headers::copy_of_map;
 use crate::policy::kept::keep;
 use crate::policy::lifetime::{elapsed, lifetime_of, received_age};
-use crate::policy::storable::is_storable;
+use crate::policy::storable::{has_explicit_expiration, is_storable};
 use http::{HeaderMap, Method, StatusCode, Uri, Version, request, response};
 use jiff::Timestamp;
 pub use like::{RequestLike, ResponseLike};
@@ -142,7 +142,7 @@ impl Reading {
 impl CachePolicy {
     ghost use Rattle.http_cache_semantics.specs.Exchange.{stored_directives};
     ghost use Rattle.http_cache_semantics.specs.Kept.{kept};
-    ghost use Rattle.http_cache_semantics.specs.Storable.{is_storable};
+    ghost use Rattle.http_cache_semantics.specs.Storable.{has_explicit_expiration, is_storable};
     ghost use Rattle.http_cache_semantics.specs.Lifetime.{lifetime};
     ghost use Rattle.http_cache_semantics.specs.Age.{age_at, time_to_live_at, is_stale_at};
 
@@ -294,6 +294,13 @@ impl CachePolicy {
         ensures { result.now ≡ stored_directives self.now }
     {
         &self.res_cc
+    }
+
+    /// Whether the stored response itself says when it expires.
+    pub(crate) fn has_explicit_expiration(&self) -> bool
+        ensures { result ≡ has_explicit_expiration self.now.options.shared self.now.response (stored_directives self.now) }
+    {
+        has_explicit_expiration(self.opts.shared, &self.res, &self.res_cc)
     }
 
     /// How long the stored response stays fresh.

@@ -1,7 +1,7 @@
 //! Texts and numbers in headers. Nothing here allocates.
 ghost use Rattle.std.specs.Prelude.{◌≡◌, ◌<◌};
 ghost use Rattle.http_cache_semantics.specs.Number.{number};
-ghost use Rattle.http_cache_semantics.specs.Text.{is_either, trim_front, trim_back, trim_both, trim, unquote, contains};
+ghost use Rattle.http_cache_semantics.specs.Text.{is_either, trim_front, trim_back, trim_both, trim, unquote, contains, begins_with};
 
 // The text from the first character on that is neither `a` nor `b`.
 fn trim_front(text: &str, a: char, b: char) -> &str
@@ -58,6 +58,13 @@ pub(crate) fn contains(text: &str, part: &str) -> bool
     ensures { result ≡ contains part.now text.now }
 {
     text.contains(part)
+}
+
+/// Whether the text begins with the part.
+pub(crate) fn begins_with(text: &str, part: &str) -> bool
+    ensures { result ≡ begins_with part.now text.now }
+{
+    text.starts_with(part)
 }
 
 /// The number that a text writes.

@@ -6,6 +6,8 @@ mod asking;
 #[cfg(test)]
 mod fixtures;
 #[cfg(test)]
+mod handing;
+#[cfg(test)]
 mod keeping;
 #[cfg(test)]
 mod reading;

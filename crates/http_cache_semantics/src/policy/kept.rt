@@ -1,7 +1,5 @@
 //! What a policy keeps of a response.
 ghost use Rattle.std.specs.Prelude.{◌≡◌, true, codes, IfOk, OnOk, IsOkUnless};
-ghost use Rattle.std.specs.FinMap as fin;
-ghost use Rattle.http_header.specs.Token.{lowercase};
 ghost use Rattle.http_cache_semantics.specs.Headers.{headers_of, holds};
 ghost use Rattle.http_cache_semantics.specs.Directives.{cache_control};
 ghost use Rattle.http_cache_semantics.specs.Written.{written};
@@ -11,7 +9,7 @@ ghost use Rattle.http_cache_semantics.specs.Kept.{with_line_alone, kept_response
 
 use crate::directives::{CacheControl, GetHeaderStr, cache_control_of, format_cache_control};
 use crate::error::CacheError;
-use crate::headers::{holds, put, value_of};
+use crate::headers::{holds, put, take_out, value_of};
 use crate::text::contains;
 use http::HeaderMap;
 use std::alloc::Global;
@@ -21,16 +19,6 @@ fn has_cargo_cult(directives: &CacheControl) -> bool
     ensures { result ≡ has_cargo_cult directives.now }
 {
     directives.contains_key("pre-check") && directives.contains_key("post-check")
-}
-
-// Takes a name away.
-fn take_out(res: &mut HeaderMap, name: &str)
-    ensures { headers_of res.new ≡ fin.remove (headers_of res.old) (lowercase name.now) }
-{
-    // The lengths tell the proof that these are header maps.
-    let _before = res.len();
-    res.remove(name);
-    let _after = res.len();
 }
 
 // Puts directives in place of those of the headers, and takes Expires and Pragma away.

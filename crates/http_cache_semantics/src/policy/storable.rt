@@ -15,8 +15,12 @@ const STATUSES_CACHEABLE_BY_DEFAULT: [u16; 12] = [
     200, 203, 204, 206, 300, 301, 308, 404, 405, 410, 414, 501,
 ];
 
-// Whether the response itself says when it expires.
-fn has_explicit_expiration(shared: bool, res: &HeaderMap, directives: &CacheControl) -> bool
+/// Whether the response itself says when it expires.
+pub(crate) fn has_explicit_expiration(
+    shared: bool,
+    res: &HeaderMap,
+    directives: &CacheControl,
+) -> bool
     ensures { result ≡ has_explicit_expiration shared (headers_of res.now) directives.now }
 {
     (shared && directives.contains_key("s-maxage"))

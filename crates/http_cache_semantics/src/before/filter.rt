@@ -1,0 +1,124 @@
+//! The headers that a cache hands on (RFC 7230, section 6.1, and RFC 7234, section 5.5).
+ghost use Rattle.std.specs.Prelude.{◌≡◌, ℕ, ◌≤◌, List, [], true, bytes_eq, codes, if◌then◌else◌, option_map, MatchOption, IfOk, OnOk, IsOkUnless, string_bytes};
+ghost use Rattle.std.specs.FinMap as fin;
+ghost use Rattle.http_header.specs.HeaderMap.{get_all};
+ghost use Rattle.http_cache_semantics.specs.Headers.{headers_of, holds, set_unless_empty, value_count};
+ghost use Rattle.http_cache_semantics.specs.Filter.{is_hop_by_hop, ChangesAt, IsLast, end_to_end, without_spelled, lasting_warnings, filtered};
+ghost use Rattle.http_cache_semantics.specs.Pieces.{pieces_under};
+ghost use Rattle.http_cache_semantics.specs.Filter.{last_only};
+
+use crate::directives::{Commas, get_all_comma};
+use crate::error::CacheError;
+use crate::headers::{copy_of_map, put, take_out, value_of};
+use crate::join::join_without;
+use http::HeaderMap;
+use http::header::{HeaderName, HeaderValue};
+use std::alloc::Global;
+
+// Whether the name speaks of one connection alone, or is Date, which is told anew.
+#[tactic(auto, unfolding(crate::specs::Filter::is_hop_by_hop))]
+fn is_hop_by_hop(name: &HeaderName) -> bool
+    ensures { result ≡ is_hop_by_hop name.now }
+{
+    matches!(
+        name.as_str(),
+        "date"
+            | "connection"
+            | "keep-alive"
+            | "proxy-authenticate"
+            | "proxy-authorization"
+            | "te"
+            | "trailer"
+            | "transfer-encoding"
+            | "upgrade"
+    )
+}
+
+// The last value under a name.
+fn last_value<'a>(map: &'a HeaderMap, name: &HeaderName) -> Option<&'a HeaderValue>
+    ensures { MatchOption result (get_all map.now name.now ≡ []) (λ v. IsLast (get_all map.now name.now) v.now) }
+{
+    map.get_all(name).iter().next_back()
+}
+
+// Leaves a name its last value alone.
+fn keep_last(map: &mut HeaderMap, name: &HeaderName) -> Result<(), CacheError>
+    ensures ok { OnOk result ((other : List ℕ) → fin.get (headers_of map.new) other
+        ≡ (if bytes_eq name.now other then option_map last_only (fin.get (headers_of map.old) other)
+        else fin.get (headers_of map.old) other)) }
+    ensures only_memory { IsOkUnless result CacheError.Memory }
+{
+    let _length = map.len();
+    let Some(value) = last_value(map, name) else {
+        return Ok(());
+    };
+    let last = value.clone().map_err(|_| CacheError::Memory)?;
+    put(map, name, last)
+}
+
+// Takes a name away that speaks of one connection alone, and leaves another its last value.
+fn sweep(map: &mut HeaderMap, name: &HeaderName) -> Result<(), CacheError>
+    ensures ok { OnOk result (ChangesAt name.now (headers_of map.old) (headers_of map.new)) }
+    ensures only_memory { IsOkUnless result CacheError.Memory }
+{
+    if is_hop_by_hop(name) {
+        take_out(map, name);
+        return Ok(());
+    }
+    keep_last(map, name)
+}
+
+// The headers but for hop-by-hop names, each name with its last value alone.
+fn end_to_end(headers: &HeaderMap) -> Result<HeaderMap, CacheError>
+    ensures ok { IfOk result (λ out. headers_of out ≡ end_to_end (headers_of headers.now)) }
+    ensures only_memory { IsOkUnless result CacheError.Memory }
+{
+    let mut out = copy_of_map(headers)?;
+    for name in headers.keys() {
+        sweep(&mut out, name)?;
+    }
+    Ok(out)
+}
+
+// Takes away the names that Connection spells, in any case. `warning` stays: it is set anew from
+// all that came, and a name that is there is never refused.
+fn take_out_spelled(out: &mut HeaderMap, spelled: Commas<'_>)
+    ensures { headers_of out.new ≡ without_spelled spelled (headers_of out.old) }
+{
+    for name in spelled {
+        if !name.eq_ignore_ascii_case("warning") {
+            take_out(out, name);
+        }
+    }
+}
+
+// Sets `warning` to the warnings that last, or takes it away where there are none.
+fn set_warnings(alloc: Global, out: &mut HeaderMap, headers: &HeaderMap) -> Result<(), CacheError>
+    requires { holds (headers_of headers.now) (codes "warning") ≡ true → holds (headers_of out.old) (codes "warning") ≡ true }
+    ensures ok { OnOk result (headers_of out.new ≡ set_unless_empty (headers_of out.old) (codes "warning") (lasting_warnings (headers_of headers.now))) }
+    ensures only_memory { IsOkUnless result CacheError.Memory }
+{
+    let warnings = join_without(alloc, get_all_comma(headers.get_all("warning")), "1")?;
+    if warnings.as_str().is_empty() {
+        take_out(out, "warning");
+        return Ok(());
+    }
+    let value = value_of(warnings.into_bytes())?;
+    put(out, "warning", value)
+}
+
+/// The headers that are handed on: none that speaks of one connection alone, and the warnings
+/// that last. No name is new, so it is refused for want of memory alone.
+pub(crate) fn filter(alloc: Global, headers: &HeaderMap) -> Result<HeaderMap, CacheError>
+    ensures ok { IfOk result (λ out. headers_of out ≡ filtered (headers_of headers.now)) }
+    ensures few { IfOk result (λ out. value_count (headers_of out) ≤ 24576) }
+    ensures only_memory { IsOkUnless result CacheError.Memory }
+{
+    let mut out = end_to_end(headers)?;
+    take_out_spelled(&mut out, get_all_comma(headers.get_all("connection")));
+    set_warnings(alloc, &mut out, headers)?;
+    // The lengths tell the proof that these are header maps.
+    let _before = headers.len();
+    let _after = out.len();
+    Ok(out)
+}
