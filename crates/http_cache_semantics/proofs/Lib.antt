@@ -14,6 +14,7 @@ pub mod PieceLemmas
 pub mod ReadLemmas
 pub mod ReadableLemmas
 pub mod ShownLemmas
+pub mod TagLemmas
 pub mod TextLemmas
 pub mod TrimLemmas
 pub mod ValidLemmas

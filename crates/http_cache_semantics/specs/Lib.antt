@@ -23,5 +23,8 @@ pub mod Verdict
 pub mod Filter
 pub mod Fresh
 pub mod Stale
+pub mod Selection
+pub mod Validated
+pub mod Update
 pub mod Answer
 pub mod Rows

@@ -225,8 +225,8 @@ fn owned(alloc: Global, value: Option<&str>) -> Result<Option<String>, AllocErro
     }
 }
 
-// Whether two values are both absent, or the same text.
-fn same_value(a: Option<&str>, b: Option<&str>) -> bool
+/// Whether two values are both absent, or the same text.
+pub(crate) fn same_value(a: Option<&str>, b: Option<&str>) -> bool
     ensures { result ≡ same_value (option_copied a.entry) (option_copied b.entry) }
 {
     match (a, b) {

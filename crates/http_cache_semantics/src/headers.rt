@@ -1,15 +1,17 @@
 //! What is read of header maps, their copies, and single changes of them.
-ghost use Rattle.std.specs.Prelude.{◌≡◌, ◌⊎◌, IfOk, IfErr, OnOk, IsErrOf, IsOkUnless};
+ghost use Rattle.std.specs.Prelude.{◌≡◌, ◌⊎◌, [], option_map, MatchOption, IfOk, IfErr, OnOk, IsErrOf, IsOkUnless};
 ghost use Rattle.std.specs.FinMap as fin;
 ghost use Rattle.http_header.specs.Token.{lowercase};
 ghost use Rattle.http_header.specs.FieldValue.{IsFieldValue, plain_value};
-ghost use Rattle.http_cache_semantics.specs.Headers.{headers_of, first, is_name, first_under, holds, set, added, RefusesName, RefusesValue};
+ghost use Rattle.http_cache_semantics.specs.Headers.{headers_of, first, is_name, first_under, holds, set, added, RefusesName, RefusesValue, ChangesUnder};
+ghost use Rattle.http_cache_semantics.specs.Filter.{IsLast, last_only};
+ghost use Rattle.http_header.specs.HeaderMap.{get_all};
 ghost use Rattle.http_cache_semantics.specs.Directives.{same_value};
 
 use crate::error::CacheError;
 use http_header::{
-    AsHeaderName, HeaderMap, HeaderMapError, HeaderValue, HeaderValueError, IntoHeaderName,
-    MAX_HEADER_NAME_LEN, is_token,
+    AsHeaderName, HeaderMap, HeaderMapError, HeaderName, HeaderValue, HeaderValueError,
+    IntoHeaderName, MAX_HEADER_NAME_LEN, is_token,
 };
 
 /// Whether there is a value under a name, text or not.
@@ -116,4 +118,24 @@ pub(crate) fn take_out<K: AsHeaderName>(map: &mut HeaderMap, name: K)
     let _before = map.len();
     map.remove(name);
     let _after = map.len();
+}
+
+// The last value under a name.
+fn last_value<'a>(map: &'a HeaderMap, name: &HeaderName) -> Option<&'a HeaderValue>
+    ensures { MatchOption result (get_all map.now name.now ≡ []) (λ v. IsLast (get_all map.now name.now) v.now) }
+{
+    map.get_all(name).iter().next_back()
+}
+
+/// Leaves a name its last value alone.
+pub(crate) fn keep_last(map: &mut HeaderMap, name: &HeaderName) -> Result<(), CacheError>
+    ensures ok { OnOk result (ChangesUnder name.now (option_map last_only) (headers_of map.old) (headers_of map.new)) }
+    ensures only_memory { IsOkUnless result CacheError.Memory }
+{
+    let _length = map.len();
+    let Some(value) = last_value(map, name) else {
+        return Ok(());
+    };
+    let last = value.clone().map_err(|_| CacheError::Memory)?;
+    put(map, name, last)
 }

@@ -1,6 +1,7 @@
 //! When a stored HTTP response may be used again (RFC 7234, sections 3 to 5).
 #![tactic(auto)]
 
+pub mod after;
 pub mod before;
 mod dates;
 pub mod directives;
@@ -10,6 +11,7 @@ mod join;
 pub mod policy;
 mod text;
 
+pub use after::AfterResponse;
 pub use before::BeforeRequest;
 pub use error::CacheError;
 pub use policy::{CacheOptions, CachePolicy, RequestLike, ResponseLike};

@@ -197,8 +197,10 @@ impl CachePolicy {
         CachePolicy::from_parts(alloc, request, response, response_time, opts)
     }
 
+    /// The policy of a request and a response that are given away. It is refused for want of memory
+    /// alone.
     #[tactic(auto, unfolding(crate::specs::Kept::kept))]
-    fn from_parts(
+    pub(crate) fn from_parts(
         alloc: Global,
         request: request::Parts,
         response: response::Parts,
@@ -273,6 +275,13 @@ impl CachePolicy {
         ensures { result ≡ self.now.status }
     {
         self.status
+    }
+
+    /// The options.
+    pub(crate) fn stored_options(&self) -> CacheOptions
+        ensures { options_of result ≡ self.now.options }
+    {
+        self.opts
     }
 
     /// The headers of the stored request.

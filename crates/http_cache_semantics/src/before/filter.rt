@@ -9,7 +9,7 @@ ghost use Rattle.http_cache_semantics.specs.Filter.{last_only};
 
 use crate::directives::{Commas, get_all_comma};
 use crate::error::CacheError;
-use crate::headers::{copy_of_map, put, take_out, value_of};
+use crate::headers::{copy_of_map, keep_last, put, take_out, value_of};
 use crate::join::join_without;
 use http::HeaderMap;
 use http::header::{HeaderName, HeaderValue};
@@ -32,28 +32,6 @@ fn is_hop_by_hop(name: &HeaderName) -> bool
             | "transfer-encoding"
             | "upgrade"
     )
-}
-
-// The last value under a name.
-fn last_value<'a>(map: &'a HeaderMap, name: &HeaderName) -> Option<&'a HeaderValue>
-    ensures { MatchOption result (get_all map.now name.now ≡ []) (λ v. IsLast (get_all map.now name.now) v.now) }
-{
-    map.get_all(name).iter().next_back()
-}
-
-// Leaves a name its last value alone.
-fn keep_last(map: &mut HeaderMap, name: &HeaderName) -> Result<(), CacheError>
-    ensures ok { OnOk result ((other : List ℕ) → fin.get (headers_of map.new) other
-        ≡ (if bytes_eq name.now other then option_map last_only (fin.get (headers_of map.old) other)
-        else fin.get (headers_of map.old) other)) }
-    ensures only_memory { IsOkUnless result CacheError.Memory }
-{
-    let _length = map.len();
-    let Some(value) = last_value(map, name) else {
-        return Ok(());
-    };
-    let last = value.clone().map_err(|_| CacheError::Memory)?;
-    put(map, name, last)
 }
 
 // Takes a name away that speaks of one connection alone, and leaves another its last value.
