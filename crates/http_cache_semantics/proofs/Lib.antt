@@ -5,7 +5,10 @@ pub mod DateExamples
 pub mod DateLemmas
 pub mod DateTextLemmas
 pub mod FieldLemmas
+pub mod FilterLemmas
+pub mod FreshLemmas
 pub mod HeadersLemmas
+pub mod JoinLemmas
 pub mod KeptLemmas
 pub mod MarkLemmas
 pub mod NumberLemmas
