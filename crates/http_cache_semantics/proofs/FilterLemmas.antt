@@ -70,7 +70,7 @@ drop_changes h name hop other =
     fin.get-remove nat_list_cmp_total h name other
     ∙ rw (ties other name)
     elim (cases_Bool (bytes_eq name other)) [
-      | inl t ↦ rw (t, sym (ap is_hop_by_hop ((bytes_eq-Decides name other).0 t)) ∙ hop) refl
+      | inl t ↦ rw (t, hop) refl
       | inr f ↦ rw f refl
     ]
 
@@ -162,7 +162,8 @@ pub IsSwept-turn : (h old new : Headers) (next : List ℕ) (rest : List (List �
 IsSwept-turn h old new next rest before changes name =
     elim (cases_Bool (bytes_eq next name)) [
       | inl t ↦
-          let now : fin.get new name ≡ kept_values name (fin.get old name) = rw t at (changes name) in
+          let same : next ≡ name = (bytes_eq-Decides next name).0 t in
+          let now : fin.get new name ≡ kept_values name (fin.get old name) = (rw t at (changes name)) ∙ ap (λ (k : List ℕ). kept_values k (fin.get old name)) same in
           inl (now ∙ elim (before name) [
             | inl done ↦ ap (kept_values name) done ∙ twice (is_hop_by_hop name) (fin.get h name)
             | inr x ↦ ap (kept_values name) x.1
@@ -196,7 +197,9 @@ swept h name filled =
   where
     by : (b : Bool) → cond (has_some (if b then [] else last_only (values h name))) (option_map (λ _. if b then [] else last_only (values h name)) (fin.get h name)) None ≡ (if b then None else option_map last_only (fin.get h name))
     by true = refl
-    by false = rw (filled name) (sym (last-kept (values h name)))
+    by false =
+        let vs = values h name in
+        ap (λ o. cond (has_some (last_only vs)) (option_map (λ _. last_only vs) o) None) (filled name) ∙ sym (last-kept vs) ∙ ap (option_map last_only) (sym (filled name))
 
 -- after it the headers are those without hop-by-hop names
 pub IsSwept-end : (h out : Headers) → IsFilled h → ((name : List ℕ) → IsSwept h out [] name) → out ≡ end_to_end h

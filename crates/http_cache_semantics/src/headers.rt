@@ -26,6 +26,14 @@ pub(crate) fn copy_of_map(map: &HeaderMap) -> Result<HeaderMap, CacheError>
     map.clone().map_err(|_| CacheError::Memory)
 }
 
+/// A copy of a value.
+pub(crate) fn copy_of_value(value: &HeaderValue) -> Result<HeaderValue, CacheError>
+    ensures value { IfOk result (λ copy. copy ≡ value.now) }
+    ensures only_memory { IsOkUnless result CacheError.Memory }
+{
+    value.clone().map_err(|_| CacheError::Memory)
+}
+
 /// Whether the first values under a name are both absent, or have the same bytes.
 pub(crate) fn has_same_first(a: &HeaderMap, b: &HeaderMap, name: &str) -> bool
     ensures { result ≡ same_value (first (headers_of a.now) (lowercase name.now)) (first (headers_of b.now) (lowercase name.now)) }

@@ -9,7 +9,7 @@ ghost use Rattle.http_cache_semantics.specs.Filter.{last_only};
 
 use crate::directives::{Commas, get_all_comma};
 use crate::error::CacheError;
-use crate::headers::{copy_of_map, put, take_out, value_of};
+use crate::headers::{copy_of_map, copy_of_value, put, take_out, value_of};
 use crate::join::join_without;
 use http::HeaderMap;
 use http::header::{HeaderName, HeaderValue};
@@ -52,7 +52,7 @@ fn keep_last(map: &mut HeaderMap, name: &HeaderName) -> Result<(), CacheError>
     let Some(value) = last_value(map, name) else {
         return Ok(());
     };
-    let last = value.clone().map_err(|_| CacheError::Memory)?;
+    let last = copy_of_value(value)?;
     put(map, name, last)
 }
 
@@ -73,6 +73,8 @@ fn end_to_end(headers: &HeaderMap) -> Result<HeaderMap, CacheError>
     ensures ok { IfOk result (λ out. headers_of out ≡ end_to_end (headers_of headers.now)) }
     ensures only_memory { IsOkUnless result CacheError.Memory }
 {
+    // The length tells the proof that this is a header map.
+    let _length = headers.len();
     let mut out = copy_of_map(headers)?;
     for name in headers.keys() {
         sweep(&mut out, name)?;
