@@ -5,7 +5,10 @@ pub mod DateExamples
 pub mod DateLemmas
 pub mod DateTextLemmas
 pub mod FieldLemmas
+pub mod FilterLemmas
+pub mod FreshLemmas
 pub mod HeadersLemmas
+pub mod JoinLemmas
 pub mod KeptLemmas
 pub mod MarkLemmas
 pub mod NameLemmas
@@ -14,9 +17,11 @@ pub mod PieceLemmas
 pub mod ReadLemmas
 pub mod ReadableLemmas
 pub mod ShownLemmas
+pub mod SweepLemmas
 pub mod TagLemmas
 pub mod TextLemmas
 pub mod TrimLemmas
+pub mod UpdateLemmas
 pub mod ValidLemmas
 pub mod VaryLemmas
 pub mod WriteLemmas

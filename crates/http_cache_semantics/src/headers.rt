@@ -29,6 +29,14 @@ pub(crate) fn copy_of_map(map: &HeaderMap) -> Result<HeaderMap, CacheError>
     map.clone().map_err(|_| CacheError::Memory)
 }
 
+/// A copy of a value.
+pub(crate) fn copy_of_value(value: &HeaderValue) -> Result<HeaderValue, CacheError>
+    ensures value { IfOk result (λ copy. copy ≡ value.now) }
+    ensures only_memory { IsOkUnless result CacheError.Memory }
+{
+    value.clone().map_err(|_| CacheError::Memory)
+}
+
 /// Whether the first values under a name are both absent, or have the same bytes.
 pub(crate) fn has_same_first(a: &HeaderMap, b: &HeaderMap, name: &str) -> bool
     ensures { result ≡ same_value (first (headers_of a.now) (lowercase name.now)) (first (headers_of b.now) (lowercase name.now)) }
@@ -136,6 +144,6 @@ pub(crate) fn keep_last(map: &mut HeaderMap, name: &HeaderName) -> Result<(), Ca
     let Some(value) = last_value(map, name) else {
         return Ok(());
     };
-    let last = value.clone().map_err(|_| CacheError::Memory)?;
+    let last = copy_of_value(value)?;
     put(map, name, last)
 }

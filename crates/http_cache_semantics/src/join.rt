@@ -24,13 +24,14 @@ pub(crate) fn join_without(
     mark: &str,
 ) -> Result<String, AllocError>
     ensures { IfOk result (λ line. string_bytes line
-        ≡ join (filter (λ piece. not (begins_with mark.now piece)) pieces)) }
+        ≡ join (filter (λ piece. not (begins_with mark.now piece)) pieces.entry)) }
 {
     let mut line = String::new(alloc);
     for piece in pieces {
-        if !begins_with(piece, mark) {
-            join_to(&mut line, piece)?;
+        if begins_with(piece, mark) {
+            continue;
         }
+        join_to(&mut line, piece)?;
     }
     Ok(line)
 }

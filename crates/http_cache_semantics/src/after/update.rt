@@ -4,7 +4,7 @@ ghost use Rattle.http_cache_semantics.specs.Headers.{headers_of, ChangesUnder};
 ghost use Rattle.http_cache_semantics.specs.Update.{is_of_body, new_value, renewed, renewed_headers};
 
 use crate::error::CacheError;
-use crate::headers::{copy_of_map, keep_last, put};
+use crate::headers::{copy_of_map, copy_of_value, keep_last, put};
 use http::HeaderMap;
 use http::header::{HeaderName, HeaderValue};
 
@@ -37,10 +37,12 @@ fn renew(stored: &mut HeaderMap, name: &HeaderName, new: &HeaderMap) -> Result<(
     let Some(value) = new_value(new, name) else {
         return keep_last(stored, name);
     };
+    // The length tells the proof that this is a header map.
+    let _length = stored.len();
     if stored.get(name).is_none() {
         return Ok(());
     }
-    let value = value.clone().map_err(|_| CacheError::Memory)?;
+    let value = copy_of_value(value)?;
     put(stored, name, value)
 }
 
@@ -49,6 +51,8 @@ pub(crate) fn renewed_headers(stored: &HeaderMap, new: &HeaderMap) -> Result<Hea
     ensures ok { IfOk result (λ out. headers_of out ≡ renewed_headers (headers_of stored.now) (headers_of new.now)) }
     ensures only_memory { IsOkUnless result CacheError.Memory }
 {
+    // The length tells the proof that this is a header map.
+    let _length = stored.len();
     let mut out = copy_of_map(stored)?;
     for name in stored.keys() {
         renew(&mut out, name, new)?;

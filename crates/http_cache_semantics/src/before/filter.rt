@@ -51,6 +51,8 @@ fn end_to_end(headers: &HeaderMap) -> Result<HeaderMap, CacheError>
     ensures ok { IfOk result (λ out. headers_of out ≡ end_to_end (headers_of headers.now)) }
     ensures only_memory { IsOkUnless result CacheError.Memory }
 {
+    // The length tells the proof that this is a header map.
+    let _length = headers.len();
     let mut out = copy_of_map(headers)?;
     for name in headers.keys() {
         sweep(&mut out, name)?;
@@ -61,12 +63,13 @@ fn end_to_end(headers: &HeaderMap) -> Result<HeaderMap, CacheError>
 // Takes away the names that Connection spells, in any case. `warning` stays: it is set anew from
 // all that came, and a name that is there is never refused.
 fn take_out_spelled(out: &mut HeaderMap, spelled: Commas<'_>)
-    ensures { headers_of out.new ≡ without_spelled spelled (headers_of out.old) }
+    ensures { headers_of out.new ≡ without_spelled spelled.entry (headers_of out.old) }
 {
     for name in spelled {
-        if !name.eq_ignore_ascii_case("warning") {
-            take_out(out, name);
+        if name.eq_ignore_ascii_case("warning") {
+            continue;
         }
+        take_out(out, name);
     }
 }
 

@@ -1,0 +1,1 @@
+-- What fresh headers hold.
