@@ -1,20 +1,26 @@
 -- What the filter does to headers, name by name.
-use Rattle.std.proofs.Common.{◌≡◌, ◌≢◌, ℕ, ◌+◌, ◌-◌, ◌<◌, ◌≤◌, Bool, true, false, not, ◌||◌, List, [], ◌∷◌, ◌++◌, map, length, drop, cond, if◌then◌else◌, bytes_eq, codes, is_some, slice_get, Option, Some, None, option_map, unwrap_or, refl, sym, ap, subst, ◌∙◌, ◌⊎◌, inl, inr, arith, length-append, true≢false}
+use Rattle.std.proofs.Common.{◌≡◌, ◌≢◌, ℕ, ◌+◌, ◌-◌, ◌<◌, ◌≤◌, Bool, true, false, not, ◌||◌, List, [], ◌∷◌, ◌++◌, map, filter, length, drop, ◌==◌, cond, if◌then◌else◌, bytes_eq, codes, is_some, slice_get, Option, Some, None, option_map, unwrap_or, refl, sym, ap, subst, ◌∙◌, ◌⊎◌, inl, inr, arith, length-append, true≢false}
 use Rattle.std.specs.Ordering.{eq_by_cmp}
 use Rattle.std.specs.Borrow.{Bor}
 use Rattle.std.specs.List.{list_any}
 use Rattle.std.specs.Cmp.Lexicographic.{nat_list_cmp_total, nat_list_eq_equiv}
 use Rattle.std.specs.FinMap as fin
 use Rattle.std.proofs.lemmas.Bool.{cases_Bool}
+use Rattle.std.proofs.lemmas.Bool.Decides.{nat_tests}
+use Rattle.std.proofs.lemmas.List.Sums.{AllPass-from_list_all}
+use Rattle.http_header.specs.Token.{is_visible_or_blank}
+use Rattle.http_header.proofs.TokenLemmas.{IsFieldValue-from_visible}
+use Rattle.http_cache_semantics.specs.Text.{is_text, begins_with}
 use Rattle.std.proofs.lemmas.List.{map-append, drop_at, length-drop}
 use Rattle.std.proofs.lemmas.List.Folds.{list_any-append}
 use Rattle.std.proofs.lemmas.Slice.Eq.{bytes_eq-Decides}
 use Rattle.http.specs.Method.{is_among}
 use Rattle.http_header.specs.Token.{lowercase}
-use Rattle.http_header.specs.FieldValue.{FieldValue}
+use Rattle.http_header.specs.FieldValue.{FieldValue, IsFieldValue}
 use Rattle.http_header.specs.HeaderMap.{Entries, get_all, insert, keys, IsHeaderMap}
 use Rattle.http_cache_semantics.specs.Headers.{Headers, headers_of, entry_of, bytes_of, values, holds, set, set_unless_empty}
-use Rattle.http_cache_semantics.specs.Pieces.{pieces_under}
+use Rattle.http_cache_semantics.specs.Pieces.{pieces_under, pieces_of_values, join}
+use Rattle.http_cache_semantics.proofs.JoinLemmas.{join-text, pieces-text}
 use Rattle.http_cache_semantics.specs.Filter.{is_hop_by_hop, is_spelled, last_only, unless_empty, lasting_warnings, handed_on, has_some, with_values, filtered, end_to_end, without_spelled, kept_values, ChangesAt}
 use Rattle.http_cache_semantics.proofs.HeadersLemmas.{by_name, ties, get-headers_of, values-headers_of, headers_of-insert, same_headers, non_empty}
 
@@ -273,3 +279,167 @@ get-set_unless_empty : (h : Headers) (name value other : List ℕ) → fin.get (
 get-set_unless_empty h name [] other = fin.get-remove nat_list_cmp_total h name other ∙ ap (λ b. cond b None (fin.get h other)) (ties other name)
 get-set_unless_empty h name (b ∷ bs) other =
     fin.get-insert nat_list_cmp_total h name ((b ∷ bs) ∷ []) other ∙ ap (λ t. cond t (Some ((b ∷ bs) ∷ [])) (fin.get h other)) (ties other name)
+
+-- ---- the warnings that last
+
+-- they make a value
+pub lasting-is_value : (h : Headers) (text : List ℕ) → text ≡ lasting_warnings h → IsFieldValue text
+lasting-is_value h text is =
+    let keep = λ (piece : List ℕ). not (begins_with (codes "1") piece) in
+    let visible = join-text (filter keep (pieces_under h (codes "warning"))) (pieces-text keep (values h (codes "warning"))) in
+    IsFieldValue-from_visible text (AllPass-from_list_all is_visible_or_blank text (ap is_text is ∙ visible))
+
+lasting-held : (h : Headers) → lasting_warnings h ≢ [] → holds h (codes "warning") ≡ true
+lasting-held h some = by (values h (codes "warning")) some
+  where
+    by : (vs : List (List ℕ)) → join (filter (λ piece. not (begins_with (codes "1") piece)) (pieces_of_values vs)) ≢ [] → is_some (slice_get vs 0) ≡ true
+    by [] k = absurd (k refl)
+    by (v ∷ vs) k = refl
+
+held-is_there : (h : Headers) (name : List ℕ) → holds h name ≡ true → fin.get h name ≢ None
+held-is_there h name held none = true≢false (sym held ∙ ap (λ o. is_some (slice_get (unwrap_or o []) 0)) none)
+
+no_bytes : (text : List ℕ) → (length text == 0) ≡ true → text ≡ []
+no_bytes [] e = refl
+no_bytes (b ∷ bs) e = absurd (grind (arith, nat_tests))
+
+some_bytes : (text : List ℕ) → (length text == 0) ≡ false → text ≢ []
+some_bytes [] e same = absurd (true≢false e)
+some_bytes (b ∷ bs) e same = let no = same in cc
+
+-- where there are none, `warning` goes
+pub warnings-none : (h out : Headers) (text : List ℕ) → text ≡ lasting_warnings h → (length text == 0) ≡ true
+    → fin.remove out (codes "warning") ≡ set_unless_empty out (codes "warning") (lasting_warnings h)
+warnings-none h out text is empty = ap (set_unless_empty out (codes "warning")) (sym (no_bytes text empty) ∙ is)
+
+-- where there are some, they are set
+pub warnings-some : (h out : Headers) (text : List ℕ) → text ≡ lasting_warnings h → (length text == 0) ≡ false
+    → set out (codes "warning") text ≡ set_unless_empty out (codes "warning") (lasting_warnings h)
+warnings-some h out text is some = by text (some_bytes text some) ∙ ap (set_unless_empty out (codes "warning")) is
+  where
+    by : (t : List ℕ) → t ≢ [] → set out (codes "warning") t ≡ set_unless_empty out (codes "warning") t
+    by [] k = absurd (k refl)
+    by (b ∷ bs) k = refl
+
+-- and their name is there
+pub warnings-there : (h out : Headers) (text : List ℕ) → text ≡ lasting_warnings h → (length text == 0) ≡ false
+    → (holds h (codes "warning") ≡ true → holds out (codes "warning") ≡ true) → fin.get out (codes "warning") ≢ None
+warnings-there h out text is some kept =
+    held-is_there out (codes "warning") (kept (lasting-held h (λ none. some_bytes text some (is ∙ none))))
+
+-- ---- the three steps together
+
+-- what is left under a name by the end
+filtered-at : (h : Headers) (name : List ℕ) → IsFilled h
+    → fin.get (set_unless_empty (without_spelled (pieces_under h (codes "connection")) (end_to_end h)) (codes "warning") (lasting_warnings h)) name ≡ fin.get (filtered h) name
+unfolding filtered
+filtered-at h name filled =
+    get-set_unless_empty (without_spelled spelled (end_to_end h)) (codes "warning") (lasting_warnings h) name
+    ∙ ap (cond (bytes_eq (codes "warning") name) (non_empty (unless_empty (lasting_warnings h)))) (get-without_spelled spelled (end_to_end h) name)
+    ∙ ap (λ b. cond b (non_empty (unless_empty (lasting_warnings h))) (cond (bytes_eq name (codes "warning") || not (is_spelled spelled name)) (fin.get (end_to_end h) name) None)) (nat_list_eq_equiv.symm (codes "warning") name)
+    ∙ by (bytes_eq name (codes "warning")) refl
+    ∙ sym (get-with_values (handed_on h) h name)
+  where
+    spelled : List (List ℕ)
+    spelled = pieces_under h (codes "connection")
+
+    warning : (lasting : List ℕ) → lasting ≡ lasting_warnings h → non_empty (unless_empty lasting) ≡ cond (has_some (unless_empty lasting)) (option_map (λ _. unless_empty lasting) (fin.get h (codes "warning"))) None
+    warning [] e = refl
+    warning (b ∷ bs) e =
+        let held = lasting-held h (λ none. let no = e ∙ none in cc) in
+        there_by (fin.get h (codes "warning")) (held-is_there h (codes "warning") held)
+      where
+        there_by : (o : Option (List (List ℕ))) → o ≢ None → Some ((b ∷ bs) ∷ []) ≡ option_map (λ _. (b ∷ bs) ∷ []) o
+        there_by None k = absurd (k refl)
+        there_by (Some x) k = refl
+
+    -- a name that isn't `warning`
+    other : (hop named : Bool) → cond (not named) (cond hop None (option_map last_only (fin.get h name))) None
+        ≡ cond (has_some (if hop || named then [] else last_only (values h name))) (option_map (λ _. if hop || named then [] else last_only (values h name)) (fin.get h name)) None
+    other true true = refl
+    other true false = refl
+    other false true = refl
+    other false false =
+        let vs = values h name in
+        ap (option_map last_only) (filled name) ∙ last-kept vs
+        ∙ ap (λ o. cond (has_some (last_only vs)) (option_map (λ _. last_only vs) o) None) (sym (filled name))
+
+    by : (w : Bool) → bytes_eq name (codes "warning") ≡ w
+        → cond w (non_empty (unless_empty (lasting_warnings h))) (cond (w || not (is_spelled spelled name)) (fin.get (end_to_end h) name) None)
+        ≡ cond (has_some (if w then unless_empty (lasting_warnings h) else if is_hop_by_hop name || is_spelled spelled name then [] else last_only (values h name)))
+        (option_map (λ _. if w then unless_empty (lasting_warnings h) else if is_hop_by_hop name || is_spelled spelled name then [] else last_only (values h name)) (fin.get h name)) None
+    by true e =
+        warning (lasting_warnings h) refl
+        ∙ ap (λ (k : List ℕ). cond (has_some (unless_empty (lasting_warnings h))) (option_map (λ _. unless_empty (lasting_warnings h)) (fin.get h k)) None) (sym ((bytes_eq-Decides name (codes "warning")).0 e))
+    by false e =
+        ap (λ o. cond (not (is_spelled spelled name)) o None) (swept h name filled)
+        ∙ other (is_hop_by_hop name) (is_spelled spelled name)
+
+-- the three steps give the headers that are handed on
+pub filtered-is : (h out : Headers) → IsFilled h
+    → out ≡ set_unless_empty (without_spelled (pieces_under h (codes "connection")) (end_to_end h)) (codes "warning") (lasting_warnings h) → out ≡ filtered h
+filtered-is h out filled is =
+    is ∙ same_headers (set_unless_empty (without_spelled (pieces_under h (codes "connection")) (end_to_end h)) (codes "warning") (lasting_warnings h)) (filtered h) (λ name. filtered-at h name filled)
+
+-- before the warnings are set, `warning` is there if it came
+pub warning-stays : (h : Headers) → IsFilled h → (out : Headers) → out ≡ without_spelled (pieces_under h (codes "connection")) (end_to_end h)
+    → holds h (codes "warning") ≡ true → holds out (codes "warning") ≡ true
+unfolding is_hop_by_hop
+warning-stays h filled out is held =
+    ap (λ (g : Headers). is_some (slice_get (unwrap_or (fin.get g (codes "warning")) []) 0)) is
+    ∙ ap (λ o. is_some (slice_get (unwrap_or o []) 0)) (get-without_spelled (pieces_under h (codes "connection")) (end_to_end h) (codes "warning") ∙ swept h (codes "warning") filled)
+    ∙ by (fin.get h (codes "warning")) (filled (codes "warning")) held
+  where
+    some : (ys : List (List ℕ)) → has_some ys ≡ true → is_some (slice_get ys 0) ≡ true
+    some [] e = absurd (true≢false (sym e))
+    some (y ∷ ys) e = refl
+
+    by : (o : Option (List (List ℕ))) → o ≡ non_empty (unwrap_or o []) → is_some (slice_get (unwrap_or o []) 0) ≡ true → is_some (slice_get (unwrap_or (option_map last_only o) []) 0) ≡ true
+    by None f k = k
+    by (Some []) f k = absurd (true≢false (sym k))
+    by (Some (v ∷ vs)) f k = some (last_only (v ∷ vs)) (last-filled (v ∷ vs) (omega arith))
+
+-- ---- what the filter leaves
+
+at_most_one : (h : Headers) (name : List ℕ) → length (handed_on h name) ≤ 1
+at_most_one h name = by (bytes_eq name (codes "warning")) (is_hop_by_hop name || is_spelled (pieces_under h (codes "connection")) name)
+  where
+    alone : (text : List ℕ) → length (unless_empty text) ≤ 1
+    alone [] = omega arith
+    alone (b ∷ bs) = omega arith
+
+    by : (w gone : Bool) → length (if w then unless_empty (lasting_warnings h) else if gone then [] else last_only (values h name)) ≤ 1
+    by true gone = alone (lasting_warnings h)
+    by false true = omega arith
+    by false false = omega (arith, length-drop (length (values h name) - 1) (values h name))
+
+values-filtered : (h : Headers) (name : List ℕ) → (values (filtered h) name ≡ handed_on h name) ⊎ (values (filtered h) name ≡ [])
+unfolding filtered
+values-filtered h name =
+    let at = ap (λ o. unwrap_or o []) (get-with_values (handed_on h) h name) in
+    elim (by (has_some (handed_on h name)) (fin.get h name)) [ inl e ↦ inl (at ∙ e) | inr e ↦ inr (at ∙ e) ]
+  where
+    by : (b : Bool) (o : Option (List (List ℕ))) → (unwrap_or (cond b (option_map (λ _. handed_on h name) o) None) [] ≡ handed_on h name) ⊎ (unwrap_or (cond b (option_map (λ _. handed_on h name) o) None) [] ≡ [])
+    by true None = inr refl
+    by true (Some x) = inl refl
+    by false o = inr refl
+
+-- one value at most under each name
+pub filtered-single : (h : Headers) (name : List ℕ) → length (values (filtered h) name) ≤ 1
+filtered-single h name =
+    elim (values-filtered h name) [ inl e ↦ rw e (at_most_one h name) | inr e ↦ rw e (omega arith) ]
+
+-- no hop-by-hop name
+pub filtered-no_hop : (h : Headers) (name : List ℕ) → is_hop_by_hop name ≡ true → values (filtered h) name ≡ []
+unfolding is_hop_by_hop
+filtered-no_hop h name hop =
+    elim (values-filtered h name) [
+      | inl e ↦ e ∙ by (bytes_eq name (codes "warning")) refl (is_hop_by_hop name) hop
+      | inr e ↦ e
+    ]
+  where
+    by : (w : Bool) → bytes_eq name (codes "warning") ≡ w → (b : Bool) → b ≡ true
+        → (if w then unless_empty (lasting_warnings h) else if b || is_spelled (pieces_under h (codes "connection")) name then [] else last_only (values h name)) ≡ []
+    by true e b k = absurd (true≢false (sym hop ∙ ap is_hop_by_hop ((bytes_eq-Decides name (codes "warning")).0 e)))
+    by false e true k = refl
+    by false e false k = absurd (true≢false (sym k))

@@ -2,7 +2,7 @@
 ghost use Rattle.std.specs.Prelude.{◌≡◌, ℕ, not, List, [], ◌∷◌, ◌++◌, Option, None, Some, option_copied, option_map, MatchOption, IsTrue, IsSome, ◌↔◌, length, slice_get, OnOk, OnErr, IfOk, IsOkUnless, string_bytes};
 ghost use Rattle.std.specs.Iterator.{YieldsFirstRef, item_count};
 ghost use Rattle.http_header.specs.FieldValue.{FieldValue};
-ghost use Rattle.http_cache_semantics.specs.Pieces.{pieces, pieces_of_line, pieces_of_values, pieces_left, pieces_of_rest, text_lines};
+ghost use Rattle.http_cache_semantics.specs.Pieces.{pieces, pieces_of_line, pieces_of_values, pieces_under, pieces_left, pieces_of_rest, text_lines};
 ghost use Rattle.http_header.specs.Token.{lowercase};
 ghost use Rattle.http_cache_semantics.specs.Headers.{headers_of, bytes_of, first_text};
 ghost use Rattle.http_cache_semantics.specs.Directives.{text_under, name_of, raw_value_of, kept_value_of, same_value, value_under, set_directive, has, directives, cache_control};
@@ -63,6 +63,13 @@ pub fn get_all_comma<'a>(all: GetAll<'a, HeaderValue>) -> Commas<'a>
         values: all.iter(),
         rest: None,
     }
+}
+
+/// The pieces of the values under a name.
+pub(crate) fn pieces_under<'a>(headers: &'a HeaderMap, name: &str) -> Commas<'a>
+    ensures { result ≡ pieces_under (headers_of headers.now) (lowercase name.now) }
+{
+    get_all_comma(headers.get_all(name))
 }
 
 // The next value that is text.

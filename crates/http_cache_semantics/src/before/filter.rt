@@ -7,7 +7,7 @@ ghost use Rattle.http_cache_semantics.specs.Filter.{is_hop_by_hop, ChangesAt, Is
 ghost use Rattle.http_cache_semantics.specs.Pieces.{pieces_under};
 ghost use Rattle.http_cache_semantics.specs.Filter.{last_only};
 
-use crate::directives::{Commas, get_all_comma};
+use crate::directives::{Commas, pieces_under};
 use crate::error::CacheError;
 use crate::headers::{copy_of_map, keep_last, put, take_out, value_of};
 use crate::join::join_without;
@@ -73,13 +73,23 @@ fn take_out_spelled(out: &mut HeaderMap, spelled: Commas<'_>)
     }
 }
 
-// Sets `warning` to the warnings that last, or takes it away where there are none.
-fn set_warnings(alloc: Global, out: &mut HeaderMap, headers: &HeaderMap) -> Result<(), CacheError>
-    requires { holds (headers_of headers.now) (codes "warning") ≡ true → holds (headers_of out.old) (codes "warning") ≡ true }
-    ensures ok { OnOk result (headers_of out.new ≡ set_unless_empty (headers_of out.old) (codes "warning") (lasting_warnings (headers_of headers.now))) }
+// The warnings that last, on one line: those that don't begin with `1`.
+fn lasting_warnings(alloc: Global, headers: &HeaderMap) -> Result<String, CacheError>
+    ensures ok { IfOk result (λ line. string_bytes line ≡ lasting_warnings (headers_of headers.now)) }
     ensures only_memory { IsOkUnless result CacheError.Memory }
 {
-    let warnings = join_without(alloc, get_all_comma(headers.get_all("warning")), "1")?;
+    Ok(join_without(alloc, pieces_under(headers, "warning"), "1")?)
+}
+
+// Sets `warning` to the warnings that last, or takes it away where there are none.
+fn set_warnings(alloc: Global, out: &mut HeaderMap, headers: &HeaderMap) -> Result<(), CacheError>
+    requires { holds (headers_of headers.now) (codes "warning") ≡ true
+        → holds (headers_of out.old) (codes "warning") ≡ true }
+    ensures ok { OnOk result (headers_of out.new
+        ≡ set_unless_empty (headers_of out.old) (codes "warning") (lasting_warnings (headers_of headers.now))) }
+    ensures only_memory { IsOkUnless result CacheError.Memory }
+{
+    let warnings = lasting_warnings(alloc, headers)?;
     if warnings.as_str().is_empty() {
         take_out(out, "warning");
         return Ok(());
@@ -95,11 +105,11 @@ pub(crate) fn filter(alloc: Global, headers: &HeaderMap) -> Result<HeaderMap, Ca
     ensures few { IfOk result (λ out. value_count (headers_of out) ≤ 24576) }
     ensures only_memory { IsOkUnless result CacheError.Memory }
 {
-    let mut out = end_to_end(headers)?;
-    take_out_spelled(&mut out, get_all_comma(headers.get_all("connection")));
-    set_warnings(alloc, &mut out, headers)?;
     // The lengths tell the proof that these are header maps.
     let _before = headers.len();
+    let mut out = end_to_end(headers)?;
+    take_out_spelled(&mut out, pieces_under(headers, "connection"));
+    set_warnings(alloc, &mut out, headers)?;
     let _after = out.len();
     Ok(out)
 }
