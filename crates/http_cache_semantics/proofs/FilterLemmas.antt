@@ -18,10 +18,11 @@ use Rattle.http.specs.Method.{is_among}
 use Rattle.http_header.specs.Token.{lowercase}
 use Rattle.http_header.specs.FieldValue.{FieldValue, IsFieldValue}
 use Rattle.http_header.specs.HeaderMap.{Entries, get_all, insert, keys, IsHeaderMap}
-use Rattle.http_cache_semantics.specs.Headers.{Headers, headers_of, entry_of, bytes_of, values, holds, set, set_unless_empty}
+use Rattle.http_cache_semantics.specs.Headers.{Headers, headers_of, entry_of, bytes_of, values, holds, set, set_unless_empty, ChangesUnder, last_only}
 use Rattle.http_cache_semantics.specs.Pieces.{pieces_under, pieces_of_values, join}
 use Rattle.http_cache_semantics.proofs.JoinLemmas.{join-text, pieces-text}
-use Rattle.http_cache_semantics.specs.Filter.{is_hop_by_hop, is_spelled, last_only, unless_empty, lasting_warnings, handed_on, has_some, with_values, filtered, end_to_end, without_spelled, kept_values, ChangesAt}
+use Rattle.http_cache_semantics.specs.Filter.{is_hop_by_hop, is_spelled, unless_empty, lasting_warnings, handed_on, has_some, with_values, filtered, end_to_end, without_spelled, kept_values}
+use Rattle.http_cache_semantics.proofs.SweepLemmas.{IsSettling, IsSwept, IsSwept-end}
 use Rattle.http_cache_semantics.proofs.HeadersLemmas.{by_name, ties, get-headers_of, values-headers_of, headers_of-insert, same_headers, non_empty}
 
 -- ---- one name
@@ -71,7 +72,7 @@ keep_some h m name front v valid ends is other =
     ]
 
 -- to take a hop-by-hop name away is what the sweep does there
-pub drop_changes : (h : Headers) (name : List ℕ) → is_hop_by_hop name ≡ true → ChangesAt name h (fin.remove h name)
+pub drop_changes : (h : Headers) (name : List ℕ) → is_hop_by_hop name ≡ true → ChangesUnder name (kept_values name) h (fin.remove h name)
 drop_changes h name hop other =
     fin.get-remove nat_list_cmp_total h name other
     ∙ rw (ties other name)
@@ -133,10 +134,6 @@ last-kept (v ∷ vs) = rw (last-filled (v ∷ vs) (omega arith)) refl
 
 -- ---- the sweep
 
--- a name is done where it has what the filter leaves, and still to come where it stands in the list and is untouched
-abbrev pub IsSwept : Headers → Headers → List (List ℕ) → List ℕ → Type 0
-IsSwept h out rest name = (fin.get out name ≡ kept_values name (fin.get h name)) ⊎ ((is_among rest name ≡ true) × (fin.get out name ≡ fin.get h name))
-
 pub last_only-twice : (xs : List (List ℕ)) → last_only (last_only xs) ≡ last_only xs
 last_only-twice xs =
     let e : length (last_only xs) - 1 ≡ 0 = omega (arith, length-drop (length xs - 1) xs) in
@@ -147,56 +144,13 @@ twice true o = refl
 twice false None = refl
 twice false (Some xs) = ap Some (last_only-twice xs)
 
-none_kept : (b : Bool) → None ≡ cond b None (option_map last_only None)
+none_kept : (b : Bool) → cond b None (option_map last_only None) ≡ None
 none_kept true = refl
 none_kept false = refl
 
-find-missing : (m : Entries FieldValue) (name : List ℕ) → is_among (keys m) name ≡ false → fin.find by_name name (map entry_of m) ≡ None
-find-missing [] name h = refl
-find-missing (e ∷ m) name h =
-    elim (cases_Bool (bytes_eq name e.0)) [
-      | inl t ↦ let no : true ≡ false = rw t at h in cc
-      | inr f ↦
-          let rest : is_among (keys m) name ≡ false = rw f at h in
-          let apart : eq_by_cmp by_name name e.0 ≡ false = ties name e.0 ∙ (nat_list_eq_equiv.symm e.0 name ∙ f) in
-          rw apart (find-missing m name rest)
-    ]
-
-pub get-missing : (m : Entries FieldValue) (name : List ℕ) → is_among (keys m) name ≡ false → fin.get (headers_of m) name ≡ None
-get-missing m name f = fin.get-from_entries nat_list_cmp_total (map entry_of m) name ∙ find-missing m name f
-
--- a turn of the sweep
-pub IsSwept-turn : (h old new : Headers) (next : List ℕ) (rest : List (List ℕ)) → ((name : List ℕ) → IsSwept h old (next ∷ rest) name) → ChangesAt next old new
-    → (name : List ℕ) → IsSwept h new rest name
-IsSwept-turn h old new next rest before changes name =
-    elim (cases_Bool (bytes_eq next name)) [
-      | inl t ↦
-          let same : next ≡ name = (bytes_eq-Decides next name).0 t in
-          let now : fin.get new name ≡ kept_values name (fin.get old name) = (rw t at (changes name)) ∙ ap (λ (k : List ℕ). kept_values k (fin.get old name)) same in
-          inl (now ∙ elim (before name) [
-            | inl done ↦ ap (kept_values name) done ∙ twice (is_hop_by_hop name) (fin.get h name)
-            | inr x ↦ ap (kept_values name) x.1
-          ])
-      | inr f ↦
-          let now : fin.get new name ≡ fin.get old name = rw f at (changes name) in
-          elim (before name) [
-            | inl done ↦ inl (now ∙ done)
-            | inr x ↦
-                let other : bytes_eq name next ≡ false = nat_list_eq_equiv.symm name next ∙ f in
-                let among : is_among rest name ≡ true = rw other at x.0 in
-                inr (among, now ∙ x.1)
-          ]
-    ]
-
--- before the sweep each name of the map is still to come
-pub IsSwept-start : (m : Entries FieldValue) (name : List ℕ) → IsSwept (headers_of m) (headers_of m) (keys m) name
-IsSwept-start m name =
-    elim (cases_Bool (is_among (keys m) name)) [
-      | inl t ↦ inr (t, refl)
-      | inr f ↦
-          let none : fin.get (headers_of m) name ≡ None = fin.get-from_entries nat_list_cmp_total (map entry_of m) name ∙ find-missing m name f in
-          inl (none ∙ (none_kept (is_hop_by_hop name) ∙ sym (ap (kept_values name) none)))
-    ]
+-- what the sweep does is done once and for all
+pub sweep-settles : IsSettling kept_values
+sweep-settles = record { again = λ name o. twice (is_hop_by_hop name) o; nothing = λ name. none_kept (is_hop_by_hop name) }
 
 -- what the sweep leaves under a name
 swept : (h : Headers) (name : List ℕ) → IsFilled h → fin.get (end_to_end h) name ≡ kept_values name (fin.get h name)
@@ -211,10 +165,9 @@ swept h name filled =
         ap (λ o. cond (has_some (last_only vs)) (option_map (λ _. last_only vs) o) None) (filled name) ∙ sym (last-kept vs) ∙ ap (option_map last_only) (sym (filled name))
 
 -- after it the headers are those without hop-by-hop names
-pub IsSwept-end : (h out : Headers) → IsFilled h → ((name : List ℕ) → IsSwept h out [] name) → out ≡ end_to_end h
-IsSwept-end h out filled done =
-    same_headers out (end_to_end h)
-    (λ name. elim (done name) [ inl e ↦ e ∙ sym (swept h name filled) | inr x ↦ let no : false ≡ true = x.0 in cc ])
+pub end_to_end-by_sweep : (h out : Headers) → IsFilled h → ((name : List ℕ) → IsSwept kept_values h out [] name) → out ≡ end_to_end h
+end_to_end-by_sweep h out filled done =
+    same_headers out (end_to_end h) (λ name. IsSwept-end kept_values sweep-settles h out done name ∙ sym (swept h name filled))
 
 -- ---- the names that Connection spells
 

@@ -1,6 +1,6 @@
 -- What is kept of a response stays as it is when it is kept again.
-use Rattle.std.proofs.Common.{◌≡◌, ℕ, Bool, true, false, cond, not, ◌&&◌, List, [], ◌∷◌, length, Option, Some, None, is_some, unwrap_or, slice_get, if◌then◌else◌, refl, sym, ap, ◌∙◌, subst, bytes_eq, codes, true≢false}
-use Rattle.std.specs.Ordering.{nat_cmp}
+use Rattle.std.proofs.Common.{◌≡◌, ℕ, Bool, true, false, cond, not, ◌&&◌, List, [], ◌∷◌, length, Option, Some, None, is_some, unwrap_or, slice_get, if◌then◌else◌, refl, sym, ap, ◌∙◌, inl, inr, subst, bytes_eq, codes, true≢false}
+use Rattle.std.specs.Ordering.{nat_cmp, eq_by_cmp}
 use Rattle.std.specs.Cmp.Lexicographic.{nat_list_cmp_total}
 use Rattle.std.specs.FinMap as fin
 use Rattle.std.proofs.lemmas.Bool.{cases_Bool}
@@ -14,7 +14,8 @@ use Rattle.http_cache_semantics.specs.Written.{written}
 use Rattle.http_cache_semantics.specs.CargoCult.{is_cargo_cult, has_cargo_cult, without_cargo_cult}
 use Rattle.http_cache_semantics.specs.Exchange.{Exchange}
 use Rattle.http_cache_semantics.specs.Kept.{with_line_alone, kept_response, kept}
-use Rattle.http_cache_semantics.proofs.HeadersLemmas.{by_name, ties, values-set_same}
+use Rattle.http_cache_semantics.proofs.HeadersLemmas.{by_name, ties, values-set_same, values-set_other}
+use Rattle.http_cache_semantics.proofs.TrimLemmas.{and-left, and-right}
 use Rattle.http_cache_semantics.proofs.ReadableLemmas.{directives-written, visible-written}
 use Rattle.http_cache_semantics.proofs.AreDirectivesLemmas.{AreDirectives-filter, AreDirectives-cache_control}
 
@@ -23,6 +24,16 @@ use Rattle.http_cache_semantics.proofs.AreDirectivesLemmas.{AreDirectives-filter
 values-remove_other : (h : Headers) (name other : List ℕ) → bytes_eq name other ≡ false → values (fin.remove h name) other ≡ values h other
 values-remove_other h name other apart =
     ap (λ o. unwrap_or o []) (fin.get-remove nat_list_cmp_total h name other) ∙ rw (ties other name, apart) refl
+
+get-remove_none : (h : Headers) (name other : List ℕ) → fin.get h other ≡ None → fin.get (fin.remove h name) other ≡ None
+get-remove_none h name other none = fin.get-remove nat_list_cmp_total h name other ∙ by (eq_by_cmp by_name other name)
+  where
+    by : (b : Bool) → cond b None (fin.get h other) ≡ None
+    by true = refl
+    by false = none
+
+get-set_other : (h : Headers) (name value other : List ℕ) → bytes_eq name other ≡ false → fin.get (set h name value) other ≡ fin.get h other
+get-set_other h name value other apart = fin.get-insert nat_list_cmp_total h name (value ∷ []) other ∙ rw (ties other name, apart) refl
 
 values-with_line_alone : (h : Headers) (line : List ℕ) → values (with_line_alone h line) (codes "cache-control") ≡ line ∷ []
 values-with_line_alone h line =
@@ -74,6 +85,47 @@ read_again h =
     let ds = without_cargo_cult (cache_control h) in
     let valid : AreDirectives ds = AreDirectives-filter (λ d. not (is_cargo_cult d.0)) (cache_control h) (AreDirectives-cache_control h) in
     cache_control-with_line_alone h (written ds) (visible-written ds valid.each) ∙ directives-written ds valid
+
+-- ---- the other names
+
+-- what is kept has no new name
+pub kept_response-adds_none : (ignores : Bool) (h : Headers) (name : List ℕ) → fin.get h name ≡ None → fin.get (kept_response ignores h) name ≡ None
+kept_response-adds_none ignores h name none = by (ignores && has_cargo_cult (cache_control h)) refl
+  where
+    line : List ℕ
+    line = written (without_cargo_cult (cache_control h))
+
+    cc_there : (ignores && has_cargo_cult (cache_control h)) ≡ true → bytes_eq (codes "cache-control") name ≡ false
+    cc_there marks = elim (cases_Bool (bytes_eq (codes "cache-control") name)) [
+      | inl same ↦
+          let here : fin.get h (codes "cache-control") ≡ None = subst (λ (k : List ℕ). fin.get h k ≡ None) (sym ((bytes_eq-Decides (codes "cache-control") name).0 same)) none in
+          let held = holds-from_has h (codes "pre-check") (and-left (has (cache_control h) (codes "pre-check")) _ (and-right ignores _ marks)) in
+          absurd (true≢false (sym held ∙ ap (λ o. is_some (slice_get (unwrap_or o []) 0)) here))
+      | inr f ↦ f
+    ]
+
+    by : (b : Bool) → (ignores && has_cargo_cult (cache_control h)) ≡ b → fin.get (if b then with_line_alone h line else h) name ≡ None
+    by false e = none
+    by true e =
+        let first = set h (codes "cache-control") line in
+        get-remove_none (fin.remove first (codes "expires")) (codes "pragma") name
+        (get-remove_none first (codes "expires") name (get-set_other h (codes "cache-control") line name (cc_there e) ∙ none))
+
+-- names that cargo cult doesn't touch keep their values
+pub kept_response-other : (ignores : Bool) (h : Headers) (name : List ℕ) → bytes_eq (codes "cache-control") name ≡ false → bytes_eq (codes "expires") name ≡ false → bytes_eq (codes "pragma") name ≡ false
+    → values (kept_response ignores h) name ≡ values h name
+kept_response-other ignores h name not_control not_expires not_pragma = by (ignores && has_cargo_cult (cache_control h))
+  where
+    line : List ℕ
+    line = written (without_cargo_cult (cache_control h))
+
+    by : (b : Bool) → values (if b then with_line_alone h line else h) name ≡ values h name
+    by false = refl
+    by true =
+        let first = set h (codes "cache-control") line in
+        values-remove_other (fin.remove first (codes "expires")) (codes "pragma") name not_pragma
+        ∙ values-remove_other first (codes "expires") name not_expires
+        ∙ values-set_other h (codes "cache-control") line name not_control
 
 kept_response-settled : (ignores : Bool) (h : Headers) → kept_response ignores (kept_response ignores h) ≡ kept_response ignores h
 kept_response-settled ignores h = by (ignores && has_cargo_cult (cache_control h)) refl

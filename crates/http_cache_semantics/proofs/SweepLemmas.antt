@@ -1,6 +1,7 @@
 -- Sweeps over the names of a header map that change what stands under each.
 use Rattle.std.proofs.Common.{◌≡◌, ◌≢◌, ◌⊎◌, ℕ, Bool, Bor, map, slice_get, is_some, true≢false, true, false, List, [], ◌∷◌, cond, if◌then◌else◌, bytes_eq, Option, Some, None, option_map, refl, sym, ap, subst, ◌∙◌, inl, inr}
 use Rattle.std.specs.FinMap as fin
+use Rattle.std.specs.Ordering.{eq_by_cmp}
 use Rattle.std.specs.Cmp.Lexicographic.{nat_list_cmp_total, nat_list_eq_equiv}
 use Rattle.std.proofs.lemmas.Bool.{cases_Bool}
 use Rattle.std.proofs.lemmas.Slice.Eq.{bytes_eq-Decides}
@@ -8,9 +9,8 @@ use Rattle.http.specs.Method.{is_among}
 use Rattle.http_header.specs.FieldValue.{FieldValue}
 use Rattle.http_header.specs.HeaderMap.{Entries, keys, get, get_all, IsHeaderMap}
 use Rattle.std.specs.Prelude.{option_copied}
-use Rattle.http_cache_semantics.specs.Headers.{Headers, headers_of, set, ChangesUnder}
-use Rattle.http_cache_semantics.proofs.HeadersLemmas.{ties, get-headers_of, non_empty}
-use Rattle.http_cache_semantics.proofs.FilterLemmas.{get-missing}
+use Rattle.http_cache_semantics.specs.Headers.{Headers, headers_of, entry_of, set, ChangesUnder}
+use Rattle.http_cache_semantics.proofs.HeadersLemmas.{by_name, ties, get-headers_of, non_empty}
 
 copied : (o : Option (Bor FieldValue)) → is_some (option_copied o) ≡ is_some o
 copied None = refl
@@ -96,6 +96,21 @@ module _ (change : List ℕ → Option (List (List ℕ)) → Option (List (List 
   -- after the sweep the change is made under each name
   pub IsSwept-end : (out : Headers) → ((name : List ℕ) → IsSwept change h out [] name) → (name : List ℕ) → fin.get out name ≡ change name (fin.get h name)
   IsSwept-end out swept name = elim (swept name) [ inl done ↦ done | inr x ↦ let no : false ≡ true = x.0 in cc ]
+
+find-missing : (m : Entries FieldValue) (name : List ℕ) → is_among (keys m) name ≡ false → fin.find by_name name (map entry_of m) ≡ None
+find-missing [] name h = refl
+find-missing (e ∷ m) name h =
+    elim (cases_Bool (bytes_eq name e.0)) [
+      | inl t ↦ let no : true ≡ false = rw t at h in cc
+      | inr f ↦
+          let rest : is_among (keys m) name ≡ false = rw f at h in
+          let apart : eq_by_cmp by_name name e.0 ≡ false = ties name e.0 ∙ (nat_list_eq_equiv.symm e.0 name ∙ f) in
+          rw apart (find-missing m name rest)
+    ]
+
+-- a name that isn't among those of a map has nothing under it
+get-missing : (m : Entries FieldValue) (name : List ℕ) → is_among (keys m) name ≡ false → fin.get (headers_of m) name ≡ None
+get-missing m name f = fin.get-from_entries nat_list_cmp_total (map entry_of m) name ∙ find-missing m name f
 
 -- before the sweep each name of the map is still to come
 pub IsSwept-start : (change : List ℕ → Option (List (List ℕ)) → Option (List (List ℕ))) → IsSettling change → (m : Entries FieldValue) (name : List ℕ)

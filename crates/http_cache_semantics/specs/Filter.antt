@@ -6,7 +6,7 @@ use Rattle.http_header.specs.Token.{lowercase}
 use Rattle.http.specs.Method.{is_among}
 use Rattle.http_header.specs.FieldValue.{FieldValue}
 use Rattle.http_cache_semantics.specs.Text.{begins_with}
-use Rattle.http_cache_semantics.specs.Headers.{Headers, values}
+use Rattle.http_cache_semantics.specs.Headers.{Headers, values, last_only}
 use Rattle.http_cache_semantics.specs.Pieces.{pieces_under, join}
 
 -- names that speak of one connection alone, and Date, which is told anew
@@ -30,10 +30,6 @@ is_hop_by_hop name = is_among hop_by_hop name
 -- one of the texts spells the name, in any case
 abbrev pub is_spelled : List (List ℕ) → List ℕ → Bool
 is_spelled texts name = list_any (λ text. bytes_eq (lowercase text) name) texts
-
--- the last value alone
-abbrev pub last_only : List (List ℕ) → List (List ℕ)
-last_only values = drop (length values - 1) values
 
 -- a text alone, or none where it is empty
 abbrev pub unless_empty : List ℕ → List (List ℕ)
@@ -77,12 +73,3 @@ without_spelled texts h = fin.retain_keys h (λ name. bytes_eq name (codes "warn
 -- what a sweep over the names does to the values of one
 abbrev pub kept_values : List ℕ → Option (List (List ℕ)) → Option (List (List ℕ))
 kept_values name values = if is_hop_by_hop name then None else option_map last_only values
-
--- the same headers, but under one name
-abbrev pub ChangesAt : List ℕ → Headers → Headers → Type 0
-ChangesAt name old new = (other : List ℕ) → fin.get new other ≡ (if bytes_eq name other then kept_values name (fin.get old other) else fin.get old other)
-
--- v ends the list
-pub record IsLast (values : List FieldValue) (v : FieldValue) : Type 0 where
-  pub front : List FieldValue
-  pub is : values ≡ front ++ v ∷ []

@@ -1,5 +1,5 @@
 -- Headers: a finite map from names in lower case to their values, where the order of names does not count.
-use Rattle.std.specs.Prelude.{◌≡◌, ℕ, ◌+◌, ◌^◌, ◌≤◌, ◌⊎◌, List, [], ◌∷◌, ◌++◌, length, map, Option, Some, None, bytes_eq, Bool, ◌&&◌, nat_lt, nat_le, if◌then◌else◌, is_some, option_and_then, slice_get, sum_by, unwrap_or}
+use Rattle.std.specs.Prelude.{◌≡◌, ℕ, ◌+◌, ◌-◌, drop, ◌^◌, ◌≤◌, ◌⊎◌, List, [], ◌∷◌, ◌++◌, length, map, Option, Some, None, bytes_eq, Bool, ◌&&◌, nat_lt, nat_le, if◌then◌else◌, is_some, option_and_then, slice_get, sum_by, unwrap_or}
 use Rattle.std.specs.Ordering.{nat_cmp}
 use Rattle.std.specs.Cmp.Lexicographic.{slice_cmp}
 use Rattle.std.specs.Coded.{Coded, coded_list, coded_ℕ}
@@ -64,6 +64,15 @@ added h name value = fin.insert h name (values h name ++ value ∷ [])
 abbrev pub set_unless_empty : Headers → List ℕ → List ℕ → Headers
 set_unless_empty h name [] = fin.remove h name
 set_unless_empty h name (b ∷ bs) = set h name (b ∷ bs)
+
+-- the last value alone
+abbrev pub last_only : List (List ℕ) → List (List ℕ)
+last_only values = drop (length values - 1) values
+
+-- v ends the list
+pub record IsLast (values : List FieldValue) (v : FieldValue) : Type 0 where
+  pub front : List FieldValue
+  pub is : values ≡ front ++ v ∷ []
 
 -- the same headers, but that what stands under one name is changed
 abbrev pub ChangesUnder : List ℕ → (Option (List (List ℕ)) → Option (List (List ℕ))) → Headers → Headers → Type 0

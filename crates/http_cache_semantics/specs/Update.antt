@@ -2,8 +2,8 @@
 use Rattle.std.specs.Prelude.{ℕ, ℤ, Bool, List, [], ◌∷◌, codes, Option, Some, None, if◌then◌else◌}
 use Rattle.http.specs.Method.{is_among}
 use Rattle.http_uri.specs.declared.uri.Uri.{Uri}
-use Rattle.http_cache_semantics.specs.Headers.{Headers, first, values}
-use Rattle.http_cache_semantics.specs.Filter.{last_only, with_values}
+use Rattle.http_cache_semantics.specs.Headers.{Headers, first, values, last_only}
+use Rattle.http_cache_semantics.specs.Filter.{with_values}
 use Rattle.http_cache_semantics.specs.Exchange.{Exchange}
 use Rattle.http_cache_semantics.specs.Kept.{kept}
 use Rattle.http_cache_semantics.specs.Selection.{is_selected}
@@ -34,10 +34,9 @@ renewed None old = last_only old
 unfoldable pub renewed_headers : Headers → Headers → Headers
 renewed_headers old new = with_values (λ name. renewed (new_value new name) (values old name)) old
 
--- the exchange after a response came for a request at a moment: the new one, or, where it says that the stored response still holds, that one's status and headers renewed
-unfoldable pub next : Exchange → Uri → List ℕ → Headers → ℕ → Headers → ℤ → Exchange
-next e target method request status response moment =
-    let selected = is_selected e.response status response in
+-- the exchange after a response came for a request at a moment: the new one, or, where the stored response is selected, that one's status and headers renewed
+unfoldable pub next_where : Bool → Exchange → Uri → List ℕ → Headers → ℕ → Headers → ℤ → Exchange
+next_where selected e target method request status response moment =
     kept (record {
       target = target;
       method = method;
@@ -47,3 +46,8 @@ next e target method request status response moment =
       options = e.options;
       moment = moment;
     })
+
+-- the same, by whether the response says that the stored one still holds
+abbrev pub next : Exchange → Uri → List ℕ → Headers → ℕ → Headers → ℤ → Exchange
+next e target method request status response moment =
+    next_where (is_selected e.response status response) e target method request status response moment

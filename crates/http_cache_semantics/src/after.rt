@@ -1,9 +1,11 @@
 //! What is stored after the origin has answered.
-ghost use Rattle.std.specs.Prelude.{◌≡◌, ◌≢◌, ℕ, List, [], true, length, if◌then◌else◌, IfOk, IsErrOf, IsOkUnless};
+ghost use Rattle.std.specs.Prelude.{◌≡◌, ◌≢◌, ℕ, List, None, true, length, if◌then◌else◌, IfOk, IsErrOf, IsOkUnless};
+ghost use Rattle.std.specs.FinMap as fin;
 ghost use Rattle.http_cache_semantics.specs.Headers.{headers_of, values};
 ghost use Rattle.http_cache_semantics.specs.Kept.{kept};
 ghost use Rattle.http_cache_semantics.specs.Fresh.{IsFreshHeaders, RefusesFreshHeaders, HasNoDate};
 ghost use Rattle.http_cache_semantics.specs.Selection.{is_selected};
+ghost use Rattle.http_cache_semantics.specs.Answer.{is_not_modified, policy_in, parts_in};
 ghost use Rattle.http_cache_semantics.specs.Update.{is_of_body, renewed_headers, next};
 
 mod selection;
@@ -27,9 +29,30 @@ pub enum AfterResponse {
     Modified(CachePolicy, response::Parts),
 }
 
-impl CachePolicy {
-    ghost use Rattle.http_cache_semantics.specs.Answer.{is_not_modified, policy_in, parts_in};
+// The answer that gives a policy away.
+fn answered(
+    alloc: Global,
+    selected: bool,
+    policy: CachePolicy,
+    now: Timestamp,
+) -> Result<AfterResponse, CacheError>
+    ensures selected { IfOk result (λ answer. is_not_modified answer ≡ selected) }
+    ensures policy { IfOk result (λ answer. policy_in answer ≡ policy) }
+    ensures status { IfOk result (λ answer. (parts_in answer).status ≡ policy.status) }
+    ensures headers { IfOk result (λ answer. IsFreshHeaders policy now.nanosecond (headers_of (parts_in answer).headers)) }
+    ensures full { IsErrOf result CacheError.HeaderMapFull → RefusesFreshHeaders policy now.nanosecond }
+    ensures unprintable { IsErrOf result CacheError.DateNotPrintable → HasNoDate policy now.nanosecond }
+    ensures no_other { result ≢ Err CacheError.Malformed }
+{
+    let parts = policy.fresh_parts(alloc, now)?;
+    Ok(if selected {
+        AfterResponse::NotModified(policy, parts)
+    } else {
+        AfterResponse::Modified(policy, parts)
+    })
+}
 
+impl CachePolicy {
     /// The policy after a response came for a request, and its headers as they go to the client
     /// (RFC 7234, section 4.3.4). `NotModified` comes exactly where the response is a 304 that the
     /// validators tell to be of the stored response.
@@ -50,7 +73,7 @@ impl CachePolicy {
         ensures headers { IfOk result (λ answer. IsFreshHeaders (policy_in answer) response_time.nanosecond (headers_of (parts_in answer).headers)) }
         ensures keeps_status { IfOk result (λ answer. is_not_modified answer ≡ true → (policy_in answer).status ≡ self.now.status) }
         ensures adds_no_name { IfOk result (λ answer. is_not_modified answer ≡ true → (name : List ℕ)
-            → values self.now.response name ≡ [] → values (policy_in answer).response name ≡ []) }
+            → fin.get self.now.response name ≡ None → fin.get (policy_in answer).response name ≡ None) }
         ensures keeps_body { IfOk result (λ answer. is_not_modified answer ≡ true → (name : List ℕ)
             → is_of_body name ≡ true → length (values self.now.response name) ≡ 1
             → values (policy_in answer).response name ≡ values self.now.response name) }
@@ -67,12 +90,7 @@ impl CachePolicy {
         );
         let stored = self.stored_after(selected, response)?;
         let policy = self.policy_after(alloc, request, stored, response_time)?;
-        let parts = policy.fresh_parts(alloc, response_time)?;
-        if selected {
-            Ok(AfterResponse::NotModified(policy, parts))
-        } else {
-            Ok(AfterResponse::Modified(policy, parts))
-        }
+        answered(alloc, selected, policy, response_time)
     }
 
     // The status and headers of the new response, or those of the stored one that it renews.

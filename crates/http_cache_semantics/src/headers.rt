@@ -3,8 +3,7 @@ ghost use Rattle.std.specs.Prelude.{◌≡◌, ◌⊎◌, [], option_map, MatchO
 ghost use Rattle.std.specs.FinMap as fin;
 ghost use Rattle.http_header.specs.Token.{lowercase};
 ghost use Rattle.http_header.specs.FieldValue.{IsFieldValue, plain_value};
-ghost use Rattle.http_cache_semantics.specs.Headers.{headers_of, first, is_name, first_under, holds, set, added, RefusesName, RefusesValue, ChangesUnder};
-ghost use Rattle.http_cache_semantics.specs.Filter.{IsLast, last_only};
+ghost use Rattle.http_cache_semantics.specs.Headers.{headers_of, first, is_name, first_under, holds, set, added, RefusesName, RefusesValue, ChangesUnder, IsLast, last_only};
 ghost use Rattle.http_header.specs.HeaderMap.{get_all};
 ghost use Rattle.http_cache_semantics.specs.Directives.{same_value};
 

@@ -1,11 +1,8 @@
 //! The headers that a cache hands on (RFC 7230, section 6.1, and RFC 7234, section 5.5).
-ghost use Rattle.std.specs.Prelude.{◌≡◌, ℕ, ◌≤◌, List, [], true, bytes_eq, codes, if◌then◌else◌, option_map, MatchOption, IfOk, OnOk, IsOkUnless, string_bytes};
-ghost use Rattle.std.specs.FinMap as fin;
-ghost use Rattle.http_header.specs.HeaderMap.{get_all};
-ghost use Rattle.http_cache_semantics.specs.Headers.{headers_of, holds, set_unless_empty, value_count};
-ghost use Rattle.http_cache_semantics.specs.Filter.{is_hop_by_hop, ChangesAt, IsLast, end_to_end, without_spelled, lasting_warnings, filtered};
+ghost use Rattle.std.specs.Prelude.{◌≡◌, ◌≤◌, true, codes, IfOk, OnOk, IsOkUnless, string_bytes};
+ghost use Rattle.http_cache_semantics.specs.Headers.{headers_of, holds, set_unless_empty, ChangesUnder, value_count};
+ghost use Rattle.http_cache_semantics.specs.Filter.{is_hop_by_hop, kept_values, end_to_end, without_spelled, lasting_warnings, filtered};
 ghost use Rattle.http_cache_semantics.specs.Pieces.{pieces_under};
-ghost use Rattle.http_cache_semantics.specs.Filter.{last_only};
 
 use crate::directives::{Commas, pieces_under};
 use crate::error::CacheError;
@@ -36,7 +33,7 @@ fn is_hop_by_hop(name: &HeaderName) -> bool
 
 // Takes a name away that speaks of one connection alone, and leaves another its last value.
 fn sweep(map: &mut HeaderMap, name: &HeaderName) -> Result<(), CacheError>
-    ensures ok { OnOk result (ChangesAt name.now (headers_of map.old) (headers_of map.new)) }
+    ensures ok { OnOk result (ChangesUnder name.now (kept_values name.now) (headers_of map.old) (headers_of map.new)) }
     ensures only_memory { IsOkUnless result CacheError.Memory }
 {
     if is_hop_by_hop(name) {

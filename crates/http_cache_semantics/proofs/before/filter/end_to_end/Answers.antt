@@ -2,7 +2,9 @@ use Rattle.std.proofs.Common.{◌≡◌, ◌∷◌, ℕ, List, sym, subst, ◌�
 use Rattle.http_header.specs.FieldValue.{FieldValue}
 use Rattle.http_header.specs.HeaderMap.{Entries, keys}
 use Rattle.http_cache_semantics.specs.Headers.{headers_of}
-use Rattle.http_cache_semantics.proofs.FilterLemmas.{IsSwept, IsSwept-start, IsSwept-turn, IsSwept-end, filled-headers_of}
+use Rattle.http_cache_semantics.specs.Filter.{kept_values}
+use Rattle.http_cache_semantics.proofs.SweepLemmas.{IsSwept, IsSwept-start, IsSwept-turn}
+use Rattle.http_cache_semantics.proofs.FilterLemmas.{sweep-settles, end_to_end-by_sweep, filled-headers_of}
 use Rattle.http_cache_semantics.proofs.before.filter.end_to_end.Goals as goal
 
 pub loop-name-init : goal.loop-name-init
@@ -10,19 +12,19 @@ loop-name-init c =
     let m = c.args.headers.now in
     let rest : keys m ≡ c.into_iter-name-iterator.result = sym (c.into_iter-name-iterator.ensures.into_iter_gives ∙ c.keys-name-items.ensures.value) in
     let same : m ≡ c.in_ok-out.out = sym c.in_ok-out.ensures.value in
-    λ name. subst (λ (xs : List (List ℕ)). IsSwept (headers_of m) (headers_of c.in_ok-out.out) xs name) rest
-    (subst (λ (k : Entries FieldValue). IsSwept (headers_of m) (headers_of k) (keys m) name) same (IsSwept-start m name))
+    λ name. subst (λ (xs : List (List ℕ)). IsSwept kept_values (headers_of m) (headers_of c.in_ok-out.out) xs name) rest
+    (subst (λ (k : Entries FieldValue). IsSwept kept_values (headers_of m) (headers_of k) (keys m) name) same (IsSwept-start kept_values sweep-settles m name))
 
 pub loop-name-preserved : goal.loop-name-preserved
 loop-name-preserved c =
     let h = headers_of c.args.headers.now in
     let old = headers_of c.loop-name.out in
-    let before : (name : List ℕ) → IsSwept h old (c.in-Some.name.now ∷ c.next.new.self) name =
-    subst (λ (xs : List (List ℕ)). (name : List ℕ) → IsSwept h old xs name) c.in-Some.ensures.steps c.loop-name.invariant in
-    IsSwept-turn h old (headers_of c.sweep.new.map) c.in-Some.name.now c.next.new.self before c.in_ok-sweep.ensures.ok
+    let before : (name : List ℕ) → IsSwept kept_values h old (c.in-Some.name.now ∷ c.next.new.self) name =
+    subst (λ (xs : List (List ℕ)). (name : List ℕ) → IsSwept kept_values h old xs name) c.in-Some.ensures.steps c.loop-name.invariant in
+    IsSwept-turn kept_values sweep-settles h old (headers_of c.sweep.new.map) c.in-Some.name.now c.next.new.self before c.in_ok-sweep.ensures.ok
 
 pub returns-clause-ok : goal.returns-clause-ok
 returns-clause-ok c =
     let m = c.args.headers.now in
     let out = headers_of c.loop-name.out in
-    IsSwept-end (headers_of m) out (filled-headers_of m c.len-length.ensures.valid) (subst (λ (xs : List (List ℕ)). (name : List ℕ) → IsSwept (headers_of m) out xs name) c.in-None.ensures.steps.0 c.loop-name.invariant)
+    end_to_end-by_sweep (headers_of m) out (filled-headers_of m c.len-length.ensures.valid) (subst (λ (xs : List (List ℕ)). (name : List ℕ) → IsSwept kept_values (headers_of m) out xs name) c.in-None.ensures.steps.0 c.loop-name.invariant)
