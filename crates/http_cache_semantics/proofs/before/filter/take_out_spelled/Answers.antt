@@ -16,15 +16,21 @@ loop-name-preserved-then-eq_ignore_ascii_case c =
     let seen = map (λ (y : Bor (List ℕ)). y.now) c.loop-name.yielded in
     let text = c.in-Some.name.now in
     let h = headers_of c.args.out.now in
-    let same : lowercase text ≡ codes "warning" = c.eq_ignore_ascii_case.ensures.test.0 c.if-eq_ignore_ascii_case.true in
-    (tt, tt, c.loop-name.invariant.2 ∙ spelled-warning seen text h same
-    ∙ ap (λ (ts : List (List ℕ)). without_spelled ts h) (sym (map-append (λ (y : Bor (List ℕ)). y.now) c.loop-name.yielded (c.in-Some.name ∷ []))))
+    let same : lowercase text ≡ codes "warning" = c.eq_ignore_ascii_case.ensures.test.0 c.if-eq_ignore_ascii_case.true in (
+      tt,
+      tt,
+      c.loop-name.invariant.2 ∙ spelled-warning seen text h same
+          ∙ ap (λ (ts : List (List ℕ)). without_spelled ts h) (sym (map-append (λ (y : Bor (List ℕ)). y.now) c.loop-name.yielded (c.in-Some.name ∷ []))),
+    )
 
 pub loop-name-preserved : goal.loop-name-preserved
 loop-name-preserved c =
     let seen = map (λ (y : Bor (List ℕ)). y.now) c.loop-name.yielded in
     let text = c.in-Some.name.now in
     let h = headers_of c.args.out.now in
-    let apart : lowercase text ≢ codes "warning" = λ same. true≢false (sym (c.eq_ignore_ascii_case.ensures.test.1 same) ∙ c.if-eq_ignore_ascii_case.false) in
-    (tt, tt, c.take_out.ensures ∙ ap (λ (g : Headers). fin.remove g (lowercase text)) c.loop-name.invariant.2 ∙ spelled-other seen text h apart
-    ∙ ap (λ (ts : List (List ℕ)). without_spelled ts h) (sym (map-append (λ (y : Bor (List ℕ)). y.now) c.loop-name.yielded (c.in-Some.name ∷ []))))
+    let apart : lowercase text ≢ codes "warning" = λ same. true≢false (sym (c.eq_ignore_ascii_case.ensures.test.1 same) ∙ c.if-eq_ignore_ascii_case.false) in (
+      tt,
+      tt,
+      c.take_out.ensures ∙ ap (λ (g : Headers). fin.remove g (lowercase text)) c.loop-name.invariant.2 ∙ spelled-other seen text h apart
+          ∙ ap (λ (ts : List (List ℕ)). without_spelled ts h) (sym (map-append (λ (y : Bor (List ℕ)). y.now) c.loop-name.yielded (c.in-Some.name ∷ []))),
+    )
