@@ -87,7 +87,7 @@ apart_from_body name other out body =
     ]
 
 module _ (e : Exchange) (target : Uri) (method : List ℕ) (request : Headers) (status : ℕ) (response : Headers) (moment : ℤ) where
-  renewed_exchange : Exchange
+  abbrev pub renewed_exchange : Exchange
   renewed_exchange = next_where true e target method request status response moment
 
   -- the status stays

@@ -1,9 +1,11 @@
 -- Worked rows, each computed.
-use Rattle.std.specs.Prelude.{◌≡◌, ◌*◌, ℤ, pos, neg_ℤ, [], ◌∷◌, Some, None, codes, refl}
-use Rattle.http_cache_semantics.specs.Pieces.{pieces}
+use Rattle.std.specs.Prelude.{◌≡◌, ◌*◌, ℤ, pos, neg_ℤ, true, false, not, [], ◌∷◌, filter, Some, None, codes, refl}
+use Rattle.http_cache_semantics.specs.Text.{begins_with}
+use Rattle.http_cache_semantics.specs.Pieces.{pieces, join}
 use Rattle.http_cache_semantics.specs.Directives.{directives}
 use Rattle.http_cache_semantics.specs.Written.{written}
 use Rattle.http_cache_semantics.specs.CargoCult.{is_cargo_cult, without_cargo_cult}
+use Rattle.http_cache_semantics.specs.Filter.{is_hop_by_hop, is_spelled}
 use Rattle.http_cache_semantics.specs.Lifetime.{date_or, time_until, seconds_since, fraction_of}
 
 row_quoted_comma : directives (pieces (codes "a=\"x,y\"" ∷ codes "b=1, B=2" ∷ []))
@@ -38,6 +40,20 @@ row_cargo_cult = refl
 row_marks_alone : written (without_cargo_cult (directives (pieces (codes "pre-check, post-check" ∷ [])))) ≡ []
 unfolding is_cargo_cult
 row_marks_alone = refl
+
+row_empty_texts : join (pieces (codes ", a,, b" ∷ codes "" ∷ [])) ≡ codes "a, , b, "
+row_empty_texts = refl
+
+row_lasting_warnings : join (filter (λ piece. not (begins_with (codes "1") piece)) (pieces (codes ", 214 - \"x\", , 110 - \"s\", 1, 1000" ∷ [])))
+    ≡ codes "214 - \"x\", "
+row_lasting_warnings = refl
+
+row_spelled : (is_spelled (pieces (codes "close, X-Small" ∷ [])) (codes "x-small"), is_spelled (pieces (codes "x y" ∷ [])) (codes "x")) ≡ (true, false)
+row_spelled = refl
+
+row_hop_by_hop : (is_hop_by_hop (codes "trailer"), is_hop_by_hop (codes "trailers")) ≡ (true, false)
+unfolding is_hop_by_hop
+row_hop_by_hop = refl
 
 row_date_before_1970 : time_until (Some (pos 60_000_000_000)) (date_or (Some (neg_ℤ (pos 10_000_000_000))) (pos 10_000_000_000)) 0 ≡ 50 * 1_000_000_000
 row_date_before_1970 = refl
