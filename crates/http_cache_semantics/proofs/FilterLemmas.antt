@@ -1,5 +1,5 @@
 -- What the filter does to headers, name by name.
-use Rattle.std.proofs.Common.{◌≡◌, ◌≢◌, ℕ, ◌+◌, ◌-◌, ◌<◌, ◌≤◌, Bool, true, false, not, ◌||◌, List, [], ◌∷◌, ◌++◌, map, filter, length, drop, ◌==◌, cond, if◌then◌else◌, bytes_eq, codes, is_some, slice_get, Option, Some, None, option_map, unwrap_or, refl, sym, ap, subst, ◌∙◌, ◌⊎◌, inl, inr, arith, length-append, true≢false}
+use Rattle.std.proofs.Common.{◌≡◌, ◌≢◌, ℕ, ◌-◌, ◌<◌, ◌≤◌, Bool, true, false, not, ◌||◌, List, [], ◌∷◌, ◌++◌, map, filter, length, drop, ◌==◌, cond, if◌then◌else◌, bytes_eq, codes, is_some, slice_get, Option, Some, None, option_map, unwrap_or, refl, sym, ap, subst, ◌∙◌, ◌⊎◌, inl, inr, arith, length-append, true≢false}
 use Rattle.std.specs.Ordering.{eq_by_cmp}
 use Rattle.std.specs.Borrow.{Bor}
 use Rattle.std.specs.List.{list_any}
@@ -17,12 +17,12 @@ use Rattle.std.proofs.lemmas.Slice.Eq.{bytes_eq-Decides}
 use Rattle.http.specs.Method.{is_among}
 use Rattle.http_header.specs.Token.{lowercase}
 use Rattle.http_header.specs.FieldValue.{FieldValue, IsFieldValue}
-use Rattle.http_header.specs.HeaderMap.{Entries, get_all, insert, keys, IsHeaderMap}
+use Rattle.http_header.specs.HeaderMap.{Entries, get_all, keys, IsHeaderMap}
 use Rattle.http_cache_semantics.specs.Headers.{Headers, headers_of, entry_of, bytes_of, values, holds, set, set_unless_empty}
 use Rattle.http_cache_semantics.specs.Pieces.{pieces_under, pieces_of_values, join}
 use Rattle.http_cache_semantics.proofs.JoinLemmas.{join-text, pieces-text}
 use Rattle.http_cache_semantics.specs.Filter.{is_hop_by_hop, is_spelled, last_only, unless_empty, lasting_warnings, handed_on, has_some, with_values, filtered, end_to_end, without_spelled, kept_values, ChangesAt}
-use Rattle.http_cache_semantics.proofs.HeadersLemmas.{by_name, ties, get-headers_of, values-headers_of, headers_of-insert, same_headers, non_empty}
+use Rattle.http_cache_semantics.proofs.HeadersLemmas.{by_name, ties, get-headers_of, values-headers_of, same_headers, non_empty}
 
 -- ---- one name
 

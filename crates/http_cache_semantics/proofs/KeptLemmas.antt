@@ -1,9 +1,7 @@
 -- What is kept of a response stays as it is when it is kept again.
-use Rattle.std.proofs.Common.{◌≡◌, ℕ, Bool, true, false, cond, not, ◌&&◌, List, [], ◌∷◌, length, Option, Some, None, is_some, unwrap_or, slice_get, if◌then◌else◌, refl, sym, ap, ◌∙◌, subst, bytes_eq, codes, true≢false}
-use Rattle.std.specs.Ordering.{nat_cmp}
+use Rattle.std.proofs.Common.{◌≡◌, ℕ, Bool, true, false, cond, not, ◌&&◌, List, [], ◌∷◌, Some, None, is_some, unwrap_or, slice_get, if◌then◌else◌, refl, sym, ap, ◌∙◌, bytes_eq, codes, true≢false}
 use Rattle.std.specs.Cmp.Lexicographic.{nat_list_cmp_total}
 use Rattle.std.specs.FinMap as fin
-use Rattle.std.proofs.lemmas.Bool.{cases_Bool}
 use Rattle.std.proofs.lemmas.Slice.Eq.{bytes_eq-Decides}
 use Rattle.http_cache_semantics.specs.Text.{is_text}
 use Rattle.http_cache_semantics.specs.Headers.{Headers, values, set, holds, RefusesName}
@@ -14,7 +12,7 @@ use Rattle.http_cache_semantics.specs.Written.{written}
 use Rattle.http_cache_semantics.specs.CargoCult.{is_cargo_cult, has_cargo_cult, without_cargo_cult}
 use Rattle.http_cache_semantics.specs.Exchange.{Exchange}
 use Rattle.http_cache_semantics.specs.Kept.{with_line_alone, kept_response, kept}
-use Rattle.http_cache_semantics.proofs.HeadersLemmas.{by_name, ties, values-set_same}
+use Rattle.http_cache_semantics.proofs.HeadersLemmas.{ties, values-set_same}
 use Rattle.http_cache_semantics.proofs.ReadableLemmas.{directives-written, visible-written}
 use Rattle.http_cache_semantics.proofs.AreDirectivesLemmas.{AreDirectives-filter, AreDirectives-cache_control}
 
