@@ -1,10 +1,10 @@
 -- What is read has names that are apart, and is of the form that writing keeps.
-use Rattle.std.proofs.Common.{◌≡◌, ℕ, Bool, true, false, cond, not, ◌||◌, List, [], ◌∷◌, ◌++◌, map, filter, Option, Some, None, refl, sym, ap, ◌∙◌, subst, append_assoc, bytes_eq, codes}
+use Rattle.std.proofs.Common.{◌≡◌, ℕ, Bool, true, false, cond, not, ◌||◌, List, [], ◌∷◌, ◌++◌, map, filter, Option, Some, None, refl, sym, subst, append_assoc, bytes_eq, codes}
 use Rattle.std.specs.List.{AllByRecursion, IsDistinct}
 use Rattle.std.proofs.lemmas.List.{append-nil}
 use Rattle.http_cache_semantics.specs.Headers.{Headers, values}
 use Rattle.http_cache_semantics.specs.Pieces.{pieces_of_values}
-use Rattle.http_cache_semantics.specs.Directives.{Directive, name_of, raw_value_of, directive_of, has_name, same_value, value_under, set_directive, must_revalidate, with_conflict, directives, cache_control}
+use Rattle.http_cache_semantics.specs.Directives.{Directive, name_of, raw_value_of, directive_of, has_name, same_value, value_under, set_directive, must_revalidate, with_conflict, cache_control}
 use Rattle.http_cache_semantics.specs.Readable.{IsDirective, AreDirectives}
 use Rattle.http_cache_semantics.proofs.ReadLemmas.{HasRead, HasRead-none, HasRead-new, HasRead-again, HasRead-all}
 use Rattle.http_cache_semantics.proofs.ReadableLemmas.{other_way}

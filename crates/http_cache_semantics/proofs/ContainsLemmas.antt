@@ -1,5 +1,5 @@
 -- Whether a part stands in a text.
-use Rattle.std.proofs.Common.{◌≡◌, ◌↔◌, ℕ, ◌+◌, ◌<◌, Bool, true, false, ◌||◌, List, [], ◌∷◌, ◌++◌, length, take, drop, bytes_eq, None, MatchBool, refl, sym, ap, ◌∙◌, inl, inr, arith, take-append-drop, zero, suc}
+use Rattle.std.proofs.Common.{◌≡◌, ℕ, Bool, true, false, ◌||◌, List, [], ◌∷◌, ◌++◌, length, take, drop, bytes_eq, None, MatchBool, refl, sym, ap, ◌∙◌, inl, inr, take-append-drop, zero, suc}
 use Rattle.std.specs.Str.Iter.{HasSubslice}
 use Rattle.std.specs.Str.Pattern.{HasMatch, FindsText}
 use Rattle.std.proofs.lemmas.Bool.{cases_Bool}

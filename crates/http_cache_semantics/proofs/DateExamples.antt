@@ -1,5 +1,5 @@
 -- What single date texts read as.
-use Rattle.std.proofs.Common.{◌≡◌, ℤ, pos, neg_ℤ, Some, None, codes, refl}
+use Rattle.std.proofs.Common.{◌≡◌, pos, neg_ℤ, Some, None, codes, refl}
 use Rattle.jiff_fmt.proofs.OnLiterals.{jiff_fmt_on_literals}
 use Rattle.http_cache_semantics.specs.Dates.{read_second, when}
 

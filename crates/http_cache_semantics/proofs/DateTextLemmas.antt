@@ -8,7 +8,7 @@ use Rattle.http_header.specs.FieldValue.{IsFieldValue, is_visible_text}
 use Rattle.http_header.proofs.TokenLemmas.{IsFieldValue-from_visible}
 use Rattle.jiff_core.specs.declared.civil.datetime.DateTime.{DateTime}
 use Rattle.jiff_core.specs.Date.{epoch_day, weekday_of}
-use Rattle.jiff_core.specs.Calendar.{weekday_number, days_in_month, IsYear}
+use Rattle.jiff_core.specs.Calendar.{IsYear}
 use Rattle.jiff_core.proofs.CalendarLemmas.{weekday_number_bound, days_in_month_bounds}
 use Rattle.jiff_core.proofs.SignedLemmas.{signed_arith}
 use Rattle.jiff_fmt.specs.Rfc2822.{weekday_text, month_text}

@@ -1,5 +1,5 @@
 -- What fresh headers hold, and when a warning has room.
-use Rattle.std.proofs.Common.{◌≡◌, ◌≢◌, ℕ, ◌+◌, ◌≤◌, ◌^◌, ◌/◌, ◌⊎◌, ℤ, Bool, true, false, List, [], ◌∷◌, length, bytes_eq, codes, decimal, if◌then◌else◌, refl, sym, ap, ◌∙◌, inl, inr, arith, true≢false, unwrap_or}
+use Rattle.std.proofs.Common.{◌≡◌, ◌≢◌, ℕ, ◌≤◌, ◌/◌, ℤ, Bool, true, false, List, [], bytes_eq, codes, decimal, if◌then◌else◌, refl, sym, ap, ◌∙◌, inl, inr, arith, true≢false, unwrap_or}
 use Rattle.std.specs.Cmp.Lexicographic.{nat_list_cmp_total}
 use Rattle.std.specs.FinMap as fin
 use Rattle.std.proofs.lemmas.Bool.{cases_Bool}

@@ -1,6 +1,6 @@
 -- What is read is of the form that writing keeps.
-use Rattle.std.proofs.Common.{◌≡◌, ℕ, ◌+◌, ◌<◌, Bool, true, false, cond, List, [], ◌∷◌, ◌++◌, length, map, filter, nat_lt, Option, Some, None, IfSome, if◌then◌else◌, refl, arith, string_bytes, bytes_eq, codes}
-use Rattle.std.specs.List.{list_all, list_any, before_first, after_first, position_or_len, flat_map, AllByRecursion, IsDistinct}
+use Rattle.std.proofs.Common.{◌≡◌, ℕ, ◌+◌, ◌<◌, Bool, true, false, cond, List, [], ◌∷◌, ◌++◌, length, map, filter, nat_lt, Option, Some, None, IfSome, if◌then◌else◌, refl, arith, string_bytes, bytes_eq}
+use Rattle.std.specs.List.{list_all, list_any, before_first, after_first, position_or_len, AllByRecursion, IsDistinct}
 use Rattle.std.specs.Option.{option_map}
 use Rattle.std.specs.Map.{keys_of}
 use Rattle.std.specs.String.{string_eq}
@@ -12,7 +12,7 @@ use Rattle.http_cache_semantics.specs.Pieces.{text_lines, pieces_of_line, pieces
 use Rattle.http_cache_semantics.specs.Directives.{Directive, name_of, kept_value_of, directive_of, has_name, set_directive, must_revalidate}
 use Rattle.http_cache_semantics.specs.Shown.{shown}
 use Rattle.http_cache_semantics.specs.Readable.{IsDirective, IsValue, is_piece_byte, is_name_byte}
-use Rattle.http_cache_semantics.proofs.TrimLemmas.{and-left, list_all-trim_both, list_all-weaker, trim_both-again}
+use Rattle.http_cache_semantics.proofs.TrimLemmas.{list_all-trim_both, trim_both-again}
 use Rattle.http_cache_semantics.proofs.MarkLemmas.{each-slice_split, each-before_first, list_all-drop}
 
 -- ---- the pieces of values

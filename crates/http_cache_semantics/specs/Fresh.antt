@@ -1,6 +1,5 @@
 -- The headers of a fresh answer.
-use Rattle.std.specs.Prelude.{◌≡◌, ◌/◌, ℕ, ℤ, ◌⊎◌, Bool, true, not, ◌&&◌, nat_lt, List, [], ◌∷◌, codes, decimal, if◌then◌else◌}
-use Rattle.std.specs.FinMap as fin
+use Rattle.std.specs.Prelude.{◌≡◌, ◌/◌, ℕ, ℤ, ◌⊎◌, Bool, true, not, ◌&&◌, nat_lt, List, codes, decimal, if◌then◌else◌}
 use Rattle.http_cache_semantics.specs.Headers.{Headers, set, added, RefusesName}
 use Rattle.http_cache_semantics.specs.Filter.{filtered}
 use Rattle.http_cache_semantics.specs.Dates.{IsPrintable, IsDateText}

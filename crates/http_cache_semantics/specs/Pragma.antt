@@ -1,5 +1,5 @@
 -- Pragma, which stands in for Cache-Control in old responses (RFC 7234, section 5.4).
-use Rattle.std.specs.Prelude.{ℕ, Bool, false, not, ◌&&◌, List, codes, None, option_map, unwrap_or, if◌then◌else◌}
+use Rattle.std.specs.Prelude.{Bool, false, not, ◌&&◌, List, codes, None, option_map, unwrap_or, if◌then◌else◌}
 use Rattle.http_cache_semantics.specs.Text.{contains}
 use Rattle.http_cache_semantics.specs.Headers.{Headers, first_text, holds}
 use Rattle.http_cache_semantics.specs.Directives.{Directive, set_directive}

@@ -1,7 +1,6 @@
 use Rattle.std.proofs.Common.{◌≡◌, ap, ◌∙◌, List, ℕ}
 use Rattle.std.proofs.lemmas.Result.{on_ok_weaker}
-use Rattle.std.specs.FinMap as fin
-use Rattle.http_cache_semantics.specs.Headers.{Headers, headers_of, set}
+use Rattle.http_cache_semantics.specs.Headers.{headers_of, set}
 use Rattle.http_cache_semantics.proofs.FilterLemmas.{keep_none, keep_some, held-from_last}
 use Rattle.http_cache_semantics.proofs.HeadersLemmas.{only_memory}
 use Rattle.http_cache_semantics.proofs.headers.keep_last.Goals as goal

@@ -1,4 +1,4 @@
-use Rattle.std.proofs.Common.{ap, ◌∙◌, Err, refl}
+use Rattle.std.proofs.Common.{ap, ◌∙◌, Err}
 use Rattle.http_cache_semantics.specs.Headers.{headers_of}
 use Rattle.http_cache_semantics.proofs.HeadersLemmas.{headers_of-insert, RefusesName-is}
 use Rattle.http_cache_semantics.proofs.headers.put.Goals.{in-Ok, in-Err-MaxSizeReached, in-Err-OutOfMemory}

@@ -1,7 +1,7 @@
 use Rattle.std.proofs.Common.{◌≡◌, ℕ, List, codes, length, ◌≤◌, subst, sym, ap, ◌∙◌}
 use Rattle.http_cache_semantics.specs.Headers.{Headers, headers_of, values, set_unless_empty}
 use Rattle.http_cache_semantics.specs.Pieces.{pieces_under}
-use Rattle.http_cache_semantics.specs.Filter.{lasting_warnings, filtered, end_to_end, without_spelled}
+use Rattle.http_cache_semantics.specs.Filter.{lasting_warnings, end_to_end, without_spelled}
 use Rattle.http_cache_semantics.proofs.HeadersLemmas.{few_values}
 use Rattle.http_cache_semantics.proofs.FilterLemmas.{filled-headers_of, filtered-is, filtered-single, warning-stays}
 use Rattle.http_cache_semantics.proofs.before.filter.filter.Goals as goal

@@ -1,6 +1,6 @@
 use Rattle.std.proofs.Common.{sym, ap, ◌∙◌, is_some, string_bytes}
 use Rattle.std.specs.Option.{option_map}
-use Rattle.http_cache_semantics.specs.Directives.{has, value_under}
+use Rattle.http_cache_semantics.specs.Directives.{has}
 use Rattle.http_cache_semantics.proofs.ShownLemmas.{value_under-shown, is_some-option_map}
 use Rattle.http_cache_semantics.proofs.directives.CacheControl.contains_key.Goals as goal
 

@@ -1,4 +1,4 @@
-use Rattle.std.proofs.Common.{◌≡◌, not, filter, string_bytes, rules, sym, subst, ap, ◌∙◌}
+use Rattle.std.proofs.Common.{not, rules, sym, subst, ap, ◌∙◌}
 use Rattle.std.specs.List.{AllByRecursion}
 use Rattle.indexmap.proofs.CallerLemmas.{filter-RetainsPairs}
 use Rattle.http_cache_semantics.specs.CargoCult.{is_cargo_cult, without_cargo_cult}

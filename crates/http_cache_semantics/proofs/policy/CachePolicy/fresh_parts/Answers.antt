@@ -1,7 +1,7 @@
 use Rattle.std.proofs.Common.{◌≡◌, ◌/◌, ℕ, List, [], ◌∷◌, length, decimal, codes, refl, subst, ap, ◌∙◌}
 use Rattle.http_cache_semantics.specs.Headers.{Headers, headers_of, values, set, RefusesName}
 use Rattle.http_cache_semantics.specs.Age.{age_at}
-use Rattle.http_cache_semantics.specs.Fresh.{warned, aged, IsFreshHeaders}
+use Rattle.http_cache_semantics.specs.Fresh.{warned, aged}
 use Rattle.http_cache_semantics.proofs.DateTextLemmas.{date_is_value}
 use Rattle.http_cache_semantics.proofs.HeadersLemmas.{values-set_same, values-set_other}
 use Rattle.http_cache_semantics.proofs.FreshLemmas.{no_hop}

@@ -1,7 +1,7 @@
 use Rattle.std.proofs.Common.{◌≡◌, sym, ap, ◌∙◌}
 use Rattle.http_cache_semantics.specs.Headers.{Headers, headers_of}
 use Rattle.http_cache_semantics.specs.Options.{options_of}
-use Rattle.http_cache_semantics.specs.Exchange.{Exchange, stored_directives, request_directives}
+use Rattle.http_cache_semantics.specs.Exchange.{Exchange, request_directives}
 use Rattle.http_cache_semantics.specs.Storable.{is_storable, is_storable_by}
 use Rattle.http_cache_semantics.specs.Kept.{kept}
 use Rattle.http_cache_semantics.specs.Lifetime.{lifetime, lifetime_of}

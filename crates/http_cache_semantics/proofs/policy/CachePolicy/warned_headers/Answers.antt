@@ -1,7 +1,7 @@
-use Rattle.std.proofs.Common.{◌≡◌, ℕ, List, codes, true, false, ap, sym, subst, ◌∙◌, rules, if◌then◌else◌}
-use Rattle.http_cache_semantics.specs.Headers.{Headers, headers_of, added, value_count, RefusesName}
+use Rattle.std.proofs.Common.{◌≡◌, codes, true, ap, sym, ◌∙◌, rules, if◌then◌else◌}
+use Rattle.http_cache_semantics.specs.Headers.{headers_of, added}
 use Rattle.http_cache_semantics.specs.Filter.{filtered}
-use Rattle.http_cache_semantics.specs.Fresh.{is_guessed_past_a_day, warned, heuristic_warning}
+use Rattle.http_cache_semantics.specs.Fresh.{is_guessed_past_a_day, heuristic_warning}
 use Rattle.http_cache_semantics.proofs.policy.CachePolicy.warned_headers.Goals as goal
 
 pub returns-clause-ok : goal.returns-clause-ok
