@@ -235,13 +235,6 @@ get-set_unless_empty h name (b ∷ bs) other =
 
 -- ---- the warnings that last
 
--- they make a value
-pub lasting-is_value : (h : Headers) (text : List ℕ) → text ≡ lasting_warnings h → IsFieldValue text
-lasting-is_value h text is =
-    let keep = λ (piece : List ℕ). not (begins_with (codes "1") piece) in
-    let visible = join-text (filter keep (pieces_under h (codes "warning"))) (pieces-text keep (values h (codes "warning"))) in
-    IsFieldValue-from_visible text (AllPass-from_list_all is_visible_or_blank text (ap is_text is ∙ visible))
-
 lasting-held : (h : Headers) → lasting_warnings h ≢ [] → holds h (codes "warning") ≡ true
 lasting-held h some = by (values h (codes "warning")) some
   where
@@ -252,33 +245,9 @@ lasting-held h some = by (values h (codes "warning")) some
 held-is_there : (h : Headers) (name : List ℕ) → holds h name ≡ true → fin.get h name ≢ None
 held-is_there h name held none = true≢false (sym held ∙ ap (λ o. is_some (slice_get (unwrap_or o []) 0)) none)
 
-no_bytes : (text : List ℕ) → (length text == 0) ≡ true → text ≡ []
-no_bytes [] e = refl
-no_bytes (b ∷ bs) e = absurd (grind (arith, nat_tests))
-
-some_bytes : (text : List ℕ) → (length text == 0) ≡ false → text ≢ []
-some_bytes [] e same = absurd (true≢false e)
-some_bytes (b ∷ bs) e same = let no = same in cc
-
--- where there are none, `warning` goes
-pub warnings-none : (h out : Headers) (text : List ℕ) → text ≡ lasting_warnings h → (length text == 0) ≡ true
-    → fin.remove out (codes "warning") ≡ set_unless_empty out (codes "warning") (lasting_warnings h)
-warnings-none h out text is empty = ap (set_unless_empty out (codes "warning")) (sym (no_bytes text empty) ∙ is)
-
--- where there are some, they are set
-pub warnings-some : (h out : Headers) (text : List ℕ) → text ≡ lasting_warnings h → (length text == 0) ≡ false
-    → set out (codes "warning") text ≡ set_unless_empty out (codes "warning") (lasting_warnings h)
-warnings-some h out text is some = by text (some_bytes text some) ∙ ap (set_unless_empty out (codes "warning")) is
-  where
-    by : (t : List ℕ) → t ≢ [] → set out (codes "warning") t ≡ set_unless_empty out (codes "warning") t
-    by [] k = absurd (k refl)
-    by (b ∷ bs) k = refl
-
--- and their name is there
-pub warnings-there : (h out : Headers) (text : List ℕ) → text ≡ lasting_warnings h → (length text == 0) ≡ false
-    → (holds h (codes "warning") ≡ true → holds out (codes "warning") ≡ true) → fin.get out (codes "warning") ≢ None
-warnings-there h out text is some kept =
-    held-is_there out (codes "warning") (kept (lasting-held h (λ none. some_bytes text some (is ∙ none))))
+-- where there are some, their name is there before they are set
+pub warnings-there : (h out : Headers) → lasting_warnings h ≢ [] → (holds h (codes "warning") ≡ true → holds out (codes "warning") ≡ true) → fin.get out (codes "warning") ≢ None
+warnings-there h out some kept = held-is_there out (codes "warning") (kept (lasting-held h some))
 
 -- ---- the three steps together
 

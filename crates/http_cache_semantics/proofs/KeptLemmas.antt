@@ -14,7 +14,7 @@ use Rattle.http_cache_semantics.specs.Written.{written}
 use Rattle.http_cache_semantics.specs.CargoCult.{is_cargo_cult, has_cargo_cult, without_cargo_cult}
 use Rattle.http_cache_semantics.specs.Exchange.{Exchange}
 use Rattle.http_cache_semantics.specs.Kept.{with_line_alone, kept_response, kept}
-use Rattle.http_cache_semantics.proofs.HeadersLemmas.{by_name, ties, values-set_same, values-set_other}
+use Rattle.http_cache_semantics.proofs.HeadersLemmas.{by_name, ties, get-remove_other, values-set_same, values-set_other}
 use Rattle.http_cache_semantics.proofs.TrimLemmas.{and-left, and-right}
 use Rattle.http_cache_semantics.proofs.ReadableLemmas.{directives-written, visible-written}
 use Rattle.http_cache_semantics.proofs.AreDirectivesLemmas.{AreDirectives-filter, AreDirectives-cache_control}
@@ -22,8 +22,7 @@ use Rattle.http_cache_semantics.proofs.AreDirectivesLemmas.{AreDirectives-filter
 -- ---- headers with one line
 
 values-remove_other : (h : Headers) (name other : List ℕ) → bytes_eq name other ≡ false → values (fin.remove h name) other ≡ values h other
-values-remove_other h name other apart =
-    ap (λ o. unwrap_or o []) (fin.get-remove nat_list_cmp_total h name other) ∙ rw (ties other name, apart) refl
+values-remove_other h name other apart = ap (λ o. unwrap_or o []) (get-remove_other h name other apart)
 
 get-remove_none : (h : Headers) (name other : List ℕ) → fin.get h other ≡ None → fin.get (fin.remove h name) other ≡ None
 get-remove_none h name other none = fin.get-remove nat_list_cmp_total h name other ∙ by (eq_by_cmp by_name other name)

@@ -23,6 +23,7 @@ pub mod Verdict
 pub mod Filter
 pub mod Fresh
 pub mod Stale
+pub mod Refused
 pub mod Selection
 pub mod Validated
 pub mod Update

@@ -1,5 +1,5 @@
 -- Whether a stored response is the answer to a request (RFC 7234, section 4).
-use Rattle.std.specs.Prelude.{ℕ, Bool, not, ◌&&◌, List, map, codes, bytes_eq, Option}
+use Rattle.std.specs.Prelude.{ℕ, Bool, not, ◌&&◌, ◌||◌, List, map, codes, bytes_eq, Option}
 use Rattle.std.specs.List.{list_any}
 use Rattle.std.specs.Cmp.Lexicographic.{pointwise}
 use Rattle.http_uri.specs.declared.uri.Uri.{Uri}
@@ -45,3 +45,7 @@ matches e named =
     && same_value (first e.request (codes "host")) named.host
     && varies_alike e named.varied
     && bytes_eq e.method named.method
+
+-- the stored response may be validated for the request: on a match, and for every HEAD
+abbrev pub may_validate : Exchange → NamedParts → Bool
+may_validate e named = matches e named || bytes_eq named.method (codes "HEAD")

@@ -1,24 +1,26 @@
 //! Whether a stored response answers a request, and what goes to the origin where it doesn't.
-ghost use Rattle.std.specs.Prelude.{◌≡◌, ◌≢◌, ◌⊎◌, ◌&&◌, ◌*◌, ◌/◌, ℕ, [], ◌∷◌, List, true, length, codes, decimal, IfOk, IfErr, IsErrOf, IsOkUnless};
+ghost use Rattle.std.specs.Prelude.{◌≡◌, ◌≢◌, ◌⊎◌, ◌&&◌, ◌*◌, ◌/◌, ℕ, [], ◌∷◌, List, true, length, bytes_eq, codes, decimal, IfOk, IfErr, IsErrOf, IsOkUnless};
 ghost use Rattle.std.specs.Duration.{as_nanos};
 ghost use Rattle.http_cache_semantics.specs.Headers.{headers_of, values, first_text};
 ghost use Rattle.http_cache_semantics.specs.Age.{age_at, time_to_live_at};
 ghost use Rattle.http_cache_semantics.specs.Asks.{asks_of, asked, forbids_cached, number_under};
-ghost use Rattle.http_cache_semantics.specs.Match.{named_parts, varied_by, varies_alike, matches};
+ghost use Rattle.http_cache_semantics.specs.Match.{named_parts, varied_by, varies_alike, matches, may_validate};
 ghost use Rattle.http_cache_semantics.specs.Verdict.{is_young_enough, lasts_long_enough, takes_stale, is_let_through, is_fresh_for};
 ghost use Rattle.http_cache_semantics.specs.Filter.{is_hop_by_hop};
-ghost use Rattle.http_cache_semantics.specs.Fresh.{IsFreshHeaders, RefusesFreshHeaders, HasNoDate};
+ghost use Rattle.http_cache_semantics.specs.Fresh.{IsFreshHeaders, HasNoDate};
 ghost use Rattle.http_cache_semantics.specs.Stale.{IsStaleRequest};
+ghost use Rattle.http_cache_semantics.specs.Refused.{RefusesAnswer};
 
 mod filter;
 mod fresh;
+mod origin;
 
 use crate::directives::{CacheControl, GetHeaderStr, cache_control_of, get_all_comma};
 use crate::error::CacheError;
 use crate::headers::{has_same_first, has_same_first_under};
-use crate::policy::{CachePolicy, RequestLike, copy_of_request, copy_of_target};
+use crate::policy::{CachePolicy, RequestLike};
 use crate::text::{contains, number};
-use http::{HeaderMap, request, response};
+use http::{HeaderMap, Method, request, response};
 use jiff::Timestamp;
 use std::alloc::Global;
 
@@ -108,15 +110,23 @@ fn takes_stale(asked: &CacheControl, staleness: u128) -> bool
     }
 }
 
+// Whether the method is HEAD.
+fn is_head(method: &Method) -> bool
+    ensures { result ≡ bytes_eq method.now (codes "HEAD") }
+{
+    method.as_str() == "HEAD"
+}
+
 impl CachePolicy {
     ghost use Rattle.http_cache_semantics.specs.Answer.{is_fresh, WhereFresh, WhereStale};
 
     /// Whether the stored response may be used for a request at a moment without validation, and
     /// what is to be used or sent (RFC 7234, section 4).
     ///
-    /// `HeaderMapFull` comes where `warning`, `age` or `date` has to be added to headers that are
-    /// full, `DateNotPrintable` where the moment is earlier than 1900, both for a fresh answer alone.
-    #[tactic(auto, unfolding(crate::specs::Verdict::is_fresh_for))]
+    /// `HeaderMapFull` comes where `warning`, `age` or `date` of a fresh answer, or `if-none-match`
+    /// or `if-modified-since` of a request for the origin, has to be added to headers that are full.
+    /// `DateNotPrintable` comes for a fresh answer at a moment earlier than 1900.
+    #[tactic(auto, unfolding(crate::specs::Verdict::is_fresh_for, crate::specs::Refused::RefusesAnswer))]
     pub fn before_request<Req: RequestLike>(
         &self,
         alloc: Global,
@@ -134,12 +144,10 @@ impl CachePolicy {
         ensures no_hop { IfOk result (WhereFresh (λ parts. (name : List ℕ) → is_hop_by_hop name ≡ true
             → name ≢ codes "date" → values (headers_of parts.headers) name ≡ [])) }
         ensures stale { IfOk result (WhereStale (λ request matched.
-            IsStaleRequest self.now (Req.headers req.now) request
+            IsStaleRequest self.now (may_validate self.now (named_parts self.now (Req.is_same_uri req.now) (Req.method req.now) (Req.headers req.now))) (Req.headers req.now) request
             × (matched ≡ matches self.now (named_parts self.now (Req.is_same_uri req.now) (Req.method req.now) (Req.headers req.now))))) }
-
         ensures full { IsErrOf result CacheError.HeaderMapFull
-            → (is_fresh_for self.now (Req.is_same_uri req.now) (Req.method req.now) (Req.headers req.now) now.nanosecond ≡ true)
-            × RefusesFreshHeaders self.now now.nanosecond }
+            → RefusesAnswer self.now (Req.is_same_uri req.now) (Req.method req.now) (Req.headers req.now) now.nanosecond }
         ensures unprintable { IsErrOf result CacheError.DateNotPrintable
             → (is_fresh_for self.now (Req.is_same_uri req.now) (Req.method req.now) (Req.headers req.now) now.nanosecond ≡ true)
             × HasNoDate self.now now.nanosecond }
@@ -150,7 +158,8 @@ impl CachePolicy {
         if matches && !forbids_cached(&asked, req.headers()) && self.satisfies(&asked, now) {
             return Ok(BeforeRequest::Fresh(self.fresh_parts(alloc, now)?));
         }
-        let request = self.request_for_origin(req.headers())?;
+        let validates = matches || is_head(req.method());
+        let request = self.request_for_origin(alloc, req.headers(), validates)?;
         Ok(BeforeRequest::Stale { request, matches })
     }
 
@@ -194,14 +203,5 @@ impl CachePolicy {
         !self.is_stale(now)
             || (takes_stale(asked, staleness.as_nanos())
                 && !self.stored_directives().contains_key("must-revalidate"))
-    }
-
-    // The stored method and target, with the headers of the incoming request.
-    fn request_for_origin(&self, incoming: &HeaderMap) -> Result<request::Parts, CacheError>
-        ensures ok { IfOk result (IsStaleRequest self.now (headers_of incoming.now)) }
-        ensures only_memory { IsOkUnless result CacheError.Memory }
-    {
-        let uri = copy_of_target(self.stored_target())?;
-        copy_of_request(self.stored_method(), uri, incoming)
     }
 }

@@ -1,9 +1,9 @@
 //! What is read of header maps, their copies, and single changes of them.
-ghost use Rattle.std.specs.Prelude.{◌≡◌, ◌⊎◌, [], option_map, MatchOption, IfOk, IfErr, OnOk, IsErrOf, IsOkUnless};
+ghost use Rattle.std.specs.Prelude.{◌≡◌, ◌≢◌, ◌⊎◌, [], option_map, string_bytes, MatchOption, IfOk, IfErr, OnOk, IsErrOf, IsOkUnless};
 ghost use Rattle.std.specs.FinMap as fin;
 ghost use Rattle.http_header.specs.Token.{lowercase};
 ghost use Rattle.http_header.specs.FieldValue.{IsFieldValue, plain_value};
-ghost use Rattle.http_cache_semantics.specs.Headers.{headers_of, first, is_name, first_under, holds, set, added, RefusesName, RefusesValue, ChangesUnder, IsLast, last_only};
+ghost use Rattle.http_cache_semantics.specs.Headers.{headers_of, first, is_name, first_under, holds, set, set_unless_empty, added, RefusesName, RefusesValue, ChangesUnder, IsLast, last_only};
 ghost use Rattle.http_header.specs.HeaderMap.{get_all};
 ghost use Rattle.http_cache_semantics.specs.Directives.{same_value};
 
@@ -94,6 +94,27 @@ pub(crate) fn put<K: IntoHeaderName>(
         Err(HeaderMapError::MaxSizeReached) => Err(CacheError::HeaderMapFull),
         Err(HeaderMapError::OutOfMemory) => Err(CacheError::Memory),
     }
+}
+
+/// Puts a line in place of the values under a name, or takes the name away where the line is empty,
+/// and tells a full map from want of memory.
+pub(crate) fn put_line<K: IntoHeaderName>(
+    map: &mut HeaderMap,
+    name: K,
+    line: String,
+) -> Result<(), CacheError>
+    requires valid { K.is_valid name }
+    requires value { IsFieldValue (string_bytes line) }
+    ensures ok { OnOk result (headers_of map.new ≡ set_unless_empty (headers_of map.old) (K.name name) (string_bytes line)) }
+    ensures full { IsErrOf result CacheError.HeaderMapFull
+        → (string_bytes line ≢ []) × RefusesName (headers_of map.old) (K.name name) }
+    ensures known { IfErr result (λ e. (e ≡ CacheError.HeaderMapFull) ⊎ (e ≡ CacheError.Memory)) }
+{
+    if line.as_str().is_empty() {
+        take_out(map, name);
+        return Ok(());
+    }
+    put(map, name, value_of(line.into_bytes())?)
 }
 
 /// Puts one value behind those under a name, and tells a full map from want of memory.

@@ -1,5 +1,5 @@
 //! Texts that are joined to one line.
-ghost use Rattle.std.specs.Prelude.{◌≡◌, not, filter, string_bytes, IfOk, OnOk};
+ghost use Rattle.std.specs.Prelude.{◌≡◌, ◌++◌, ◌∷◌, [], not, filter, string_bytes, IfOk, OnOk};
 ghost use Rattle.http_cache_semantics.specs.Text.{begins_with};
 ghost use Rattle.http_cache_semantics.specs.Pieces.{join, joined_with};
 
@@ -33,5 +33,17 @@ pub(crate) fn join_without(
         }
         join_to(&mut line, piece)?;
     }
+    Ok(line)
+}
+
+/// The join of the pieces, with a text behind them.
+pub(crate) fn join_with(alloc: Global, pieces: Commas<'_>, last: &str) -> Result<String, AllocError>
+    ensures { IfOk result (λ line. string_bytes line ≡ join (pieces.entry ++ last.now ∷ [])) }
+{
+    let mut line = String::new(alloc);
+    for piece in pieces {
+        join_to(&mut line, piece)?;
+    }
+    join_to(&mut line, last)?;
     Ok(line)
 }

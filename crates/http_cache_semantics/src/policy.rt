@@ -71,6 +71,23 @@ pub(crate) fn copy_of_target(target: &Uri) -> Result<Uri, CacheError>
     target.clone().map_err(|_| CacheError::Memory)
 }
 
+/// The head of a request for a target, with a copy of a method.
+pub(crate) fn request_with(
+    method: &Method,
+    uri: Uri,
+    headers: HeaderMap,
+) -> Result<request::Parts, CacheError>
+    ensures value { IfOk result (λ request. request ≡ record { method = method.now; uri = uri; version = HTTP_11; headers = headers }) }
+    ensures only_memory { IsOkUnless result CacheError.Memory }
+{
+    Ok(request::Parts {
+        method: method.clone().map_err(|_| CacheError::Memory)?,
+        uri,
+        version: Version::HTTP_11,
+        headers,
+    })
+}
+
 /// The head of a request for a target, with copies of a method and of headers.
 pub(crate) fn copy_of_request(
     method: &Method,
@@ -80,12 +97,7 @@ pub(crate) fn copy_of_request(
     ensures value { IfOk result (λ copy. copy ≡ record { method = method.now; uri = uri; version = HTTP_11; headers = headers.now }) }
     ensures only_memory { IsOkUnless result CacheError.Memory }
 {
-    Ok(request::Parts {
-        method: method.clone().map_err(|_| CacheError::Memory)?,
-        uri,
-        version: Version::HTTP_11,
-        headers: copy_of_map(headers)?,
-    })
+    request_with(method, uri, copy_of_map(headers)?)
 }
 
 /// The head of a response with a status and a copy of headers.

@@ -6,7 +6,7 @@ ghost use Rattle.http_cache_semantics.specs.Pieces.{pieces_under};
 
 use crate::directives::{Commas, pieces_under};
 use crate::error::CacheError;
-use crate::headers::{copy_of_map, keep_last, put, take_out, value_of};
+use crate::headers::{copy_of_map, keep_last, put_line, take_out};
 use crate::join::join_without;
 use http::HeaderMap;
 use http::header::{HeaderName, HeaderValue};
@@ -86,13 +86,7 @@ fn set_warnings(alloc: Global, out: &mut HeaderMap, headers: &HeaderMap) -> Resu
         ≡ set_unless_empty (headers_of out.old) (codes "warning") (lasting_warnings (headers_of headers.now))) }
     ensures only_memory { IsOkUnless result CacheError.Memory }
 {
-    let warnings = lasting_warnings(alloc, headers)?;
-    if warnings.as_str().is_empty() {
-        take_out(out, "warning");
-        return Ok(());
-    }
-    let value = value_of(warnings.into_bytes())?;
-    put(out, "warning", value)
+    put_line(out, "warning", lasting_warnings(alloc, headers)?)
 }
 
 /// The headers that are handed on: none that speaks of one connection alone, and the warnings

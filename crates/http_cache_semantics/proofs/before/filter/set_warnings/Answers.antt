@@ -1,36 +1,28 @@
-use Rattle.std.proofs.Common.{◌≡◌, ℕ, ◌==◌, List, length, codes, string_bytes, true, false, ap, sym, ◌∙◌}
+use Rattle.std.proofs.Common.{◌≡◌, ◌≢◌, ℕ, List, [], not, codes, string_bytes, subst, ap, sym, ◌∙◌}
 use Rattle.std.proofs.lemmas.Result.{on_ok_weaker}
-use Rattle.http_cache_semantics.specs.Headers.{headers_of, set}
-use Rattle.http_cache_semantics.proofs.HeadersLemmas.{only_memory}
-use Rattle.http_cache_semantics.proofs.FilterLemmas.{lasting-is_value, warnings-none, warnings-some, warnings-there}
+use Rattle.http_cache_semantics.specs.Text.{begins_with}
+use Rattle.http_cache_semantics.specs.Headers.{headers_of, values, set_unless_empty}
+use Rattle.http_cache_semantics.specs.Filter.{lasting_warnings}
+use Rattle.http_cache_semantics.proofs.HeadersLemmas.{memory_alone}
+use Rattle.http_cache_semantics.proofs.JoinLemmas.{passed-is_value}
+use Rattle.http_cache_semantics.proofs.FilterLemmas.{warnings-there}
 use Rattle.http_cache_semantics.proofs.before.filter.set_warnings.Goals as goal
 
-pub value_of-requires : goal.value_of-requires
-value_of-requires c =
-    lasting-is_value (headers_of c.args.headers.now) c.into_bytes.result.items (ap (λ v. v.items) c.into_bytes.ensures.value ∙ c.in_ok-warnings.ensures.ok)
-
-pub returns-then-is_empty-clause-ok : goal.returns-then-is_empty-clause-ok
-returns-then-is_empty-clause-ok c =
-    let out = headers_of c.args.out.now in
-    let line = string_bytes c.in_ok-warnings.warnings in
-    let empty : (length line == 0) ≡ true = ap (λ (l : List ℕ). length l == 0) (sym c.as_str.ensures.value) ∙ sym c.is_empty.ensures ∙ c.if-is_empty.true in
-    c.take_out.ensures ∙ warnings-none (headers_of c.args.headers.now) out line c.in_ok-warnings.ensures.ok empty
+pub put_line-requires-clause-value : goal.put_line-requires-clause-value
+put_line-requires-clause-value c =
+    passed-is_value (λ piece. not (begins_with (codes "1") piece)) (values (headers_of c.args.headers.now) (codes "warning"))
+    (string_bytes c.in_ok-lasting_warnings.field-0) c.in_ok-lasting_warnings.ensures.ok
 
 pub returns-clause-ok : goal.returns-clause-ok
 returns-clause-ok c =
     let out = headers_of c.args.out.now in
-    let line = string_bytes c.in_ok-warnings.warnings in
-    let some : (length line == 0) ≡ false = ap (λ (l : List ℕ). length l == 0) (sym c.as_str.ensures.value) ∙ sym c.is_empty.ensures ∙ c.if-is_empty.false in
-    let bytes : c.in_ok-value.value.bytes ≡ line = ap (λ v. v.bytes) c.in_ok-value.ensures.ok ∙ ap (λ v. v.items) c.into_bytes.ensures.value in
-    on_ok_weaker c.put.result
-    (λ (e : headers_of c.put.new.map ≡ set out (codes "warning") c.in_ok-value.value.bytes).
-    e ∙ ap (set out (codes "warning")) bytes ∙ warnings-some (headers_of c.args.headers.now) out line c.in_ok-warnings.ensures.ok some)
-    c.put.ensures.ok
+    on_ok_weaker c.put_line.result
+    (λ (e : headers_of c.put_line.new.map ≡ set_unless_empty out (codes "warning") (string_bytes c.in_ok-lasting_warnings.field-0)).
+    e ∙ ap (set_unless_empty out (codes "warning")) c.in_ok-lasting_warnings.ensures.ok)
+    c.put_line.ensures.ok
 
 pub returns-clause-only_memory : goal.returns-clause-only_memory
 returns-clause-only_memory c =
-    let out = headers_of c.args.out.now in
-    let line = string_bytes c.in_ok-warnings.warnings in
-    let some : (length line == 0) ≡ false = ap (λ (l : List ℕ). length l == 0) (sym c.as_str.ensures.value) ∙ sym c.is_empty.ensures ∙ c.if-is_empty.false in
-    only_memory c.put.result out (codes "warning") c.put.ensures.known c.put.ensures.full
-    (warnings-there (headers_of c.args.headers.now) out line c.in_ok-warnings.ensures.ok some c.requires)
+    let some = λ (s : string_bytes c.in_ok-lasting_warnings.field-0 ≢ []). subst (λ (l : List ℕ). l ≢ []) c.in_ok-lasting_warnings.ensures.ok s in
+    memory_alone c.put_line.result c.put_line.ensures.known
+    (λ full. let why = c.put_line.ensures.full full in warnings-there (headers_of c.args.headers.now) (headers_of c.args.out.now) (some why.0) c.requires why.1.0)

@@ -17,7 +17,6 @@ both_ok : {T E : Type 0} (r : Result T E) {P Q R : T → Type 0} → IfOk r P �
 both_ok (Ok x) p q k = k x p q
 both_ok (Err e) p q k = tt
 
-
 module _ (g : given.Over) (c : goal.After-answered g) where
   abbrev e : Exchange
   e = c.args.self.now
