@@ -1,10 +1,9 @@
 //! What is written for a script.
-ghost use Rattle.std.specs.Prelude.{◌≡◌, ◌≢◌, ◌++◌, map, IfOk, OnOk, IsErrOf, IsOkUnless, string_bytes, true};
+ghost use Rattle.std.specs.Prelude.{◌≡◌, ◌≢◌, map, IfOk, IsErrOf, IsOkUnless, string_bytes, true};
 ghost use Rattle.http_cache_semantics.specs.Fresh.{RefusesFreshHeaders, HasNoDate};
 ghost use Rattle.cache_script.specs.Steps.{step_seen};
 ghost use Rattle.cache_script.specs.Script.{ScriptSeen, script_seen, IsScript};
-ghost use Rattle.cachecheck.specs.Lines.{first_line};
-ghost use Rattle.cachecheck.specs.Steps.{is_ask, are_asks, IsLine, IsRefusedFor, AreLines, AreRefusedFor};
+ghost use Rattle.cachecheck.specs.Steps.{is_ask, are_asks, AreLines, AreRefusedFor};
 ghost use Rattle.cachecheck.specs.Output.{kept_of, IsOutput, IsUnanswered, IsRefusedScript};
 
 use crate::error::ScriptError;

@@ -1,5 +1,5 @@
 //! The lines of a script's output.
-ghost use Rattle.std.specs.Prelude.{◌≡◌, ◌≢◌, ℕ, List, Some, IsSome, IfOk, IsErrOf, IsOkUnless, codes, string_bytes, true};
+ghost use Rattle.std.specs.Prelude.{◌≡◌, ◌≢◌, ℕ, List, Some, IsSome, IfOk, IsErrOf, codes, string_bytes, true};
 ghost use Rattle.std.specs.Duration.{as_nanos};
 ghost use Rattle.http_cache_semantics.specs.Headers.{headers_of, first_text};
 ghost use Rattle.http_cache_semantics.specs.Answer.{WhereFresh, WhereStale};
