@@ -1,67 +1,110 @@
 //! What is written for a script.
-ghost use Rattle.std.specs.Prelude.{◌≡◌, Some, IfOk, IfErr, IsErrOf, IsOkUnless, option_map, string_bytes};
-ghost use Rattle.std.specs.Duration.{as_nanos};
-ghost use Rattle.http_cache_semantics.specs.Kept.{kept};
-ghost use Rattle.cache_script.specs.Script.{ScriptSeen, script_seen, exchange_of, IsScript};
-ghost use Rattle.cachecheck.specs.Lines.{storable_line, first_line, output_of, IsUnanswered};
-ghost use Rattle.cachecheck.specs.Status.{IsRefusal};
+ghost use Rattle.std.specs.Prelude.{◌≡◌, ◌≢◌, map, IfOk, IsErrOf, IsOkUnless, string_bytes, true};
+ghost use Rattle.http_cache_semantics.specs.Fresh.{RefusesFreshHeaders, HasNoDate};
+ghost use Rattle.cache_script.specs.Steps.{step_seen};
+ghost use Rattle.cache_script.specs.Script.{ScriptSeen, script_seen, IsScript};
+ghost use Rattle.cachecheck.specs.Steps.{is_ask, are_asks, AreLines, AreRefusedFor};
+ghost use Rattle.cachecheck.specs.Output.{kept_of, IsOutput, IsUnanswered, IsRefusedScript};
 
 use crate::error::ScriptError;
-use cache_script::{Script, Unread, script_from_bytes};
+use crate::lines::{first_line, line_of_step};
+use cache_script::{Script, Step, Unread, script_from_bytes};
 use http_cache_semantics::{CacheError, CachePolicy};
-use std::alloc::{AllocError, Global};
-use std::time::Duration;
+use std::alloc::Global;
 
-fn storable_line(alloc: Global, storable: bool, left: Duration) -> Result<String, AllocError>
-    ensures { IfOk result (λ line. string_bytes line ≡ storable_line storable (as_nanos left)) }
+fn is_ask(step: &Step) -> bool
+    ensures { result ≡ is_ask (step_seen step.now) }
 {
-    let seconds = left.as_secs();
-    let nanos = left.subsec_nanos();
-    format!(in alloc; "storable {storable} ttl {seconds}.{nanos:09}\n")
+    matches!(step, Step::Ask { .. })
 }
 
-fn first_line(alloc: Global, script: &Script) -> Result<String, CacheError>
-    ensures value { IfOk result (λ line. string_bytes line
-        ≡ first_line (kept (exchange_of (script_seen script.now))) script.now.received.nanosecond) }
+fn are_asks(steps: &[Step]) -> bool
+    ensures { result ≡ are_asks (map step_seen steps.now) }
+{
+    steps.iter().all(|step| is_ask(step))
+}
+
+// The lines of steps that ask.
+fn lines(alloc: Global, policy: &CachePolicy, steps: &[Step]) -> Result<String, CacheError>
+    requires { are_asks (map step_seen steps.now) ≡ true }
+    ensures lines { IfOk result (λ text. AreLines policy.now (map step_seen steps.now) (string_bytes text)) }
+    ensures full { IsErrOf result CacheError.HeaderMapFull
+        → AreRefusedFor RefusesFreshHeaders policy.now (map step_seen steps.now) }
+    ensures unprintable { IsErrOf result CacheError.DateNotPrintable
+        → AreRefusedFor HasNoDate policy.now (map step_seen steps.now) }
+    ensures no_other { result ≢ Err CacheError.Malformed }
+{
+    let mut text = String::new(alloc);
+    for step in steps {
+        let line = line_of_step(alloc, policy, step)?;
+        text.push_str(line.as_str())?;
+    }
+    Ok(text)
+}
+
+fn policy_of(alloc: Global, script: &Script) -> Result<CachePolicy, CacheError>
+    ensures value { IfOk result (λ policy. policy ≡ kept_of (script_seen script.now)) }
     ensures only_memory { IsOkUnless result CacheError.Memory }
 {
-    let policy = CachePolicy::new_options(
+    CachePolicy::new_options(
         alloc,
         &script.request,
         &script.response,
         script.received,
         script.options,
-    )?;
-    let left = policy.time_to_live(script.received);
-    Ok(storable_line(alloc, policy.is_storable(), left)?)
+    )
 }
 
-fn output(alloc: Global, script: &Script) -> Result<Option<String>, CacheError>
-    ensures value { IfOk result (λ text. option_map string_bytes text ≡ output_of (script_seen script.now)) }
-    ensures only_memory { IsOkUnless result CacheError.Memory }
+fn text_of(alloc: Global, policy: &CachePolicy, script: &Script) -> Result<String, CacheError>
+    requires policy { policy.now ≡ kept_of (script_seen script.now) }
+    requires asks { are_asks (map step_seen script.now.steps.items) ≡ true }
+    ensures text { IfOk result (λ text. IsOutput (script_seen script.now) (string_bytes text)) }
+    ensures full { IsErrOf result CacheError.HeaderMapFull
+        → AreRefusedFor RefusesFreshHeaders policy.now (map step_seen script.now.steps.items) }
+    ensures unprintable { IsErrOf result CacheError.DateNotPrintable
+        → AreRefusedFor HasNoDate policy.now (map step_seen script.now.steps.items) }
+    ensures no_other { result ≢ Err CacheError.Malformed }
 {
-    if script.steps.is_empty() {
-        Ok(Some(first_line(alloc, script)?))
-    } else {
-        Ok(None)
-    }
+    let mut text = first_line(alloc, policy, script.received)?;
+    let rest = lines(alloc, policy, script.steps.as_slice())?;
+    text.push_str(rest.as_str())?;
+    Ok(text)
+}
+
+fn output(alloc: Global, script: &Script) -> Result<String, CacheError>
+    requires { are_asks (map step_seen script.now.steps.items) ≡ true }
+    ensures text { IfOk result (λ text. IsOutput (script_seen script.now) (string_bytes text)) }
+    ensures full { IsErrOf result CacheError.HeaderMapFull
+        → AreRefusedFor RefusesFreshHeaders (kept_of (script_seen script.now)) (map step_seen script.now.steps.items) }
+    ensures unprintable { IsErrOf result CacheError.DateNotPrintable
+        → AreRefusedFor HasNoDate (kept_of (script_seen script.now)) (map step_seen script.now.steps.items) }
+    ensures no_other { result ≢ Err CacheError.Malformed }
+{
+    let policy = policy_of(alloc, script)?;
+    text_of(alloc, &policy, script)
 }
 
 /// All that is written for the script that the bytes are.
 pub fn answer(alloc: Global, bytes: &[u8]) -> Result<String, ScriptError>
-    ensures found { IfOk result (λ text. (s : ScriptSeen) × IsScript bytes.now s
-        × (output_of s ≡ Some (string_bytes text))) }
+    ensures found { IfOk result (λ text. (s : ScriptSeen) × IsScript bytes.now s × IsOutput s (string_bytes text)) }
     ensures none { IsErrOf result ScriptError.NotReadable → IsUnanswered bytes.now }
-    ensures refusal { IfErr result IsRefusal }
+    ensures full { IsErrOf result (ScriptError.Cache CacheError.HeaderMapFull)
+        → IsRefusedScript RefusesFreshHeaders bytes.now }
+    ensures unprintable { IsErrOf result (ScriptError.Cache CacheError.DateNotPrintable)
+        → IsRefusedScript HasNoDate bytes.now }
+    ensures no_other { result ≢ Err (ScriptError.Cache CacheError.Malformed) }
+    ensures not_written { result ≢ Err ScriptError.NotWritten }
 {
     let script = match script_from_bytes(alloc, bytes) {
         Ok(script) => script,
         Err(Unread::Memory) => return Err(ScriptError::Cache(CacheError::Memory)),
         Err(Unread::NoScript) => return Err(ScriptError::NotReadable),
     };
+    if !are_asks(script.steps.as_slice()) {
+        return Err(ScriptError::NotReadable);
+    }
     match output(alloc, &script) {
-        Ok(Some(text)) => Ok(text),
-        Ok(None) => Err(ScriptError::NotReadable),
+        Ok(text) => Ok(text),
         Err(e) => Err(ScriptError::Cache(e)),
     }
 }

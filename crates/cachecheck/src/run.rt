@@ -1,9 +1,9 @@
 //! From bytes to bytes.
 ghost use Rattle.std.specs.Prelude.{◌≡◌, ◌≢◌, ◌≤◌, ◌<◌, ◌++◌, List, ℕ, Some, length, true, IfOk, OnOk, OnErr, IfSome, IsErrOf};
 ghost use Rattle.std.specs.Io.KnownBytes.{Appends};
-ghost use Rattle.http_cache_semantics.specs.declared.error.CacheError.{CacheError as Cause};
+ghost use Rattle.http_cache_semantics.specs.Fresh.{RefusesFreshHeaders, HasNoDate};
 ghost use Rattle.cache_script.specs.Script.{ScriptSeen, IsScript};
-ghost use Rattle.cachecheck.specs.Lines.{output_of, IsUnanswered};
+ghost use Rattle.cachecheck.specs.Output.{IsOutput, IsUnanswered, IsRefusedScript};
 
 use crate::answer::answer;
 use crate::ends::{Sink, Source};
@@ -80,11 +80,15 @@ pub fn run<R: Source, W: Sink>(
     writer: &mut W,
 ) -> Result<(), ScriptError>
     ensures done { OnOk result (IfSome (R.remaining reader.old) (λ bytes. (s : ScriptSeen) × (text : List ℕ)
-        × IsScript bytes s × (output_of s ≡ Some text)
+        × IsScript bytes s × IsOutput s text
         × Appends (W.contents writer.old) (W.contents writer.new) text)) }
     ensures not_readable { IsErrOf result ScriptError.NotReadable → R.Source.never_fails reader.old
         → IfSome (R.remaining reader.old) IsUnanswered }
-    ensures refused { (e : Cause) → IsErrOf result (ScriptError.Cache e) → e ≡ CacheError.Memory }
+    ensures full { IsErrOf result (ScriptError.Cache CacheError.HeaderMapFull)
+        → IfSome (R.remaining reader.old) (IsRefusedScript RefusesFreshHeaders) }
+    ensures unprintable { IsErrOf result (ScriptError.Cache CacheError.DateNotPrintable)
+        → IfSome (R.remaining reader.old) (IsRefusedScript HasNoDate) }
+    ensures no_other { result ≢ Err (ScriptError.Cache CacheError.Malformed) }
     ensures not_written { W.Sink.never_fails writer.old → result ≢ Err ScriptError.NotWritten }
     ensures nothing { result ≢ Err ScriptError.NotWritten → OnErr result (writer.new ≡ writer.old) }
 {
