@@ -1,4 +1,8 @@
 //! Replays each line of the input.
+ghost use Rattle.std.specs.Prelude.{◌≡◌, ◌<◌, map, IfOk, string_bytes};
+ghost use Rattle.serde_json.specs.View.{view};
+ghost use Rattle.vectors.specs.Compare.{AreLinesOf};
+
 use crate::compare::{Difference, Recorded, first_difference, recorded_from};
 use crate::lines::{Line, next_line};
 use crate::replay::{End, replay};
@@ -19,7 +23,10 @@ pub struct Tally {
 
 impl Tally {
     /// The exit status: 1 where a line differs.
-    pub fn status(&self) -> u8 {
+    pub fn status(&self) -> u8
+        ensures none { self.now.differ ≡ 0 → result ≡ 0 }
+        ensures some { 0 < self.now.differ → result ≡ 1 }
+    {
         if self.differ == 0 { 0 } else { 1 }
     }
 
@@ -67,7 +74,10 @@ fn compare<W: Write>(
     number: u64,
     recorded: Recorded<'_>,
     text: &mut String,
-) -> io::Result<Verdict> {
+) -> io::Result<Verdict>
+    ensures agrees { IfOk result (λ verdict. verdict ≡ Verdict.Agrees
+        → AreLinesOf (map view recorded.entry.lines.now) (string_bytes text.new)) }
+{
     let end = replay(alloc, text, script_from_value(alloc, recorded.script));
     if end != End::Done {
         add_end(text, end)?;
