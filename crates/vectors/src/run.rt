@@ -77,6 +77,8 @@ fn compare<W: Write>(
 ) -> io::Result<Verdict>
     ensures agrees { IfOk result (λ verdict. verdict ≡ Verdict.Agrees
         → AreLinesOf (map view recorded.entry.lines.now) (string_bytes text.new)) }
+    ensures differs { IfOk result (λ verdict. verdict ≡ Verdict.Differs
+        → AreLinesOf (map view recorded.entry.lines.now) (string_bytes text.new) → ⊥) }
 {
     let end = replay(alloc, text, script_from_value(alloc, recorded.script));
     if end != End::Done {
