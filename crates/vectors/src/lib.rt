@@ -10,6 +10,10 @@ mod handing;
 #[cfg(test)]
 mod keeping;
 #[cfg(test)]
+mod origin;
+#[cfg(test)]
 mod reading;
+#[cfg(test)]
+mod renewing;
 #[cfg(test)]
 mod storing;
