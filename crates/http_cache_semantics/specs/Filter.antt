@@ -1,10 +1,9 @@
 -- The headers that a cache hands on.
-use Rattle.std.specs.Prelude.{◌≡◌, ℕ, ◌-◌, Bool, true, false, not, ◌||◌, List, [], ◌∷◌, ◌++◌, Option, None, option_map, length, map, filter, drop, bytes_eq, codes, if◌then◌else◌}
+use Rattle.std.specs.Prelude.{ℕ, Bool, true, false, not, ◌||◌, List, [], ◌∷◌, Option, None, option_map, map, filter, bytes_eq, codes, if◌then◌else◌}
 use Rattle.std.specs.List.{list_any}
 use Rattle.std.specs.FinMap as fin
 use Rattle.http_header.specs.Token.{lowercase}
 use Rattle.http.specs.Method.{is_among}
-use Rattle.http_header.specs.FieldValue.{FieldValue}
 use Rattle.http_cache_semantics.specs.Text.{begins_with}
 use Rattle.http_cache_semantics.specs.Headers.{Headers, values, last_only}
 use Rattle.http_cache_semantics.specs.Pieces.{pieces_under, join}
