@@ -3,9 +3,7 @@ ghost use Rattle.std.specs.Prelude.{◌≡◌, ℕ, ◌≤◌, List, [], true, b
 ghost use Rattle.std.specs.FinMap as fin;
 ghost use Rattle.http_header.specs.HeaderMap.{get_all};
 ghost use Rattle.http_cache_semantics.specs.Headers.{headers_of, holds, set_unless_empty, value_count};
-ghost use Rattle.http_cache_semantics.specs.Filter.{is_hop_by_hop, ChangesAt, IsLast, end_to_end, without_spelled, lasting_warnings, filtered};
-ghost use Rattle.http_cache_semantics.specs.Pieces.{pieces_under};
-ghost use Rattle.http_cache_semantics.specs.Filter.{last_only};
+ghost use Rattle.http_cache_semantics.specs.Filter.{is_hop_by_hop, last_only, ChangesAt, IsLast, end_to_end, without_spelled, lasting_warnings, filtered};
 
 use crate::directives::{Commas, pieces_under};
 use crate::error::CacheError;
