@@ -136,7 +136,7 @@ fn replay_line<W: Write>(
             if e.is_memory() {
                 refuse(writer, number, "found no memory")
             } else {
-                refuse(writer, number, "is not JSON")
+                answer(alloc, writer, line, text)
             }
         }
     }
