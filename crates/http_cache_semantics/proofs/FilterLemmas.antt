@@ -1,29 +1,23 @@
 -- What the filter does to headers, name by name.
-use Rattle.std.proofs.Common.{◌≡◌, ◌≢◌, ℕ, ◌-◌, ◌<◌, ◌≤◌, Bool, true, false, not, ◌||◌, List, [], ◌∷◌, ◌++◌, map, filter, length, drop, ◌==◌, cond, if◌then◌else◌, bytes_eq, codes, is_some, slice_get, Option, Some, None, option_map, unwrap_or, refl, sym, ap, subst, ◌∙◌, ◌⊎◌, inl, inr, arith, length-append, true≢false}
+use Rattle.std.proofs.Common.{◌≡◌, ◌≢◌, ℕ, ◌-◌, ◌<◌, ◌≤◌, Bool, true, false, not, ◌||◌, List, [], ◌∷◌, ◌++◌, map, filter, length, drop, cond, if◌then◌else◌, bytes_eq, codes, is_some, slice_get, Option, Some, None, option_map, unwrap_or, refl, sym, ap, subst, ◌∙◌, ◌⊎◌, inl, inr, arith, length-append, true≢false}
 use Rattle.std.specs.Ordering.{eq_by_cmp}
 use Rattle.std.specs.Borrow.{Bor}
 use Rattle.std.specs.List.{list_any}
 use Rattle.std.specs.Cmp.Lexicographic.{nat_list_cmp_total, nat_list_eq_equiv}
 use Rattle.std.specs.FinMap as fin
 use Rattle.std.proofs.lemmas.Bool.{cases_Bool}
-use Rattle.std.proofs.lemmas.Bool.Decides.{nat_tests}
-use Rattle.std.proofs.lemmas.List.Sums.{AllPass-from_list_all}
-use Rattle.http_header.specs.Token.{is_visible_or_blank}
-use Rattle.http_header.proofs.TokenLemmas.{IsFieldValue-from_visible}
-use Rattle.http_cache_semantics.specs.Text.{is_text, begins_with}
+use Rattle.http_cache_semantics.specs.Text.{begins_with}
 use Rattle.std.proofs.lemmas.List.{map-append, drop_at, length-drop}
 use Rattle.std.proofs.lemmas.List.Folds.{list_any-append}
 use Rattle.std.proofs.lemmas.Slice.Eq.{bytes_eq-Decides}
-use Rattle.http.specs.Method.{is_among}
 use Rattle.http_header.specs.Token.{lowercase}
-use Rattle.http_header.specs.FieldValue.{FieldValue, IsFieldValue}
-use Rattle.http_header.specs.HeaderMap.{Entries, get_all, insert, keys, IsHeaderMap}
-use Rattle.http_cache_semantics.specs.Headers.{Headers, headers_of, entry_of, bytes_of, values, holds, set, set_unless_empty, ChangesUnder, last_only}
+use Rattle.http_header.specs.FieldValue.{FieldValue}
+use Rattle.http_header.specs.HeaderMap.{Entries, get_all, IsHeaderMap}
+use Rattle.http_cache_semantics.specs.Headers.{Headers, headers_of, bytes_of, values, holds, set, set_unless_empty, ChangesUnder, last_only}
 use Rattle.http_cache_semantics.specs.Pieces.{pieces_under, pieces_of_values, join}
-use Rattle.http_cache_semantics.proofs.JoinLemmas.{join-text, pieces-text}
 use Rattle.http_cache_semantics.specs.Filter.{is_hop_by_hop, is_spelled, unless_empty, lasting_warnings, handed_on, has_some, with_values, filtered, end_to_end, without_spelled, kept_values}
 use Rattle.http_cache_semantics.proofs.SweepLemmas.{IsSettling, IsSwept, IsSwept-end}
-use Rattle.http_cache_semantics.proofs.HeadersLemmas.{by_name, ties, get-headers_of, values-headers_of, headers_of-insert, same_headers, non_empty}
+use Rattle.http_cache_semantics.proofs.HeadersLemmas.{by_name, ties, get-headers_of, values-headers_of, same_headers, non_empty}
 
 -- ---- one name
 

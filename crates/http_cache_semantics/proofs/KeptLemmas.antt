@@ -1,6 +1,6 @@
 -- What is kept of a response stays as it is when it is kept again.
-use Rattle.std.proofs.Common.{◌≡◌, ℕ, Bool, true, false, cond, not, ◌&&◌, List, [], ◌∷◌, length, Option, Some, None, is_some, unwrap_or, slice_get, if◌then◌else◌, refl, sym, ap, ◌∙◌, inl, inr, subst, bytes_eq, codes, true≢false}
-use Rattle.std.specs.Ordering.{nat_cmp, eq_by_cmp}
+use Rattle.std.proofs.Common.{◌≡◌, ℕ, Bool, true, false, cond, not, ◌&&◌, List, [], ◌∷◌, Some, None, is_some, unwrap_or, slice_get, if◌then◌else◌, refl, sym, ap, ◌∙◌, inl, inr, subst, bytes_eq, codes, true≢false}
+use Rattle.std.specs.Ordering.{eq_by_cmp}
 use Rattle.std.proofs.lemmas.Bool.{cases_Bool}
 use Rattle.std.specs.Cmp.Lexicographic.{nat_list_cmp_total}
 use Rattle.std.specs.FinMap as fin

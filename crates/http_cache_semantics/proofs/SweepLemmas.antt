@@ -1,5 +1,5 @@
 -- Sweeps over the names of a header map that change what stands under each.
-use Rattle.std.proofs.Common.{◌≡◌, ◌≢◌, ◌⊎◌, ℕ, Bool, Bor, map, slice_get, is_some, true≢false, true, false, List, [], ◌∷◌, cond, if◌then◌else◌, bytes_eq, Option, Some, None, option_map, refl, sym, ap, subst, ◌∙◌, inl, inr}
+use Rattle.std.proofs.Common.{◌≡◌, ◌≢◌, ◌⊎◌, ℕ, Bor, map, slice_get, is_some, true≢false, true, false, List, [], ◌∷◌, bytes_eq, Option, Some, None, option_map, refl, sym, ap, subst, ◌∙◌, inl, inr}
 use Rattle.std.specs.FinMap as fin
 use Rattle.std.specs.Ordering.{eq_by_cmp}
 use Rattle.std.specs.Cmp.Lexicographic.{nat_list_cmp_total, nat_list_eq_equiv}

@@ -1,6 +1,5 @@
 -- Entity tags and their marks of weakness.
-use Rattle.std.proofs.Common.{◌≡◌, ◌&&◌, ◌==◌, ℕ, List, [], ◌∷◌, Bool, true, false, take, drop, codes, bytes_eq, refl, sym, ap, ◌∙◌, inl, inr}
-use Rattle.std.proofs.lemmas.Bool.{cases_Bool}
+use Rattle.std.proofs.Common.{◌≡◌, ◌&&◌, ◌==◌, ℕ, List, [], ◌∷◌, Bool, true, false, take, drop, codes, bytes_eq, refl, sym, ◌∙◌}
 use Rattle.http_cache_semantics.specs.Selection.{is_mark, stripped}
 
 both : (a b : Bool) → (a && (b && true)) ≡ (a && b)

@@ -8,7 +8,7 @@ use Rattle.http_cache_semantics.specs.Kept.{kept}
 use Rattle.http_cache_semantics.proofs.KeptLemmas.{kept_response-adds_none, kept_response-other}
 use Rattle.std.specs.FinMap as fin
 use Rattle.http_cache_semantics.specs.Headers.{Headers, values, first, last_only}
-use Rattle.http_cache_semantics.specs.Filter.{has_some, with_values}
+use Rattle.http_cache_semantics.specs.Filter.{has_some}
 use Rattle.http_cache_semantics.specs.Update.{is_of_body, new_value, renewed, renewed_headers, next_where}
 use Rattle.http_cache_semantics.proofs.HeadersLemmas.{same_headers, non_empty}
 use Rattle.http_cache_semantics.proofs.FilterLemmas.{IsFilled, get-with_values, last_only-twice, last-kept}

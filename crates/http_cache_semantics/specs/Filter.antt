@@ -1,10 +1,8 @@
 -- The headers that a cache hands on.
-use Rattle.std.specs.Prelude.{◌≡◌, ℕ, ◌-◌, Bool, true, false, not, ◌||◌, List, [], ◌∷◌, ◌++◌, Option, None, option_map, length, map, filter, drop, bytes_eq, codes, if◌then◌else◌}
+use Rattle.std.specs.Prelude.{ℕ, Bool, true, false, not, ◌||◌, List, [], ◌∷◌, Option, None, option_map, map, filter, bytes_eq, codes, if◌then◌else◌}
 use Rattle.std.specs.List.{list_any}
 use Rattle.std.specs.FinMap as fin
 use Rattle.http_header.specs.Token.{lowercase}
-use Rattle.http.specs.Method.{is_among}
-use Rattle.http_header.specs.FieldValue.{FieldValue}
 use Rattle.http_cache_semantics.specs.Text.{begins_with}
 use Rattle.http_cache_semantics.specs.Headers.{Headers, values, last_only}
 use Rattle.http_cache_semantics.specs.Pieces.{pieces_under, join}
@@ -25,7 +23,7 @@ hop_by_hop =
 
 -- the name is one of them
 unfoldable pub is_hop_by_hop : List ℕ → Bool
-is_hop_by_hop name = is_among hop_by_hop name
+is_hop_by_hop name = list_any (bytes_eq name) hop_by_hop
 
 -- one of the texts spells the name, in any case
 abbrev pub is_spelled : List (List ℕ) → List ℕ → Bool

@@ -1,5 +1,5 @@
 -- Headers: a finite map from names in lower case to their values, where the order of names does not count.
-use Rattle.std.specs.Prelude.{◌≡◌, ℕ, ◌+◌, ◌-◌, drop, ◌^◌, ◌≤◌, ◌⊎◌, List, [], ◌∷◌, ◌++◌, length, map, Option, Some, None, bytes_eq, Bool, ◌&&◌, nat_lt, nat_le, if◌then◌else◌, is_some, option_and_then, slice_get, sum_by, unwrap_or}
+use Rattle.std.specs.Prelude.{◌≡◌, ℕ, ◌+◌, ◌-◌, drop, ◌^◌, ◌≤◌, ◌⊎◌, List, [], ◌∷◌, ◌++◌, length, map, Option, None, bytes_eq, Bool, ◌&&◌, nat_lt, nat_le, if◌then◌else◌, is_some, option_and_then, slice_get, sum_by, unwrap_or}
 use Rattle.std.specs.Ordering.{nat_cmp}
 use Rattle.std.specs.Cmp.Lexicographic.{slice_cmp}
 use Rattle.std.specs.Coded.{Coded, coded_list, coded_ℕ}

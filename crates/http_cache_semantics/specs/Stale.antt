@@ -1,5 +1,5 @@
 -- The request that goes to the origin (RFC 7234, section 4.3.1).
-use Rattle.std.specs.Prelude.{◌≡◌, ◌⊎◌, ℕ, Bool, true, false, not, ◌&&◌, ◌||◌, List, [], ◌∷◌, ◌++◌, filter, codes, bytes_eq, Option, Some, None, is_some, if◌then◌else◌}
+use Rattle.std.specs.Prelude.{◌≡◌, ◌⊎◌, ℕ, Bool, true, false, not, ◌||◌, List, [], ◌∷◌, ◌++◌, filter, codes, bytes_eq, Option, Some, None, is_some, if◌then◌else◌}
 use Rattle.std.specs.FinMap as fin
 use Rattle.http.specs.declared.request.Parts.{Parts}
 use Rattle.http_cache_semantics.specs.Text.{begins_with}

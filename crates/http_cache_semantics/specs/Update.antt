@@ -1,6 +1,6 @@
 -- What is stored after the origin has answered (RFC 7234, section 4.3.4).
-use Rattle.std.specs.Prelude.{ℕ, ℤ, Bool, List, [], ◌∷◌, codes, Option, Some, None, if◌then◌else◌}
-use Rattle.http.specs.Method.{is_among}
+use Rattle.std.specs.Prelude.{ℕ, ℤ, Bool, List, [], ◌∷◌, codes, bytes_eq, Option, Some, None, if◌then◌else◌}
+use Rattle.std.specs.List.{list_any}
 use Rattle.http_uri.specs.declared.uri.Uri.{Uri}
 use Rattle.http_cache_semantics.specs.Headers.{Headers, first, values, last_only}
 use Rattle.http_cache_semantics.specs.Filter.{with_values}
@@ -19,7 +19,7 @@ names_of_body =
 
 -- the name is one of them
 unfoldable pub is_of_body : List ℕ → Bool
-is_of_body name = is_among names_of_body name
+is_of_body name = list_any (bytes_eq name) names_of_body
 
 -- the value that a 304 has for a stored name: its first, unless the name speaks of the body
 abbrev pub new_value : Headers → List ℕ → Option (List ℕ)

@@ -15,11 +15,11 @@ mod filter;
 mod fresh;
 mod origin;
 
-use crate::directives::{CacheControl, GetHeaderStr, cache_control_of, get_all_comma};
+use crate::directives::{CacheControl, cache_control_of, get_all_comma, pragma_forbids};
 use crate::error::CacheError;
 use crate::headers::{has_same_first, has_same_first_under};
 use crate::policy::{CachePolicy, RequestLike};
-use crate::text::{contains, number};
+use crate::text::number;
 use http::{HeaderMap, Method, request, response};
 use jiff::Timestamp;
 use std::alloc::Global;
@@ -68,13 +68,7 @@ fn nanos(seconds: u64) -> u128
 fn forbids_cached(asked: &CacheControl, headers: &HeaderMap) -> bool
     ensures { result ≡ forbids_cached asked.now (first_text (headers_of headers.now) (codes "pragma")) }
 {
-    if asked.contains_key("no-cache") {
-        return true;
-    }
-    match headers.get_str("pragma") {
-        Some(text) => contains(text, "no-cache"),
-        None => false,
-    }
+    asked.contains_key("no-cache") || pragma_forbids(headers)
 }
 
 // Whether an age is at most the asked one.

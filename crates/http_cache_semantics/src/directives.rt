@@ -10,10 +10,11 @@ ghost use Rattle.http_cache_semantics.specs.Shown.{shown_entry};
 ghost use Rattle.http_cache_semantics.specs.Readable.{IsDirective, AreDirectives};
 ghost use Rattle.http_cache_semantics.specs.Text.{is_text};
 ghost use Rattle.http_cache_semantics.specs.Written.{is_bare, written_rest, written};
+ghost use Rattle.http_cache_semantics.specs.Pragma.{pragma_forbids};
 ghost use Rattle.http_cache_semantics.specs.CargoCult.{is_cargo_cult, without_cargo_cult};
 
 pub use crate::error::CacheError;
-use crate::text::{trim, unquote};
+use crate::text::{contains, trim, unquote};
 use http_header::{GetAll, HeaderMap, HeaderValue, ValueIter};
 use indexmap::IndexMap;
 use std::alloc::{AllocError, Global};
@@ -62,6 +63,16 @@ pub fn get_all_comma<'a>(all: GetAll<'a, HeaderValue>) -> Commas<'a>
     Commas {
         values: all.iter(),
         rest: None,
+    }
+}
+
+/// Whether the first Pragma asks for validation (RFC 7234, section 5.4).
+pub(crate) fn pragma_forbids(res: &HeaderMap) -> bool
+    ensures { result ≡ pragma_forbids (headers_of res.now) }
+{
+    match res.get_str("pragma") {
+        Some(text) => contains(text, "no-cache"),
+        None => false,
     }
 }
 

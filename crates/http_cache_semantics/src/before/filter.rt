@@ -2,7 +2,6 @@
 ghost use Rattle.std.specs.Prelude.{◌≡◌, ◌≤◌, true, codes, IfOk, OnOk, IsOkUnless, string_bytes};
 ghost use Rattle.http_cache_semantics.specs.Headers.{headers_of, holds, set_unless_empty, ChangesUnder, value_count};
 ghost use Rattle.http_cache_semantics.specs.Filter.{is_hop_by_hop, kept_values, end_to_end, without_spelled, lasting_warnings, filtered};
-ghost use Rattle.http_cache_semantics.specs.Pieces.{pieces_under};
 
 use crate::directives::{Commas, pieces_under};
 use crate::error::CacheError;

@@ -7,10 +7,9 @@ ghost use Rattle.http_cache_semantics.specs.CargoCult.{has_cargo_cult};
 ghost use Rattle.http_cache_semantics.specs.Pragma.{pragma_forbids, with_pragma};
 ghost use Rattle.http_cache_semantics.specs.Kept.{with_line_alone, kept_response};
 
-use crate::directives::{CacheControl, GetHeaderStr, cache_control_of, format_cache_control};
+use crate::directives::{CacheControl, cache_control_of, format_cache_control, pragma_forbids};
 use crate::error::CacheError;
 use crate::headers::{holds, put, take_out, value_of};
-use crate::text::contains;
 use http::HeaderMap;
 use std::alloc::Global;
 
@@ -52,16 +51,6 @@ fn ignore_cargo_cult(
     }
     directives.remove_cargo_cult();
     rewrite(alloc, res, directives)
-}
-
-// Whether the first Pragma asks for validation.
-fn pragma_forbids(res: &HeaderMap) -> bool
-    ensures { result ≡ pragma_forbids (headers_of res.now) }
-{
-    match res.get_str("pragma") {
-        Some(text) => contains(text, "no-cache"),
-        None => false,
-    }
 }
 
 // Adds what Pragma says, where there is no Cache-Control at all.

@@ -1,4 +1,4 @@
-use Rattle.std.proofs.Common.{◌≡◌, ◌↔◌, ◌&&◌, ℕ, List, length, subst, sym, ap, ◌∙◌}
+use Rattle.std.proofs.Common.{◌↔◌, ◌&&◌, ℕ, List, length, subst, sym, ap, ◌∙◌}
 use Rattle.std.specs.Bool.{IsTrue}
 use Rattle.std.specs.Prelude.{nat_le}
 use Rattle.http_header.specs.Token.{IsToken}

@@ -1,4 +1,4 @@
-use Rattle.std.proofs.Common.{◌≡◌, ap, subst, ◌∙◌}
+use Rattle.std.proofs.Common.{ap, ◌∙◌}
 use Rattle.http_cache_semantics.specs.Selection.{stripped}
 use Rattle.http_cache_semantics.proofs.TagLemmas.{stripped-next, stripped-end}
 use Rattle.http_cache_semantics.proofs.after.selection.stripped.Goals as goal

@@ -1,7 +1,6 @@
-use Rattle.std.proofs.Common.{◌≡◌, ◌∙◌, ℕ, List, Option, Some, None, option_map, cond, Bor, refl, sym, ap}
+use Rattle.std.proofs.Common.{◌≡◌, ◌∙◌, Option, Some, None, option_map, cond, Bor, refl, sym, ap}
 use Rattle.http_header.specs.FieldValue.{FieldValue}
 use Rattle.http_cache_semantics.specs.Headers.{headers_of, first}
-use Rattle.http_cache_semantics.specs.Update.{is_of_body, new_value}
 use Rattle.http_cache_semantics.proofs.HeadersLemmas.{first-headers_of}
 use Rattle.http_cache_semantics.proofs.after.update.new_value.Goals as goal
 

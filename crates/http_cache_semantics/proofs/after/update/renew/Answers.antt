@@ -1,7 +1,7 @@
-use Rattle.std.proofs.Common.{◌≡◌, ◌≢◌, ◌∙◌, ℕ, List, Option, Some, None, is_some, option_map, not, refl, sym, ap, subst}
+use Rattle.std.proofs.Common.{◌≡◌, ◌∙◌, Some, not, sym, ap}
 use Rattle.std.proofs.lemmas.Result.{on_ok_weaker}
 use Rattle.std.specs.FinMap as fin
-use Rattle.http_cache_semantics.specs.Headers.{Headers, headers_of, set, ChangesUnder}
+use Rattle.http_cache_semantics.specs.Headers.{headers_of, set}
 use Rattle.http_cache_semantics.specs.Update.{new_value, renewed}
 use Rattle.http_cache_semantics.proofs.HeadersLemmas.{only_memory}
 use Rattle.http_cache_semantics.proofs.SweepLemmas.{there-is, none-from_test, some-from_test, changes-absent, changes-set}

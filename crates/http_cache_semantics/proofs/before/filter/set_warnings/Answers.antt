@@ -1,8 +1,7 @@
-use Rattle.std.proofs.Common.{◌≡◌, ◌≢◌, ℕ, List, [], not, codes, string_bytes, subst, ap, sym, ◌∙◌}
+use Rattle.std.proofs.Common.{◌≡◌, ◌≢◌, ℕ, List, [], not, codes, string_bytes, subst, ap, ◌∙◌}
 use Rattle.std.proofs.lemmas.Result.{on_ok_weaker}
 use Rattle.http_cache_semantics.specs.Text.{begins_with}
 use Rattle.http_cache_semantics.specs.Headers.{headers_of, values, set_unless_empty}
-use Rattle.http_cache_semantics.specs.Filter.{lasting_warnings}
 use Rattle.http_cache_semantics.proofs.HeadersLemmas.{memory_alone}
 use Rattle.http_cache_semantics.proofs.JoinLemmas.{passed-is_value}
 use Rattle.http_cache_semantics.proofs.FilterLemmas.{warnings-there}

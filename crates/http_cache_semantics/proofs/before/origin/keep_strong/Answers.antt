@@ -1,4 +1,4 @@
-use Rattle.std.proofs.Common.{◌≡◌, ◌≢◌, ℕ, Bool, List, [], not, filter, codes, string_bytes, refl, subst, sym, ap, ◌∙◌}
+use Rattle.std.proofs.Common.{◌≢◌, ℕ, Bool, List, [], not, filter, codes, string_bytes, refl, subst, sym, ap, ◌∙◌}
 use Rattle.std.specs.FinMap as fin
 use Rattle.http_cache_semantics.specs.Text.{begins_with}
 use Rattle.http_cache_semantics.specs.Headers.{Headers, headers_of, values}

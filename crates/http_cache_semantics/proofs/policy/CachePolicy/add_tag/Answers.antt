@@ -1,4 +1,4 @@
-use Rattle.std.proofs.Common.{ℕ, List, [], ◌∷◌, ◌++◌, codes, ap, ◌∙◌}
+use Rattle.std.proofs.Common.{[], ◌∷◌, ◌++◌, codes, ap, ◌∙◌}
 use Rattle.http_cache_semantics.specs.Headers.{headers_of, first, values}
 use Rattle.http_cache_semantics.specs.Pieces.{join}
 use Rattle.http_cache_semantics.proofs.JoinLemmas.{with-is_value, first_text-is_text}

@@ -1,13 +1,12 @@
-use Rattle.std.proofs.Common.{◌≡◌, Bool, true, List, ℕ, ℤ, Result, Ok, Err, None, IfOk, if◌then◌else◌, length, sym, ap, subst, ◌∙◌}
+use Rattle.std.proofs.Common.{◌≡◌, Bool, true, List, ℕ, ℤ, Result, Ok, Err, None, IfOk, length, sym, ap, subst, ◌∙◌}
 use Rattle.std.specs.FinMap as fin
 use Rattle.std.proofs.lemmas.Result.{IfOk-weaker}
 use Rattle.http_uri.specs.declared.uri.Uri.{Uri}
 use Rattle.http_cache_semantics.specs.Headers.{Headers, headers_of, values}
 use Rattle.http_cache_semantics.specs.Exchange.{Exchange}
-use Rattle.http_cache_semantics.specs.Kept.{kept}
 use Rattle.http_cache_semantics.specs.Fresh.{RefusesFreshHeaders, HasNoDate}
 use Rattle.http_cache_semantics.specs.Selection.{is_selected}
-use Rattle.http_cache_semantics.specs.Update.{is_of_body, renewed_headers, next_where, next}
+use Rattle.http_cache_semantics.specs.Update.{is_of_body, next_where, next}
 use Rattle.http_cache_semantics.specs.Answer.{is_not_modified, policy_in}
 use Rattle.http_cache_semantics.proofs.UpdateLemmas.{next-made, next-status, next-adds_none, next-body}
 use Rattle.http_cache_semantics.proofs.policy.CachePolicy.after_response.Given as given

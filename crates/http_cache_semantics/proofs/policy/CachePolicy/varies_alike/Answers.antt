@@ -1,9 +1,9 @@
-use Rattle.std.proofs.Common.{◌≡◌, ℕ, List, codes, rules, tests, sym, ap, ◌∙◌}
+use Rattle.std.proofs.Common.{codes, rules, tests, sym, ap, ◌∙◌}
 use Rattle.std.proofs.lemmas.Iterator.Consumers.{YieldsList-from_first}
 use Rattle.std.proofs.lemmas.Iterator.Search.{all_from_yields_List}
 use Rattle.http_cache_semantics.specs.Headers.{headers_of, bytes_of, values}
 use Rattle.http_cache_semantics.specs.Pieces.{pieces_of_values}
-use Rattle.http_cache_semantics.specs.Match.{varied_names, varied_by, varies_alike}
+use Rattle.http_cache_semantics.specs.Match.{varied_names, varies_alike}
 use Rattle.http_cache_semantics.proofs.HeadersLemmas.{values-headers_of}
 use Rattle.http_cache_semantics.proofs.VaryLemmas.{agrees_on, list_all-agrees_on}
 use Rattle.http_cache_semantics.proofs.policy.CachePolicy.varies_alike.Goals as goal
