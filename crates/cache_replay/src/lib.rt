@@ -1,0 +1,9 @@
+//! Replays scripts by the library's public calls, tells their full answers as text, and compares
+//! recorded answers.
+#![tactic(auto)]
+
+mod compare;
+pub mod lines;
+pub mod replay;
+pub mod run;
+mod shown;

@@ -1,0 +1,84 @@
+//! Requests, responses, policies and moments of cases.
+//!
+//! Headers are written `Name: value`, with `~` between them; each character of a value stands for
+//! the byte of its number. Each function makes at most one policy or message and hands it on, since
+//! the prover looks at every place where one is let go.
+use http::header::{HeaderName, HeaderValue};
+use http::{HeaderMap, Method, StatusCode, Uri, Version, request, response};
+use http_cache_semantics::CachePolicy;
+use http_cache_semantics::directives::GetHeaderStr;
+use jiff::Timestamp;
+use std::alloc::Global;
+use std::test::Fail;
+
+/// 2024-01-01T00:00:00Z, the moment from which the cases count.
+pub const START: i64 = 1704067200;
+
+/// A field of a case, trimmed.
+pub fn field(case: &str, place: usize) -> Result<&str, Fail> {
+    Ok(case.split('|').nth(place).ok_or("no such field")?.trim())
+}
+
+fn value(alloc: Global, text: &str) -> Result<HeaderValue, Fail> {
+    let mut bytes = Vec::new(alloc);
+    for c in text.chars() {
+        bytes.push(u8::try_from(c as u32).or(Err("no byte"))?)?;
+    }
+    Ok(HeaderValue::from_vec(bytes)?)
+}
+
+/// A map of the headers of a field, appended in order.
+pub fn headers(alloc: Global, text: &str) -> Result<HeaderMap, Fail> {
+    let mut map = HeaderMap::new(alloc);
+    for line in text.split('~') {
+        if let Some((name, text)) = line.split_once(':') {
+            let name = HeaderName::from_bytes(alloc, name.trim().as_bytes())?;
+            map.append(name, value(alloc, text.trim())?)?;
+        }
+    }
+    Ok(map)
+}
+
+/// A request for `/a`.
+pub fn request(alloc: Global, method: &str, lines: &str) -> Result<request::Parts, Fail> {
+    Ok(request::Parts {
+        method: Method::from_bytes(alloc, method.as_bytes())?,
+        uri: Uri::from_str(alloc, "/a")?,
+        version: Version::HTTP_11,
+        headers: headers(alloc, lines)?,
+    })
+}
+
+/// A response.
+pub fn response(alloc: Global, status: &str, lines: &str) -> Result<response::Parts, Fail> {
+    Ok(response::Parts {
+        status: StatusCode::from_bytes(status.as_bytes())?,
+        version: Version::HTTP_11,
+        headers: headers(alloc, lines)?,
+    })
+}
+
+/// The moment so many nanoseconds after the start.
+pub fn after(nanos: i64) -> Result<Timestamp, Fail> {
+    let start = START as i128 * 1_000_000_000;
+    Ok(Timestamp::from_nanosecond(start + nanos as i128)?)
+}
+
+// The policy of a shared cache for a request, answered at the start.
+fn policy_of(alloc: Global, request: &request::Parts, lines: &str) -> Result<CachePolicy, Fail> {
+    let received = after(0)?;
+    let response = response(alloc, "200", lines)?;
+    Ok(CachePolicy::new(alloc, request, &response, received)?)
+}
+
+/// The policy of a shared cache for a GET of `/a` without headers, answered by a status 200 with
+/// these headers at the start.
+pub fn policy(alloc: Global, lines: &str) -> Result<CachePolicy, Fail> {
+    let request = request(alloc, "GET", "")?;
+    policy_of(alloc, &request, lines)
+}
+
+/// A header that has to be there, as text.
+pub fn text_of<'a>(headers: &'a HeaderMap, name: &str) -> Result<&'a str, Fail> {
+    Ok(headers.get_str(name).ok_or("no such header")?)
+}
