@@ -1,8 +1,7 @@
 //! Requests, responses, policies and moments of cases.
 //!
-//! Headers are written `Name: value`, with `~` between them; each character of a value stands for
-//! the byte of its number. Each function makes at most one policy or message and hands it on, since
-//! the prover looks at every place where one is let go.
+//! Headers are written `Name: value`, with `~` between them. Each function makes at most one policy
+//! or message and hands it on, since the prover looks at every place where one is let go.
 use http::header::{HeaderName, HeaderValue};
 use http::{HeaderMap, Method, StatusCode, Uri, Version, request, response};
 use http_cache_semantics::CachePolicy;
@@ -19,21 +18,16 @@ pub fn field(case: &str, place: usize) -> Result<&str, Fail> {
     Ok(case.split('|').nth(place).ok_or("no such field")?.trim())
 }
 
-fn value(alloc: Global, text: &str) -> Result<HeaderValue, Fail> {
-    let mut bytes = Vec::new(alloc);
-    for c in text.chars() {
-        bytes.push(u8::try_from(c as u32).or(Err("no byte"))?)?;
-    }
-    Ok(HeaderValue::from_vec(bytes)?)
-}
-
 /// A map of the headers of a field, appended in order.
 pub fn headers(alloc: Global, text: &str) -> Result<HeaderMap, Fail> {
     let mut map = HeaderMap::new(alloc);
     for line in text.split('~') {
         if let Some((name, text)) = line.split_once(':') {
             let name = HeaderName::from_bytes(alloc, name.trim().as_bytes())?;
-            map.append(name, value(alloc, text.trim())?)?;
+            map.append(
+                name,
+                HeaderValue::from_bytes(alloc, text.trim().as_bytes())?,
+            )?;
         }
     }
     Ok(map)
