@@ -1,8 +1,9 @@
 //! Recorded answers, and where another answer differs from one.
-ghost use Rattle.std.specs.Prelude.{◌≡◌, ◌↔◌, map, option_and_then, Some, IsNone, IsSome, IfSome, IsTrue, codes};
-ghost use Rattle.serde_json.specs.View.{view, items_view};
-ghost use Rattle.serde_json.specs.Find.{get, as_str, as_array};
-ghost use Rattle.cache_replay.specs.Compare.{AreLinesOf};
+ghost use Rattle.std.specs.Prelude.{◌≡◌, ◌↔◌, map, option_map, Some, IsNone, IsSome, IsTrue};
+ghost use Rattle.serde_json.specs.View.{view};
+ghost use Rattle.serde_json.specs.Find.{as_str};
+ghost use Rattle.cache_script.specs.Form.{has_members};
+ghost use Rattle.cache_replay.specs.Compare.{are_texts, recorded_of, AreLinesOf};
 
 use serde_json::Value;
 
@@ -15,18 +16,36 @@ pub struct Recorded<'a> {
     pub lines: &'a [Value],
 }
 
+fn has_two_members(value: &Value) -> bool
+    ensures { result ≡ has_members 2 (view value.now) }
+{
+    match value.as_object() {
+        Some(members) => members.len() == 2,
+        None => false,
+    }
+}
+
+fn are_texts(values: &[Value]) -> bool
+    ensures { result ≡ are_texts (map view values.now) }
+{
+    values.iter().all(|value| value.is_string())
+}
+
 /// The recorded answer that a value is: an object with `script` and a list of texts `answer` alone.
+#[tactic(auto, unfolding(crate::specs::Compare::recorded_of))]
 pub fn recorded_from(value: &Value) -> Option<Recorded<'_>>
-    ensures script { IfSome result (λ r. get (codes "script") (view value.now) ≡ Some (view r.script.now)) }
-    ensures lines { IfSome result (λ r. option_and_then as_array (get (codes "answer") (view value.now))
-        ≡ Some (items_view r.lines.now)) }
+    ensures { option_map (λ r. record {
+      script = view r.script.now;
+      lines = map view r.lines.now;
+    }) result ≡ recorded_of (view value.now) }
 {
     let script = value.get("script")?;
     let lines = value.get("answer")?.as_array()?.as_slice();
-    if value.as_object()?.len() != 2 || !lines.iter().all(|line| line.is_string()) {
-        return None;
+    if has_two_members(value) && are_texts(lines) {
+        Some(Recorded { script, lines })
+    } else {
+        None
     }
-    Some(Recorded { script, lines })
 }
 
 /// The first place at which two answers differ.

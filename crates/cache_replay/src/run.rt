@@ -1,16 +1,18 @@
 //! Replays each line of the input.
-ghost use Rattle.std.specs.Prelude.{◌≡◌, ◌<◌, map, IfOk, string_bytes};
+ghost use Rattle.std.specs.Prelude.{◌≡◌, ◌≢◌, ◌<◌, ◌+◌, ◌-◌, ◌^◌, min, map, [], Ok, None, IfOk, IfSome, string_bytes};
+ghost use Rattle.std.specs.Io.KnownBytes.{IsAtEnd};
+ghost use Rattle.std.specs.Io.BufRead.{first_piece, DropsThrough};
 ghost use Rattle.serde_json.specs.View.{view};
-ghost use Rattle.cache_replay.specs.Compare.{AreLinesOf};
+ghost use Rattle.cache_replay.specs.Verdicts.{IsComparison, IsVerdictOn, IsLineVerdict, HasVerdict, agreeing, differing, IsTallyOf};
 
 use crate::compare::{Difference, Recorded, first_difference, recorded_from};
-use crate::lines::{Line, next_line};
+use crate::lines::{Line, LineReader};
 use crate::replay::{End, replay};
 use cache_script::{script_from_bytes, script_from_value};
 use serde_json::Value;
 use std::alloc::Global;
 use std::io;
-use std::io::{BufRead, Write};
+use std::io::{BufRead, ErrorKind, Write};
 
 /// How many lines had the recorded answer, and how many hadn't or couldn't be read.
 #[derive(Clone, Copy, Debug, Default, PartialEq, Eq)]
@@ -30,12 +32,12 @@ impl Tally {
         if self.differ == 0 { 0 } else { 1 }
     }
 
-    fn add(&mut self, verdict: Verdict) {
-        match verdict {
-            Verdict::Agrees => self.agree = self.agree.saturating_add(1),
-            Verdict::Differs => self.differ = self.differ.saturating_add(1),
-            Verdict::Answered => {}
-        }
+    fn add(&mut self, verdict: Verdict)
+        ensures agree { self.new.agree ≡ min (self.old.agree + agreeing verdict) (2 ^ 64 - 1) }
+        ensures differ { self.new.differ ≡ min (self.old.differ + differing verdict) (2 ^ 64 - 1) }
+    {
+        self.agree = self.agree.saturating_add(verdict.agreeing());
+        self.differ = self.differ.saturating_add(verdict.differing());
     }
 }
 
@@ -43,8 +45,30 @@ impl Tally {
 enum Verdict {
     Agrees,
     Differs,
+    // It has an answer that isn't a recorded one, or couldn't be read.
+    Refused,
     // There was nothing to compare.
     Answered,
+}
+
+impl Verdict {
+    fn agreeing(self) -> u64
+        ensures { result ≡ agreeing self }
+    {
+        match self {
+            Verdict::Agrees => 1,
+            Verdict::Differs | Verdict::Refused | Verdict::Answered => 0,
+        }
+    }
+
+    fn differing(self) -> u64
+        ensures { result ≡ differing self }
+    {
+        match self {
+            Verdict::Differs | Verdict::Refused => 1,
+            Verdict::Agrees | Verdict::Answered => 0,
+        }
+    }
 }
 
 fn write_difference<W: Write>(
@@ -75,10 +99,8 @@ fn compare<W: Write>(
     recorded: Recorded<'_>,
     text: &mut String,
 ) -> io::Result<Verdict>
-    ensures agrees { IfOk result (λ verdict. verdict ≡ Verdict.Agrees
-        → AreLinesOf (map view recorded.entry.lines.now) (string_bytes text.new)) }
-    ensures differs { IfOk result (λ verdict. verdict ≡ Verdict.Differs
-        → AreLinesOf (map view recorded.entry.lines.now) (string_bytes text.new) → ⊥) }
+    ensures { IfOk result
+        (IsComparison (map view recorded.entry.lines.now) (string_bytes text.new)) }
 {
     let end = replay(alloc, text, script_from_value(alloc, recorded.script));
     if end != End::Done {
@@ -99,7 +121,9 @@ fn answer<W: Write>(
     writer: &mut W,
     line: &[u8],
     text: &mut String,
-) -> io::Result<Verdict> {
+) -> io::Result<Verdict>
+    ensures { IfOk result (λ verdict. verdict ≡ Verdict.Answered) }
+{
     let end = replay(alloc, text, script_from_bytes(alloc, line));
     add_end(text, end)?;
     writer.write_all(text.as_bytes())?;
@@ -112,9 +136,11 @@ fn add_end(text: &mut String, end: End) -> io::Result<()> {
     Ok(())
 }
 
-fn refuse<W: Write>(writer: &mut W, number: u64, why: &str) -> io::Result<Verdict> {
+fn refuse<W: Write>(writer: &mut W, number: u64, why: &str) -> io::Result<Verdict>
+    ensures { IfOk result (λ verdict. verdict ≡ Verdict.Refused) }
+{
     writeln!(writer, "line {number} {why}")?;
-    Ok(Verdict::Differs)
+    Ok(Verdict::Refused)
 }
 
 fn judge<W: Write>(
@@ -124,7 +150,9 @@ fn judge<W: Write>(
     line: &[u8],
     value: &Value,
     text: &mut String,
-) -> io::Result<Verdict> {
+) -> io::Result<Verdict>
+    ensures { IfOk result (IsVerdictOn (view value.now) (string_bytes text.new)) }
+{
     if value.get("answer").is_none() {
         return answer(alloc, writer, line, text);
     }
@@ -140,7 +168,9 @@ fn replay_line<W: Write>(
     number: u64,
     line: &[u8],
     text: &mut String,
-) -> io::Result<Verdict> {
+) -> io::Result<Verdict>
+    ensures { IfOk result (IsLineVerdict line.now (string_bytes text.new)) }
+{
     text.clear();
     match Value::from_slice(alloc, line) {
         Ok(value) => judge(alloc, writer, number, line, &value, text),
@@ -154,26 +184,55 @@ fn replay_line<W: Write>(
     }
 }
 
-/// Replays each line to the end of the input.
-pub fn run<R: BufRead, W: Write>(
+// The verdict on the next line, if there is one.
+fn next_verdict<R: BufRead, W: Write>(
     alloc: Global,
-    reader: &mut R,
+    lines: &mut LineReader<R>,
     writer: &mut W,
-) -> io::Result<Tally> {
+    number: u64,
+    line: &mut Vec<u8>,
+    text: &mut String,
+) -> io::Result<Option<Verdict>>
+    ensures some { IfOk result (λ verdict. IfSome verdict (λ v.
+        IfSome (R.remaining lines.old.inner) (λ rest.
+        (rest ≢ []) × HasVerdict (first_piece 10 rest) v))) }
+    ensures rest { IfOk result (λ verdict. IfSome verdict (λ _.
+        DropsThrough (R.remaining lines.old.inner) (R.remaining lines.new.inner) 10)) }
+    ensures none { result ≡ Ok None → IsAtEnd (R.remaining lines.old.inner) }
+{
+    match lines.next_line(line)? {
+        Line::End => Ok(None),
+        Line::TooLong => Ok(Some(refuse(writer, number, "is too long")?)),
+        Line::Whole => Ok(Some(replay_line(alloc, writer, number, line.as_slice(), text)?)),
+    }
+}
+
+fn write_tally<W: Write>(writer: &mut W, tally: Tally) -> io::Result<()> {
+    if tally == Tally::default() {
+        return Ok(());
+    }
+    let Tally { agree, differ } = tally;
+    writeln!(writer, "{agree} scripts agree, {differ} differ")
+}
+
+/// Replays each line to the end of the input.
+pub fn run<R: BufRead, W: Write>(alloc: Global, reader: &mut R, writer: &mut W) -> io::Result<Tally>
+    ensures tally { IfOk result (λ tally.
+        IfSome (R.remaining reader.old) (λ bytes. IsTallyOf bytes tally)) }
+{
+    let mut lines = LineReader::new(reader);
     let mut line = Vec::new(alloc);
     let mut text = String::new(alloc);
     let mut tally = Tally::default();
     for number in 1..u64::MAX {
-        let verdict = match next_line(reader, &mut line)? {
-            Line::End => break,
-            Line::TooLong => refuse(writer, number, "is too long")?,
-            Line::Whole => replay_line(alloc, writer, number, line.as_slice(), &mut text)?,
-        };
-        tally.add(verdict);
+        match next_verdict(alloc, &mut lines, writer, number, &mut line, &mut text)? {
+            Some(verdict) => tally.add(verdict),
+            None => {
+                write_tally(writer, tally)?;
+                return Ok(tally);
+            }
+        }
     }
-    if tally != Tally::default() {
-        let Tally { agree, differ } = tally;
-        writeln!(writer, "{agree} scripts agree, {differ} differ")?;
-    }
-    Ok(tally)
+    // There are more lines than can be counted.
+    Err(io::Error::from(ErrorKind::Other))
 }

@@ -2,22 +2,24 @@
 #![tactic(auto)]
 
 #[cfg(test)]
-mod asking;
+mod after_response;
+#[cfg(test)]
+mod before_request;
 #[cfg(test)]
 mod fixtures;
 #[cfg(test)]
-mod handing;
+mod fresh_headers;
 #[cfg(test)]
-mod keeping;
+mod kept_headers;
 #[cfg(test)]
-mod origin;
+mod parse_cache_control;
 #[cfg(test)]
-mod reading;
+mod policies;
 #[cfg(test)]
-mod renewing;
+mod refusals;
 #[cfg(test)]
-mod replaying;
+mod replays;
+#[cfg(test)]
+mod requests_for_origin;
 #[cfg(test)]
 mod scripts;
-#[cfg(test)]
-mod storing;

@@ -14,7 +14,7 @@ use std::test::Fail;
 /// A stored exchange, by fields of a case.
 #[derive(Clone, Copy)]
 pub struct Exchange<'a> {
-    /// Words for other options than the default ones: `own`, `cargo`.
+    /// A word for other options than the default ones: `own`, `cargo`, or a fraction.
     pub cache: &'a str,
     /// The method of the request for `/a`.
     pub method: &'a str,
@@ -42,10 +42,11 @@ impl Exchange<'_> {
     pub fn script(&self, alloc: Global, steps: &str) -> Result<String, Fail> {
         let shared = self.cache != "own";
         let cargo = self.cache == "cargo";
+        let (above, below) = self.cache.split_once('/').unwrap_or(("1", "10"));
         let request = request(alloc, self.method, self.asked)?;
         let response = response(alloc, self.status, self.told)?;
         Ok(format!(in alloc;
-            "{{\"options\":{{\"shared\":{shared},\"cache_heuristic\":[1,10],\"immutable_min_time_to_live\":[86400,0],\"ignore_cargo_cult\":{cargo}}},\"received\":[{START},0],\"request\":{request},\"response\":{response},\"steps\":[{steps}]}}"
+            "{{\"options\":{{\"shared\":{shared},\"cache_heuristic\":[{above},{below}],\"immutable_min_time_to_live\":[86400,0],\"ignore_cargo_cult\":{cargo}}},\"received\":[{START},0],\"request\":{request},\"response\":{response},\"steps\":[{steps}]}}"
         )?)
     }
 }
@@ -77,7 +78,8 @@ fn response(alloc: Global, status: &str, lines: &str) -> Result<String, Fail> {
 
 // The moment so many nanoseconds after the start.
 fn moment(alloc: Global, nanos: &str) -> Result<String, Fail> {
-    let nanos = i128::from(nanos.parse::<i64>()?) + i128::from(START) * 1_000_000_000;
+    let start = i128::from(START) * 1_000_000_000;
+    let nanos = start.saturating_add(nanos.parse::<i128>()?);
     let second = nanos.div_euclid(1_000_000_000);
     let part = nanos.rem_euclid(1_000_000_000);
     Ok(format!(in alloc; "[{second},{part}]")?)

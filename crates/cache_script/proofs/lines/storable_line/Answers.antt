@@ -1,0 +1,12 @@
+use Rattle.std.proofs.Common.{◌∙◌}
+use Rattle.std.specs.Duration.{as_nanos}
+use Rattle.std.proofs.lemmas.Result.{IfOk-weaker}
+use Rattle.cache_script.proofs.LineLemmas.{nine, line_of_pieces}
+use Rattle.cache_script.proofs.lines.storable_line.Goals as goal
+
+pub returns : goal.returns
+returns c =
+    let nanos = c.subsec_nanos-nanos.result in
+    IfOk-weaker c.format.result _ _
+    (λ line h. rw (c.laid_out.ensures, nine nanos) at h ∙ line_of_pieces c.args.storable c.as_secs-seconds.result nanos (as_nanos c.args.left) c.as_secs-seconds.ensures c.subsec_nanos-nanos.ensures)
+    c.format.ensures.ok

@@ -1,0 +1,45 @@
+-- The lines that answer a script.
+use Rattle.std.specs.Prelude.{ℕ, ◌-◌, ◌/◌, ◌%◌, ℤ, List, ◌++◌, length, replicate, Bool, if◌then◌else◌, codes, decimal}
+use Rattle.http_cache_semantics.specs.Exchange.{Exchange}
+use Rattle.http_cache_semantics.specs.Storable.{is_storable}
+use Rattle.http_cache_semantics.specs.Age.{time_to_live_at}
+
+-- a truth in words
+abbrev pub truth : Bool → List ℕ
+truth b = if b then codes "true" else codes "false"
+
+-- a number of at most nine digits, with zeros in front of it up to nine
+abbrev pub nine_digits : ℕ → List ℕ
+nine_digits n = replicate (9 - length (decimal n)) 48 ++ decimal n
+
+-- nanoseconds as whole seconds, a point and the nanoseconds after them
+abbrev pub seconds_text : ℕ → List ℕ
+seconds_text nanos =
+    decimal (nanos / 1_000_000_000) ++ codes "." ++ nine_digits (nanos % 1_000_000_000)
+
+-- whether a response may be stored, and how many nanoseconds of its lifetime are left
+unfoldable pub storable_line : Bool → ℕ → List ℕ
+storable_line storable left =
+    codes "storable " ++ truth storable ++ codes " ttl " ++ seconds_text left ++ codes "\n"
+
+-- the line of an exchange at a moment
+abbrev pub first_line : Exchange → ℤ → List ℕ
+first_line e now = storable_line (is_storable e) (time_to_live_at e now)
+
+-- the line of a fresh answer, by the text of its age
+unfoldable pub age_line : List ℕ → List ℕ
+age_line age = codes "fresh age " ++ age ++ codes "\n"
+
+-- the line of a fresh answer, by its age in whole seconds
+abbrev pub fresh_line : ℕ → List ℕ
+fresh_line seconds = age_line (decimal seconds)
+
+-- the line of a stale answer, by whether the stored response is the answer to the request
+unfoldable pub stale_line : Bool → List ℕ
+stale_line matched = codes "stale matches " ++ truth matched ++ codes "\n"
+
+-- the line of an answer to a response, by whether the stored body still holds, and its status
+unfoldable pub updated_line : Bool → ℕ → List ℕ
+updated_line not_modified status =
+    if not_modified then codes "not-modified status " ++ decimal status ++ codes "\n"
+    else codes "modified status " ++ decimal status ++ codes "\n"

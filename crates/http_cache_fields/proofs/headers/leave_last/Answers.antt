@@ -1,0 +1,23 @@
+use Rattle.std.proofs.Common.{ap, ◌∙◌}
+use Rattle.http_cache_fields.specs.Headers.{headers_of, set}
+use Rattle.http_cache_fields.proofs.LastLemmas.{leave_last-none, leave_last-some, holds-from_last}
+use Rattle.http_cache_fields.proofs.headers.leave_last.Goals as goal
+
+pub returns-in_default : goal.returns-in_default
+returns-in_default c =
+    leave_last-none c.args.map.now c.args.name.now c.len-length.ensures.valid c.in_default.ensures
+
+pub replace-requires-clause-there : goal.replace-requires-clause-there
+replace-requires-clause-there c =
+    holds-from_last c.args.map.now c.args.name.now c.in-Some.ensures.front c.in-Some.value.now
+    c.in-Some.ensures.is
+
+pub returns : goal.returns
+returns c =
+    let m = c.args.map.now in
+    let name = c.args.name.now in
+    let last = c.in-Some.ensures in
+    let same = c.replace.ensures ∙ ap (λ v. set (headers_of m) name v.bytes) c.in_ok-last.ensures.cases in
+    leave_last-some
+    (headers_of c.replace.new.map) m name last.front c.in-Some.value.now c.len-length.ensures.valid last.is
+    same

@@ -1,0 +1,37 @@
+use Rattle.std.proofs.Common.{◌≡◌, ◌∷◌, ℕ, List, sym, subst, ◌∙◌}
+use Rattle.http_header.specs.FieldValue.{FieldValue}
+use Rattle.http_header.specs.HeaderMap.{Entries, keys}
+use Rattle.http_cache_fields.specs.Headers.{headers_of}
+use Rattle.http_cache_rules.specs.Filter.{swept_values}
+use Rattle.http_cache_rules.proofs.SweepLemmas.{IsSwept, IsSwept-start, IsSwept-turn}
+use Rattle.http_cache_rules.proofs.FilterLemmas.{sweep-settles, end_to_end_headers-by_sweep, filled-headers_of}
+use Rattle.http_cache_rules.proofs.filter.end_to_end_headers.Goals as goal
+
+pub loop-name-init : goal.loop-name-init
+loop-name-init c =
+    let m = c.args.headers.now in
+    let rest : keys m ≡ c.into_iter-name-iterator.result =
+    sym (c.into_iter-name-iterator.ensures.into_iter_gives ∙ c.keys-name-items.ensures.value) in
+    let same : m ≡ c.in_ok-out.out = sym c.in_ok-out.ensures in
+    λ name. subst
+    (λ (xs : List (List ℕ)). IsSwept swept_values (headers_of m) (headers_of c.in_ok-out.out) xs name) rest
+    (subst (λ (k : Entries FieldValue). IsSwept swept_values (headers_of m) (headers_of k) (keys m) name) same
+    (IsSwept-start swept_values sweep-settles m name))
+
+pub loop-name-preserved : goal.loop-name-preserved
+loop-name-preserved c =
+    let h = headers_of c.args.headers.now in
+    let old = headers_of c.loop-name.out in
+    let before : (name : List ℕ) → IsSwept swept_values h old (c.in-Some.name.now ∷ c.next.new.self) name =
+    subst (λ (xs : List (List ℕ)). (name : List ℕ) → IsSwept swept_values h old xs name)
+    c.in-Some.ensures.steps c.loop-name.invariant in
+    IsSwept-turn swept_values sweep-settles h old
+    (headers_of c.sweep.new.map) c.in-Some.name.now c.next.new.self before c.in_ok-sweep.ensures
+
+pub returns : goal.returns
+returns c =
+    let m = c.args.headers.now in
+    let out = headers_of c.loop-name.out in
+    end_to_end_headers-by_sweep (headers_of m) out (filled-headers_of m c.len-length.ensures.valid)
+    (subst (λ (xs : List (List ℕ)). (name : List ℕ) → IsSwept swept_values (headers_of m) out xs name)
+    c.in-None.ensures.steps.0 c.loop-name.invariant)

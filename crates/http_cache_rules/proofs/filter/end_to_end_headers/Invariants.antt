@@ -1,0 +1,9 @@
+use Rattle.std.proofs.Common.{List, ℕ}
+use Rattle.http_cache_fields.specs.Headers.{headers_of}
+use Rattle.http_cache_rules.specs.Filter.{swept_values}
+use Rattle.http_cache_rules.proofs.SweepLemmas.{IsSwept}
+use Rattle.http_cache_rules.proofs.filter.end_to_end_headers.Given as goal
+
+abbrev pub invariant-loop-name : goal.invariant-loop-name
+invariant-loop-name l = (name : List ℕ)
+    → IsSwept swept_values (headers_of l.headers) (headers_of l.out) l.name-iterator name

@@ -1,0 +1,13 @@
+use Rattle.std.proofs.Common.{◌≡◌, ap, ◌∙◌, rules}
+use Rattle.http_cache_rules.specs.Options.{options_of}
+use Rattle.http_cache_semantics.specs.Exchange.{Exchange, exchange_of, stored_directives}
+use Rattle.http_cache_semantics.specs.Kept.{kept_exchange}
+use Rattle.http_cache_semantics.proofs.KeptLemmas.{kept-directives}
+use Rattle.http_cache_semantics.proofs.policy.CachePolicy.new_options.Goals as goal
+
+pub returns-clause-without_cargo_cult : goal.returns-clause-without_cargo_cult
+returns-clause-without_cargo_cult g c =
+    let handed_in : Exchange =
+    exchange_of (g.Req.RequestLike.seen c.args.req.now) (g.Res.ResponseLike.seen c.args.res.now) (options_of c.args.opts) c.args.response_time.nanosecond in
+    let is : c.in_ok-policy.policy ≡ kept_exchange handed_in = search rules in
+    λ ignores marks. ap stored_directives is ∙ kept-directives handed_in ignores marks

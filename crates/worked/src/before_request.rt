@@ -1,0 +1,155 @@
+//! What a cache answers to a request.
+use crate::fixtures::{after, field, policy, request, text_of};
+use crate::scripts::{Exchange, ask, header_lines, stored, tells};
+use http::{request, response};
+use http_cache_semantics::{BeforeRequest, CachePolicy};
+use std::alloc::Global;
+use std::process::Abort;
+use std::test::Fail;
+
+// The stored request's and response's headers, the method and the headers of the asking request,
+// the nanoseconds since the response came, and the answer: an age in seconds, or whether the stale
+// response matches.
+fn cases() -> &'static str {
+    "|Cache-Control: max-age=10|GET|Cache-Control: max-stale=5|14999999999|fresh age 14
+     |Cache-Control: max-age=10|GET|Cache-Control: max-stale=5|15000000000|stale matches true
+     |Cache-Control: max-age=10|GET|Cache-Control: max-stale=0|10000000000|stale matches true
+     |Cache-Control: max-age=10|GET|Cache-Control: min-fresh=4|6000000000|fresh age 6
+     |Cache-Control: max-age=10|GET|Cache-Control: min-fresh=4|6000000001|stale matches true
+     |Cache-Control: max-age=10|GET|Cache-Control: min-fresh=0|9000000000|fresh age 9
+     |Cache-Control: max-age=10|GET|Cache-Control: min-fresh=0|10000000000|stale matches true
+     |Cache-Control: max-age=10|GET|Cache-Control: min-fresh=11|0|stale matches true
+     |Cache-Control: max-age=10|GET|Cache-Control: min-fresh=0, max-stale|11000000000|fresh age 11
+     |Cache-Control: max-age=100|GET|Cache-Control: max-age=5|5000000000|fresh age 5
+     |Cache-Control: max-age=100|GET|Cache-Control: max-age=5|5000000001|stale matches true
+     |Cache-Control: max-age=100|GET|Cache-Control: max-age=x|99000000000|fresh age 99
+     |Cache-Control: max-age=100, max-age=200|GET|Cache-Control: max-stale|99000000000|fresh age 99
+     |Cache-Control: max-age=100, max-age=200|GET|Cache-Control: max-stale|150000000000|stale matches true
+     |Cache-Control: no-store|GET|Cache-Control: max-stale=soon|0|fresh age 0
+     |Cache-Control: no-store|GET|Cache-Control: max-stale=soon|7000000000000000|fresh age 7000000
+     |Cache-Control: no-store|GET|Cache-Control: max-stale=soon|-3913056000000000000|fresh age 0
+     |Cache-Control: no-store|GET|Cache-Control: max-stale=soon|251698140000999999999|fresh age 251698140000
+     |Cache-Control: no-store|GET|Cache-Control: max-stale, no-cache|0|stale matches true
+     Host: a|Cache-Control: max-age=10|GET|Host: a ~ Host: b|0|fresh age 0
+     Host: a|Cache-Control: max-age=10|GET|Host: b|0|stale matches false
+     Host: a|Cache-Control: max-age=10|GET||0|stale matches false
+     |Cache-Control: max-age=10|GET|Host: a|0|stale matches false
+     Host: a|Cache-Control: max-age=10|GET|Host: a ~ Pragma: no-cache|0|stale matches true
+     |Cache-Control: max-age=10|GET|Pragma: x-no-cache-y|0|stale matches true
+     |Cache-Control: max-age=10|GET|Pragma: no-caches ~ Cache-Control: x|0|stale matches true
+     |Cache-Control: max-age=10|GET|Pragma: cache ~ Pragma: no-cache|0|fresh age 0
+     |Cache-Control: max-age=10|HEAD||0|stale matches false
+     Accept: a|Cache-Control: max-age=100 ~ Vary: Accept|GET|Accept: b|0|stale matches false
+     Accept: a|Cache-Control: max-age=100 ~ Vary: Accept|GET|Accept: a|0|fresh age 0
+     Accept: a|Cache-Control: max-age=100 ~ Vary: ,Accept|GET|Accept: a|0|fresh age 0
+     Accept: a ~ Accept: z|Cache-Control: max-age=100 ~ Vary: Accept|GET|Accept: a|0|fresh age 0
+     |Cache-Control: max-age=100 ~ Vary: Accept|GET|Accept: a|0|stale matches false
+     Accept: a|Cache-Control: max-age=100 ~ Vary: Accept|GET||0|stale matches false
+     |Cache-Control: max-age=100 ~ Vary: Accept|GET|Te: x|0|fresh age 0
+     |Cache-Control: max-age=100 ~ Vary: ,,|GET||0|fresh age 0
+     |Cache-Control: max-age=100 ~ Vary: a b|GET||0|fresh age 0
+     |Cache-Control: max-age=100 ~ Vary: Accept ~ Vary: *|GET||0|stale matches false
+     |Cache-Control: max-age=100, public ~ Vary: Te, *|GET||0|stale matches false
+     Te: x|Cache-Control: max-age=100 ~ Vary: Accept ~ Vary: HOST, te|GET|Te: y|0|stale matches false
+     Te: x|Cache-Control: max-age=100 ~ Vary: Accept ~ Vary: HOST, te|GET|Te: x|0|fresh age 0
+     |Cache-Control: max-age=10 ~ Vary: *|GET||0|stale matches false
+     |Cache-Control: max-age=100 ~ Vary: ÿ|GET||0|fresh age 0
+     Te: ÿ|Cache-Control: max-age=100 ~ Vary: Te|GET|Te: ÿ|0|fresh age 0
+     Te: ÿ|Cache-Control: max-age=100 ~ Vary: Te|GET|Te: þ|0|stale matches false
+     Te: ÿ|Cache-Control: max-age=100 ~ Vary: Te|GET||0|stale matches false
+     |Age: 7 ~ Cache-Control: max-age=10|GET||2999999999|fresh age 9"
+}
+
+fn script(alloc: Global, case: &str) -> Result<String, Fail> {
+    let step = ask(alloc, field(case, 2)?, field(case, 3)?, field(case, 4)?)?;
+    let exchange = Exchange {
+        asked: field(case, 0)?,
+        ..stored(field(case, 1)?)
+    };
+    exchange.script(alloc, step.as_str())
+}
+
+fn holds(rt: &impl Abort, alloc: Global, case: &str) -> Result<(), Fail> {
+    let script = script(alloc, case)?;
+    let answer = field(case, 5)?;
+    let wanted = format!(in alloc; "\n{answer}\n")?;
+    tells(rt, alloc, case, script.as_str(), wanted.as_str())
+}
+
+#[test]
+fn answers_to_requests(rt: HostRuntime) -> Result<(), Fail> {
+    for case in cases().lines() {
+        holds(&rt, rt.alloc(), case)?;
+    }
+    Ok(())
+}
+
+fn is_fresh_after_three_seconds(rt: &impl Abort, parts: &response::Parts) -> Result<(), Fail> {
+    assert_eq!(rt; parts.status.as_u16(), 200);
+    assert_eq!(rt; text_of(&parts.headers, "x")?, "1");
+    assert_eq!(rt; text_of(&parts.headers, "age")?, "3");
+    assert_eq!(rt;
+        text_of(&parts.headers, "date")?,
+        "Mon, 01 Jan 2024 00:00:03 +0000"
+    );
+    Ok(())
+}
+
+fn asks_for_the_stored_target(rt: &impl Abort, request: &request::Parts, matches: bool) {
+    assert!(rt; matches);
+    assert_eq!(rt; request.method.as_str(), "GET");
+    assert_eq!(rt; request.uri.path(), "/a");
+}
+
+fn is_answer_at(rt: &impl Abort, nanos: i64, answer: &BeforeRequest) -> Result<(), Fail> {
+    let is_fresh = nanos < 4_000_000_000;
+    assert_eq!(rt; answer.satisfies_without_revalidation(), is_fresh);
+    match answer {
+        BeforeRequest::Fresh(parts) => is_fresh_after_three_seconds(rt, parts),
+        BeforeRequest::Stale { request, matches } => {
+            asks_for_the_stored_target(rt, request, *matches);
+            Ok(())
+        }
+    }
+}
+
+fn answers_at(
+    rt: &impl Abort,
+    alloc: Global,
+    policy: &CachePolicy,
+    request: &request::Parts,
+    nanos: i64,
+) -> Result<(), Fail> {
+    let answer = policy.before_request(alloc, request, after(nanos)?)?;
+    is_answer_at(rt, nanos, &answer)
+}
+
+fn answers_early_and_late(
+    rt: &impl Abort,
+    alloc: Global,
+    policy: &CachePolicy,
+) -> Result<(), Fail> {
+    let request = request(alloc, "GET", "")?;
+    answers_at(rt, alloc, policy, &request, 3_500_000_000)?;
+    answers_at(rt, alloc, policy, &request, 100_000_000_000)
+}
+
+#[test]
+fn parts_of_answers(rt: HostRuntime) -> Result<(), Fail> {
+    let policy = policy(rt.alloc(), "Cache-Control: max-age=100 ~ X: 1")?;
+    answers_early_and_late(&rt, rt.alloc(), &policy)
+}
+
+fn tells_at(rt: &impl Abort, alloc: Global, nanos: &str, wanted: &str) -> Result<(), Fail> {
+    let step = ask(alloc, "GET", "", nanos)?;
+    let script = stored("Cache-Control: max-age=100").script(alloc, step.as_str())?;
+    tells(rt, alloc, nanos, script.as_str(), wanted)
+}
+
+#[test]
+fn dates_from_1900_on(rt: HostRuntime) -> Result<(), Fail> {
+    let refused = "\nend date not printable\n";
+    tells_at(&rt, rt.alloc(), "-3913056000000000001", refused)?;
+    let dated = header_lines(rt.alloc(), "date: Mon, 01 Jan 1900 00:00:00 +0000")?;
+    tells_at(&rt, rt.alloc(), "-3913056000000000000", dated.as_str())
+}
