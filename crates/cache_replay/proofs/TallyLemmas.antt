@@ -2,7 +2,7 @@
 use Rattle.std.proofs.Common.{◌≡◌, ◌≢◌, ℕ, ◌+◌, ◌-◌, ◌^◌, ◌<◌, min, List, [], ◌∷◌, ◌++◌, Option, Some, None, IfSome, refl, sym, ap, ◌∙◌, subst, arith}
 use Rattle.std.proofs.lemmas.List.Sums.{sum_by-append}
 use Rattle.std.specs.Io.BufRead.{first_piece, drop_through, DropsThrough}
-use Rattle.cache_script.proofs.ZipLemmas.{zip_push}
+use Rattle.http_cache_stored.proofs.ZipLemmas.{zip_push}
 use Rattle.cache_replay.specs.declared.run.Tally.{Tally}
 use Rattle.cache_replay.specs.declared.run.Verdict.{Verdict}
 use Rattle.cache_replay.specs.declared.run.Verdict.TheVariants.{Agrees, Differs, Refused, Answered}

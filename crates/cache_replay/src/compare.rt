@@ -2,7 +2,7 @@
 ghost use Rattle.std.specs.Prelude.{◌≡◌, ◌↔◌, map, option_map, Some, IsNone, IsSome, IsTrue};
 ghost use Rattle.serde_json.specs.View.{view};
 ghost use Rattle.serde_json.specs.Find.{as_str};
-ghost use Rattle.cache_script.specs.Form.{has_members};
+ghost use Rattle.http_cache_stored.specs.Form.{has_members};
 ghost use Rattle.cache_replay.specs.Compare.{are_texts, recorded_of, AreLinesOf};
 
 use serde_json::Value;

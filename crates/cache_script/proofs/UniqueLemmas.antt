@@ -9,14 +9,15 @@ use Rattle.http_uri.specs.Uri.{uri_eq}
 use Rattle.http_cache_semantics.specs.Headers.{Headers}
 use Rattle.http_cache_semantics.proofs.HeadersLemmas.{same_headers}
 use Rattle.http_cache_semantics.proofs.TargetLemmas.{Spells-one_target}
-use Rattle.cache_script.specs.Form.{has_members}
-use Rattle.cache_script.specs.Lists.{values_of, IsListOf}
-use Rattle.cache_script.specs.Pairs.{Pair, IsPair, HoldsPairs, IsHeaderList}
+use Rattle.http_cache_stored.specs.Form.{has_members}
+use Rattle.http_cache_stored.specs.Lists.{values_of, IsListOf}
+use Rattle.http_cache_stored.specs.Pairs.{Pair, HoldsPairs}
+use Rattle.cache_script.specs.Pairs.{IsPair, IsHeaderList}
 use Rattle.http_cache_semantics.specs.Messages.{RequestSeen, ResponseSeen}
 use Rattle.cache_script.specs.Messages.{RequestForm, ResponseForm, request_form, response_form, IsRequestOf, IsResponseOf, IsRequest, IsResponse}
 use Rattle.cache_script.specs.Steps.{StepSeen, asks, receives, restarts, ask_form, receive_form, AskForm, ReceiveForm, IsAskOf, IsReceiveOf, IsStep}
 use Rattle.cache_script.specs.Script.{ScriptSeen, ScriptForm, script_form, IsScriptOf, IsScriptData, IsScript}
-use Rattle.cache_script.proofs.ZipLemmas.{zip_same}
+use Rattle.http_cache_stored.proofs.ZipLemmas.{zip_same}
 use Rattle.cache_script.proofs.PairLemmas.{IsPair-unique}
 use Rattle.cache_script.proofs.StepLemmas.{text_asks_not, text_receives_not, two_receive_not, other_asks_not}
 

@@ -7,7 +7,7 @@ use Rattle.http_cache_semantics.specs.Messages.{RequestSeen}
 use Rattle.http_cache_semantics.specs.Verdict.{is_fresh_for}
 use Rattle.cache_script.specs.Steps.{StepSeen, asks, receives, restarts}
 use Rattle.cache_script.specs.Script.{ScriptSeen}
-use Rattle.cache_script.proofs.ZipLemmas.{zip_same}
+use Rattle.http_cache_stored.proofs.ZipLemmas.{zip_same}
 use Rattle.cache_script.specs.Lines.{first_line}
 use Rattle.cachecheck.specs.Steps.{IsAskLine, IsLine, AreLines}
 use Rattle.cachecheck.specs.Output.{start_of, IsOutput}

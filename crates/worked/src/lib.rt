@@ -23,3 +23,7 @@ mod replays;
 mod requests_for_origin;
 #[cfg(test)]
 mod scripts;
+#[cfg(test)]
+mod stored_form;
+#[cfg(test)]
+mod stored_values;

@@ -1,0 +1,8 @@
+pub mod Form
+pub mod FormData
+pub mod Lists
+pub mod Pairs
+pub mod HeaderObject
+pub mod Stored
+pub mod Refusal
+pub mod ReadBack

@@ -1,0 +1,54 @@
+-- What is read of a value that was written.
+use Rattle.std.specs.Prelude.{◌≡◌, ℕ, ◌^◌, ◌<◌, ◌≤◌, List}
+use Rattle.std.specs.List.{AllByRecursion}
+use Rattle.std.specs.FinMap as fin
+use Rattle.hex.specs.Hex.{IsBytes}
+use Rattle.http.specs.StatusCode.{IsStatusCode}
+use Rattle.http_header.specs.FieldName.{IsHeaderName}
+use Rattle.http_header.specs.FieldValue.{IsFieldValue}
+use Rattle.http_header.specs.HeaderMap.{Entry}
+use Rattle.http_header.specs.Token.{IsToken}
+use Rattle.http_uri.specs.Uri.{Spells, uri_text}
+use Rattle.serde_json.specs.Data.{Data}
+use Rattle.jiff_core.specs.Timestamp.{IsTimestampNanos}
+use Rattle.http_cache_fields.specs.Headers.{Headers, value_count}
+use Rattle.http_cache_stored.specs.FormData.{AreInRange}
+use Rattle.http_cache_stored.specs.HeaderObject.{IsFilled}
+use Rattle.http_cache_stored.specs.Stored.{Stored, stored_data}
+
+-- bytes that the library of headers takes as a value
+pub record IsReadableValue (v : List ℕ) : Type 0 where
+  pub bytes : IsBytes v
+  pub value : IsFieldValue v
+
+-- a name and values that the library of headers takes
+pub record IsReadableEntry (e : Entry (List ℕ)) : Type 0 where
+  pub name : IsHeaderName e.0
+  pub values : AllByRecursion IsReadableValue e.1
+
+-- names, values and counts that the library of headers takes
+pub record AreReadable (h : Headers) : Type 0 where
+  pub entries : AllByRecursion IsReadableEntry (fin.entries h)
+  pub names_fit : fin.len h ≤ 24_576
+  pub values_fit : value_count h < 2 ^ 64
+
+-- what holds of all that is written
+pub record IsWritable (s : Stored) : Type 0 where
+  pub status : IsStatusCode s.status
+  pub request : IsFilled s.request_headers
+  pub response : IsFilled s.response_headers
+  pub options : AreInRange s.options
+  pub response_time : IsTimestampNanos s.response_time
+
+-- the value is the one that is written, of what can be
+pub record IsWrittenFor (d : Data) (s : Stored) : Type 0 where
+  pub is : d ≡ stored_data s
+  pub writable : IsWritable s
+
+-- the same with the target that the printed target spells, where the libraries take what is written
+pub record IsReadBack (s t : Stored) : Type 0 where
+  pub same : t ≡ record s { target = t.target }
+  pub target : Spells (uri_text s.target) t.target
+  pub method : IsToken s.method
+  pub request : AreReadable s.request_headers
+  pub response : AreReadable s.response_headers

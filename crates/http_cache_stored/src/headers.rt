@@ -1,0 +1,163 @@
+//! Headers from JSON objects and to them.
+ghost use Rattle.std.specs.Prelude.{◌≡◌, ℕ, List, map, None, Some, IfOk, OnOk, IsErrOf};
+ghost use Rattle.std.specs.List.{AllZip};
+ghost use Rattle.http_header.specs.FieldName.{IsHeaderName};
+ghost use Rattle.http_header.specs.FieldValue.{plain_value};
+ghost use Rattle.http_header.specs.HeaderMap.{Entry, Entries, entry_pairs, pairs, get_all as all_under};
+ghost use Rattle.serde_json.specs.View.{view};
+ghost use Rattle.http_cache_fields.specs.Headers.{Headers, headers_of, bytes_of};
+ghost use Rattle.http_cache_stored.specs.HeaderObject.{member_of, value_of_text, IsValueText, IsHeaderMember, IsHeaderObject, text_data, texts_data, headers_data, IsFilled};
+ghost use Rattle.http_cache_stored.specs.Pairs.{HoldsPairs, Fits, with_pairs};
+
+use crate::refusal::Unread;
+use hex::FromHexError;
+use http_header::{
+    HeaderMap, HeaderMapError, HeaderName, HeaderNameError, HeaderValue, HeaderValueError,
+};
+use serde_json::{Map, Value};
+use std::alloc::{AllocError, Global};
+
+#[tactic(auto, unfolding(crate::specs::HeaderObject::value_of_text))]
+fn value_from_text(alloc: Global, value: &Value) -> Result<HeaderValue, Unread>
+    ensures found { IfOk result (λ v. (bytes : List ℕ)
+        × (value_of_text (view value.now) ≡ Some bytes) × (v ≡ plain_value bytes)) }
+    ensures none { IsErrOf result Unread.Malformed → value_of_text (view value.now) ≡ None }
+{
+    let Some(text) = value.as_str() else {
+        return Err(Unread::Malformed);
+    };
+    let bytes = match hex::decode(alloc, text) {
+        Ok(bytes) => bytes,
+        Err(FromHexError::OutOfMemory) => return Err(Unread::Memory),
+        Err(_) => return Err(Unread::Malformed),
+    };
+    match HeaderValue::from_vec(bytes) {
+        Ok(value) => Ok(value),
+        Err(HeaderValueError::OutOfMemory) => Err(Unread::Memory),
+        Err(HeaderValueError::Invalid) => Err(Unread::Malformed),
+    }
+}
+
+fn name_from_key(alloc: Global, key: &str) -> Result<HeaderName, Unread>
+    ensures found { IfOk result (λ name. (name ≡ key.now) × IsHeaderName key.now) }
+    ensures none { IsErrOf result Unread.Malformed → IsHeaderName key.now → ⊥ }
+{
+    match HeaderName::from_lowercase(alloc, key.as_bytes()) {
+        Ok(name) => Ok(name),
+        Err(HeaderNameError::OutOfMemory) => Err(Unread::Memory),
+        Err(HeaderNameError::Invalid) => Err(Unread::Malformed),
+    }
+}
+
+// After an `Err` the headers may have some of the values.
+fn append_texts(
+    alloc: Global,
+    headers: &mut HeaderMap,
+    name: &HeaderName,
+    texts: &[Value],
+) -> Result<(), Unread>
+    requires name { IsHeaderName name.now }
+    requires fits { Fits headers.now }
+    ensures found { OnOk result ((values : List (List ℕ))
+        × AllZip IsValueText (map view texts.now) values
+        × (headers.new ≡ with_pairs headers.old (entry_pairs (name.now, values)))
+        × Fits headers.new) }
+    ensures none { IsErrOf result Unread.Malformed
+        → (values : List (List ℕ)) → AllZip IsValueText (map view texts.now) values
+        → Fits (with_pairs headers.old (entry_pairs (name.now, values))) → ⊥ }
+{
+    for text in texts {
+        let value = value_from_text(alloc, text)?;
+        match headers.append(name, value) {
+            Ok(_) => {}
+            Err(HeaderMapError::MaxSizeReached) => return Err(Unread::Malformed),
+            Err(HeaderMapError::OutOfMemory) => return Err(Unread::Memory),
+        }
+    }
+    Ok(())
+}
+
+// After an `Err` the headers may have some of the values.
+fn append_member(
+    alloc: Global,
+    headers: &mut HeaderMap,
+    key: &str,
+    value: &Value,
+) -> Result<(), Unread>
+    requires { Fits headers.now }
+    ensures found { OnOk result ((e : Entry (List ℕ))
+        × IsHeaderMember (key.now, view value.now) e
+        × (headers.new ≡ with_pairs headers.old (entry_pairs e))
+        × Fits headers.new) }
+    ensures none { IsErrOf result Unread.Malformed
+        → (e : Entry (List ℕ)) → IsHeaderMember (key.now, view value.now) e
+        → Fits (with_pairs headers.old (entry_pairs e)) → ⊥ }
+{
+    let Some(texts) = value.as_array() else {
+        return Err(Unread::Malformed);
+    };
+    if texts.is_empty() {
+        return Err(Unread::Malformed);
+    }
+    let name = name_from_key(alloc, key)?;
+    append_texts(alloc, headers, &name, texts.as_slice())
+}
+
+fn headers_from(alloc: Global, members: &Map<String, Value>) -> Result<HeaderMap, Unread>
+    ensures found { IfOk result (λ headers. (entries : Entries (List ℕ))
+        × AllZip IsHeaderMember (map member_of members.now.entries) entries
+        × HoldsPairs (pairs entries) (headers_of headers)) }
+    ensures none { IsErrOf result Unread.Malformed
+        → (entries : Entries (List ℕ))
+        → AllZip IsHeaderMember (map member_of members.now.entries) entries
+        → (h : Headers) → HoldsPairs (pairs entries) h → ⊥ }
+{
+    let mut headers = HeaderMap::new(alloc);
+    for (key, value) in members.iter() {
+        append_member(alloc, &mut headers, key.as_str(), value)?;
+    }
+    Ok(headers)
+}
+
+/// The headers of an object that has a list of texts in hexadecimal under each name.
+pub fn headers_from_value(alloc: Global, value: &Value) -> Result<HeaderMap, Unread>
+    ensures found { IfOk result (λ headers. IsHeaderObject (view value.now) (headers_of headers)) }
+    ensures none { IsErrOf result Unread.Malformed
+        → (h : Headers) → IsHeaderObject (view value.now) h → ⊥ }
+{
+    match value.as_object() {
+        Some(members) => headers_from(alloc, members),
+        None => Err(Unread::Malformed),
+    }
+}
+
+fn text_of_value(alloc: Global, value: &HeaderValue) -> Result<Value, AllocError>
+    ensures { IfOk result (λ v. view v ≡ text_data value.now.bytes) }
+{
+    Ok(Value::String(hex::encode(alloc, value.as_bytes())?))
+}
+
+fn texts_under(alloc: Global, headers: &HeaderMap, name: &HeaderName) -> Result<Value, AllocError>
+    ensures { IfOk result (λ v. view v ≡ texts_data (bytes_of (all_under headers.now name.now))) }
+{
+    let mut texts = Vec::new(alloc);
+    for value in headers.get_all(name) {
+        texts.push(text_of_value(alloc, value)?)?;
+    }
+    Ok(Value::Array(texts))
+}
+
+/// The object that is written for headers.
+pub fn value_of_headers(alloc: Global, headers: &HeaderMap) -> Result<Value, AllocError>
+    ensures value { IfOk result (λ v. view v ≡ headers_data (headers_of headers.now)) }
+    ensures filled { IfOk result (λ _. IsFilled (headers_of headers.now)) }
+{
+    // The length tells the proof that no name stands without a value.
+    let _length = headers.len();
+    let mut members: Map<String, Value> = Map::new(alloc);
+    for name in headers.keys() {
+        let key = String::from_str(alloc, name.as_str())?;
+        drop(members.insert(key, texts_under(alloc, headers, name)?)?);
+    }
+    Ok(Value::Object(members))
+}

@@ -1,0 +1,11 @@
+//! The parts of a stored policy that stand without one: options, moments, headers and texts, from
+//! JSON values and to them.
+#![tactic(auto)]
+
+pub mod form;
+pub mod headers;
+pub mod refusal;
+pub mod stored;
+pub mod texts;
+
+pub use refusal::Unread;

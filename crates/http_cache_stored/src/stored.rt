@@ -1,0 +1,149 @@
+//! What a stored form says, by its parts.
+ghost use Rattle.std.specs.Prelude.{◌≡◌, option_map, IfOk, IsErrOf};
+ghost use Rattle.serde_json.specs.View.{view};
+ghost use Rattle.serde_json.specs.Data.{string};
+ghost use Rattle.http_uri.specs.Uri.{uri_text};
+ghost use Rattle.http_cache_fields.specs.Headers.{headers_of};
+ghost use Rattle.http_cache_rules.specs.Options.{options_of};
+ghost use Rattle.http_cache_stored.specs.Stored.{Stored, stored_in, stored_form, IsStored};
+ghost use Rattle.http_cache_stored.specs.ReadBack.{IsWrittenFor};
+
+use crate::form::{
+    holds_members, moment_from_value, options_from_value, value_of_moment, value_of_options,
+};
+use crate::headers::{headers_from_value, value_of_headers};
+use crate::refusal::Unread;
+use crate::texts::{method_from_text, status_from_number, target_from_text};
+use http::{HeaderMap, Method, StatusCode, Uri, Version, request, response};
+use http_cache_rules::options::CacheOptions;
+use jiff::Timestamp;
+use serde_json::{Value, json};
+use std::alloc::{AllocError, Global};
+
+/// A request, the response that came for it, and when it came.
+#[derive(Drop)]
+pub struct StoredParts {
+    /// The request.
+    pub request: request::Parts,
+    /// The response.
+    pub response: response::Parts,
+    /// How a cache is to behave.
+    pub options: CacheOptions,
+    /// When the response came.
+    pub response_time: Timestamp,
+}
+
+#[derive(Clone, Copy)]
+struct StoredMembers<'a> {
+    target: &'a str,
+    method: &'a str,
+    status: u64,
+    request: &'a Value,
+    response: &'a Value,
+    options: CacheOptions,
+    response_time: Timestamp,
+}
+
+#[tactic(auto, unfolding(crate::specs::Stored::stored_form))]
+fn stored_members(value: &Value) -> Option<StoredMembers<'_>>
+    ensures { option_map (λ m. record {
+      target = m.target.now;
+      method = m.method.now;
+      status = m.status;
+      request = view m.request.now;
+      response = view m.response.now;
+      options = options_of m.options;
+      response_time = m.response_time.nanosecond;
+    }) result ≡ stored_form (view value.now) }
+{
+    if !holds_members(value, 7) {
+        return None;
+    }
+    Some(StoredMembers {
+        target: value.get("uri")?.as_str()?,
+        method: value.get("method")?.as_str()?,
+        status: value.get("status")?.as_u64()?,
+        request: value.get("req")?,
+        response: value.get("res")?,
+        options: options_from_value(value.get("opts")?)?,
+        response_time: moment_from_value(value.get("response_time")?)?,
+    })
+}
+
+/// What a stored form says.
+pub fn parts_from_value(alloc: Global, value: &Value) -> Result<StoredParts, Unread>
+    ensures found { IfOk result (λ parts. IsStored (view value.now) (stored_in parts)) }
+    ensures none { IsErrOf result Unread.Malformed
+        → (s : Stored) → IsStored (view value.now) s → ⊥ }
+{
+    let Some(members) = stored_members(value) else {
+        return Err(Unread::Malformed);
+    };
+    let Some(status) = status_from_number(members.status) else {
+        return Err(Unread::Malformed);
+    };
+    let uri = target_from_text(alloc, members.target)?;
+    let method = method_from_text(alloc, members.method)?;
+    let request_headers = headers_from_value(alloc, members.request)?;
+    let response_headers = headers_from_value(alloc, members.response)?;
+    Ok(StoredParts {
+        request: request::Parts {
+            method,
+            uri,
+            version: Version::HTTP_11,
+            headers: request_headers,
+        },
+        response: response::Parts {
+            status,
+            version: Version::HTTP_11,
+            headers: response_headers,
+        },
+        options: members.options,
+        response_time: members.response_time,
+    })
+}
+
+// The text that the target's library prints.
+fn text_of_target(alloc: Global, target: &Uri) -> Result<Value, AllocError>
+    ensures { IfOk result (λ v. view v ≡ string (uri_text target.now)) }
+{
+    Ok(Value::String(format!(in alloc; "{target}")?))
+}
+
+/// The value that is written for a request, its response, options and a moment.
+#[tactic(auto, unfolding(crate::specs::Stored::stored_data))]
+pub fn value_of_parts(
+    alloc: Global,
+    target: &Uri,
+    method: &Method,
+    status: StatusCode,
+    request_headers: &HeaderMap,
+    response_headers: &HeaderMap,
+    options: &CacheOptions,
+    response_time: Timestamp,
+) -> Result<Value, AllocError>
+    ensures { IfOk result (λ v. IsWrittenFor (view v) (record {
+      target = target.now;
+      method = method.now;
+      status = status;
+      request_headers = headers_of request_headers.now;
+      response_headers = headers_of response_headers.now;
+      options = options_of options.now;
+      response_time = response_time.nanosecond;
+    })) }
+{
+    let opts = value_of_options(alloc, options)?;
+    let req = value_of_headers(alloc, request_headers)?;
+    let res = value_of_headers(alloc, response_headers)?;
+    let moment = value_of_moment(alloc, response_time)?;
+    let uri = text_of_target(alloc, target)?;
+    json!(in alloc; {
+        "method": method.as_str(),
+        "opts": opts,
+        "req": req,
+        "res": res,
+        "response_time": moment,
+        "status": status.as_u16(),
+        "uri": uri
+    })
+}
