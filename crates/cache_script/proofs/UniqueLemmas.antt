@@ -1,46 +1,29 @@
 -- A value, and so a text, is one script at most.
 use Rattle.std.proofs.Common.{◌≡◌, ℕ, ℤ, List, Option, Some, None, IsSomeAnd, codes, inl, inr, refl, sym, ap, ◌∙◌, subst}
 use Rattle.std.proofs.lemmas.Bool.{cases_Bool}
-use Rattle.std.specs.List.{AllZip}
 use Rattle.serde_json.specs.Data.{Data}
 use Rattle.serde_json.specs.Read.{read as read_text}
-use Rattle.serde_json.specs.Find.{as_array}
 use Rattle.http_uri.specs.Uri.{uri_eq}
 use Rattle.http_cache_semantics.specs.Headers.{Headers}
-use Rattle.http_cache_semantics.proofs.HeadersLemmas.{same_headers}
 use Rattle.http_cache_semantics.proofs.TargetLemmas.{Spells-one_target}
 use Rattle.http_cache_stored.specs.Form.{has_members}
-use Rattle.http_cache_stored.specs.Lists.{values_of, IsListOf}
 use Rattle.http_cache_stored.specs.Pairs.{Pair, HoldsPairs}
 use Rattle.cache_script.specs.Pairs.{IsPair, IsHeaderList}
 use Rattle.http_cache_semantics.specs.Messages.{RequestSeen, ResponseSeen}
 use Rattle.cache_script.specs.Messages.{RequestForm, ResponseForm, request_form, response_form, IsRequestOf, IsResponseOf, IsRequest, IsResponse}
-use Rattle.cache_script.specs.Steps.{StepSeen, asks, receives, restarts, ask_form, receive_form, AskForm, ReceiveForm, IsAskOf, IsReceiveOf, IsStep}
+use Rattle.http_cache_semantics.specs.Steps.{StepSeen, asks, receives, restarts}
+use Rattle.cache_script.specs.Steps.{ask_form, receive_form, AskForm, ReceiveForm, IsAskOf, IsReceiveOf, IsStep}
 use Rattle.cache_script.specs.Script.{ScriptSeen, ScriptForm, script_form, IsScriptOf, IsScriptData, IsScript}
-use Rattle.http_cache_stored.proofs.ZipLemmas.{zip_same}
+use Rattle.http_cache_stored.proofs.SomeLemmas.{some_same}
+use Rattle.http_cache_stored.proofs.ZipLemmas.{IsListOf-unique}
+use Rattle.http_cache_stored.proofs.HeldLemmas.{HoldsPairs-unique}
 use Rattle.cache_script.proofs.PairLemmas.{IsPair-unique}
 use Rattle.cache_script.proofs.StepLemmas.{text_asks_not, text_receives_not, two_receive_not, other_asks_not}
-
--- where there is a value, and it stands for one thing alone
-some_same : {A B : Type 0} (Stands : A → B → Type 0) → ((a : A) (x y : B) → Stands a x → Stands a y → x ≡ y)
-    → (o : Option A) (x y : B) → IsSomeAnd o (λ a. Stands a x) → IsSomeAnd o (λ a. Stands a y) → x ≡ y
-some_same Stands one None x y h k = absurd h
-some_same Stands one (Some a) x y h k = one a x y h k
 
 -- there is no value where there is none
 none_holds : {A : Type 0} (o : Option A) (P : A → Type 0) → o ≡ None → IsSomeAnd o P → ⊥
 none_holds None P e h = h
 none_holds (Some x) P e h = cc
-
-pub IsListOf-unique : {X : Type 0} (Stands : Data → X → Type 0)
-    → ((d : Data) (x y : X) → Stands d x → Stands d y → x ≡ y)
-    → (d : Data) (xs ys : List X) → IsListOf Stands d xs → IsListOf Stands d ys → xs ≡ ys
-IsListOf-unique Stands one d xs ys h k =
-    some_same (λ ds zs. AllZip Stands (values_of ds) zs) (λ ds. zip_same Stands one (values_of ds))
-    (as_array d) xs ys h k
-
-pub HoldsPairs-unique : (pairs : List Pair) (g h : Headers) → HoldsPairs pairs g → HoldsPairs pairs h → g ≡ h
-HoldsPairs-unique pairs g h p q = same_headers g h (λ name. p.held name ∙ sym (q.held name))
 
 pub IsHeaderList-unique : (d : Data) (g h : Headers) → IsHeaderList d g → IsHeaderList d h → g ≡ h
 IsHeaderList-unique d g h p q =

@@ -30,10 +30,6 @@ first_line e now = storable_line (is_storable e) (time_to_live_at e now)
 unfoldable pub age_line : List ℕ → List ℕ
 age_line age = codes "fresh age " ++ age ++ codes "\n"
 
--- the line of a fresh answer, by its age in whole seconds
-abbrev pub fresh_line : ℕ → List ℕ
-fresh_line seconds = age_line (decimal seconds)
-
 -- the line of a stale answer, by whether the stored response is the answer to the request
 unfoldable pub stale_line : Bool → List ℕ
 stale_line matched = codes "stale matches " ++ truth matched ++ codes "\n"
@@ -43,3 +39,7 @@ unfoldable pub updated_line : Bool → ℕ → List ℕ
 updated_line not_modified status =
     if not_modified then codes "not-modified status " ++ decimal status ++ codes "\n"
     else codes "modified status " ++ decimal status ++ codes "\n"
+
+-- the line of a restart
+abbrev pub restarted_line : List ℕ
+restarted_line = codes "restarted\n"

@@ -1,7 +1,7 @@
 //! The lines that answer a script, each with its line feed.
 ghost use Rattle.std.specs.Prelude.{◌≡◌, IfOk, string_bytes};
 ghost use Rattle.std.specs.Duration.{as_nanos};
-ghost use Rattle.cache_script.specs.Lines.{storable_line, age_line, stale_line, updated_line};
+ghost use Rattle.cache_script.specs.Lines.{storable_line, age_line, stale_line, updated_line, restarted_line};
 
 use http::StatusCode;
 use std::alloc::{AllocError, Global};
@@ -47,4 +47,11 @@ pub fn updated_line(
     } else {
         format!(in alloc; "modified status {status}\n")
     }
+}
+
+/// The line of a restart.
+pub fn restarted_line(alloc: Global) -> Result<String, AllocError>
+    ensures { IfOk result (λ line. string_bytes line ≡ restarted_line) }
+{
+    String::from_str(alloc, "restarted\n")
 }

@@ -1,37 +1,39 @@
 -- A script has one output at most.
-use Rattle.std.proofs.Common.{◌≡◌, ℕ, ℤ, ◌++◌, List, inl, inr, sym, ap, ◌∙◌}
-use Rattle.std.proofs.lemmas.Bool.{cases_Bool}
+use Rattle.std.proofs.Common.{◌≡◌, ℕ, ◌++◌, List, Option, Some, None, IsSomeAnd, map, sym, ap, ◌∙◌, subst}
 use Rattle.std.specs.List.{concat}
+use Rattle.http_cache_semantics.specs.Headers.{first_text}
 use Rattle.http_cache_semantics.specs.Exchange.{Exchange}
-use Rattle.http_cache_semantics.specs.Messages.{RequestSeen}
-use Rattle.http_cache_semantics.specs.Verdict.{is_fresh_for}
-use Rattle.cache_script.specs.Steps.{StepSeen, asks, receives, restarts}
-use Rattle.cache_script.specs.Script.{ScriptSeen}
+use Rattle.http_cache_semantics.specs.Steps.{StepSeen, OutcomeSeen, uses, sends, renews, replaces, restarted, outcome_seen}
+use Rattle.http_cache_semantics.proofs.RunLemmas.{run-unique}
 use Rattle.http_cache_stored.proofs.ZipLemmas.{zip_same}
-use Rattle.cache_script.specs.Lines.{first_line}
-use Rattle.cachecheck.specs.Steps.{IsAskLine, IsLine, AreLines}
-use Rattle.cachecheck.specs.Output.{start_of, IsOutput}
+use Rattle.cache_script.specs.Script.{ScriptSeen}
+use Rattle.cache_script.specs.Lines.{first_line, age_line}
+use Rattle.cachecheck.specs.Lines.{IsLine, AreLines}
+use Rattle.cachecheck.specs.Output.{start_of, AreStepLines, IsOutput}
 
-IsAskLine-unique : (e : Exchange) (r : RequestSeen) (moment : ℤ) (x y : List ℕ)
-    → IsAskLine e r moment x → IsAskLine e r moment y → x ≡ y
-IsAskLine-unique e r moment x y h k =
-    elim (cases_Bool (is_fresh_for e r moment)) [
-      | inl fresh ↦ (h.fresh fresh).2 ∙ sym (k.fresh fresh).2
-      | inr stale ↦ (h.stale stale).2 ∙ sym (k.stale stale).2
-    ]
+age_line-unique : (age : Option (List ℕ)) (x y : List ℕ)
+    → IsSomeAnd age (λ text. x ≡ age_line text) → IsSomeAnd age (λ text. y ≡ age_line text) → x ≡ y
+age_line-unique None x y h k = absurd h
+age_line-unique (Some text) x y h k = h ∙ sym k
 
-IsLine-unique : (e : Exchange) (s : StepSeen) (x y : List ℕ) → IsLine e s x → IsLine e s y → x ≡ y
-IsLine-unique e (asks r moment) x y h k = IsAskLine-unique e r moment x y h k
-IsLine-unique e (receives r a moment) x y h k = absurd h
-IsLine-unique e restarts x y h k = absurd h
+IsLine-unique : (o : OutcomeSeen) (x y : List ℕ) → IsLine o x → IsLine o y → x ≡ y
+IsLine-unique (uses response) x y h k = age_line-unique (first_text response.headers _) x y h k
+IsLine-unique (sends request matches) x y h k = h ∙ sym k
+IsLine-unique (renews response) x y h k = h ∙ sym k
+IsLine-unique (replaces response) x y h k = h ∙ sym k
+IsLine-unique restarted x y h k = h ∙ sym k
 
-AreLines-unique : (e : Exchange) (steps : List StepSeen) (x y : List ℕ)
-    → AreLines e steps x → AreLines e steps y → x ≡ y
-AreLines-unique e steps x y h k =
-    let lines = zip_same (IsLine e) (IsLine-unique e) steps h.lines k.lines h.each k.each in
-    h.joined ∙ ap concat lines ∙ sym k.joined
+AreLines-unique : (os : List OutcomeSeen) (x y : List ℕ) → AreLines os x → AreLines os y → x ≡ y
+AreLines-unique os x y h k =
+    h.joined ∙ ap concat (zip_same IsLine IsLine-unique os h.lines k.lines h.each k.each) ∙ sym k.joined
+
+AreStepLines-unique : (e : Exchange) (steps : List StepSeen) (x y : List ℕ)
+    → AreStepLines e steps x → AreStepLines e steps y → x ≡ y
+AreStepLines-unique e steps x y h k =
+    let same = (run-unique e steps h.outcomes k.outcomes h.last k.last h.run k.run).0 in
+    AreLines-unique (map outcome_seen k.outcomes) x y (subst (λ (os : List OutcomeSeen). AreLines os x) same h.lines) k.lines
 
 pub IsOutput-unique : (s : ScriptSeen) (t u : List ℕ) → IsOutput s t → IsOutput s u → t ≡ u
 IsOutput-unique s t u h k =
-    let rest = AreLines-unique (start_of s) s.steps h.rest k.rest h.lines k.lines in
+    let rest = AreStepLines-unique (start_of s) s.steps h.rest k.rest h.lines k.lines in
     h.whole ∙ ap (λ lines. first_line (start_of s) s.received ++ lines) rest ∙ sym k.whole

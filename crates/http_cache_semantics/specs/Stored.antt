@@ -1,5 +1,6 @@
 -- The stored form of a policy, as a JSON value.
 use Rattle.serde_json.specs.Data.{Data}
+use Rattle.http_uri.specs.declared.uri.Uri.{Uri}
 use Rattle.http_cache_stored.specs.Stored.{Stored, IsStored, stored_data}
 use Rattle.http_cache_stored.specs.ReadBack.{IsReadBack}
 use Rattle.http_cache_semantics.specs.Exchange.{Exchange}
@@ -24,7 +25,10 @@ Reads d e = IsStored d (stored_of e)
 abbrev pub writes : Exchange → Data
 writes e = stored_data (stored_of e)
 
--- e reads back as f once it was written: f is e with the target that the printed target spells, and
--- the libraries take the method, the names, the values and their counts
+-- e reads back as f once it was written: f is e with the target that the printed target spells
 abbrev pub ReadsBack : Exchange → Exchange → Type 0
 ReadsBack e f = IsReadBack (stored_of e) (stored_of f)
+
+-- the exchange for another target
+abbrev pub with_target : Exchange → Uri → Exchange
+with_target e target = record e { target = target }

@@ -3,7 +3,7 @@ ghost use Rattle.std.specs.Prelude.{◌≡◌, ◌≢◌, ◌↔◌, Err, IfOk, 
 ghost use Rattle.serde_json.specs.View.{view};
 ghost use Rattle.http_cache_semantics.specs.Exchange.{Exchange};
 ghost use Rattle.http_cache_semantics.specs.Kept.{kept_exchange};
-ghost use Rattle.http_cache_semantics.specs.Stored.{Reads, ReadsBack, writes};
+ghost use Rattle.http_cache_semantics.specs.Stored.{Reads, ReadsBack, with_target, writes};
 
 use crate::policy::CachePolicy;
 use http_cache_fields::CacheError;
@@ -18,6 +18,8 @@ impl CachePolicy {
         ensures value { IfOk result (λ value. view value ≡ writes self.now) }
         ensures reads_back { IfOk result (λ value. (e : Exchange)
             → Reads (view value) e ↔ ReadsBack self.now e) }
+        ensures restored { IfOk result (λ value. (e : Exchange) → Reads (view value) e
+            → kept_exchange e ≡ with_target self.now e.target) }
         ensures only_memory { IsOkUnless result CacheError.Memory }
     {
         let value = value_of_parts(

@@ -52,7 +52,7 @@ pub refused_texts : (m : Entries FieldValue) (name : List ℕ) (done : List (Lis
     → Fits (with_pairs m (entry_pairs (name, values))) → ⊥
 refused_texts m name done vs i v lt is h zip refuses values all fits =
     let cut = zip_cut IsValueText (map view (take i vs)) (view v) (map view (drop (suc i) vs)) values (subst
-    (λ (ds : List Data). AllZip IsValueText ds values) (place vs i v lt is) all) in
+    (λ (ds : List Data). AllZip IsValueText ds values) (place view vs i v lt is) all) in
     let front : cut.front ≡ done = zip_same IsValueText IsValueText-unique (map view
     (take i vs)) cut.front done cut.before zip in
     let whole : values ≡ done ++ cut.here ∷ cut.back = cut.whole ∙ ap (λ l. l ++ cut.here ∷ cut.back) front in

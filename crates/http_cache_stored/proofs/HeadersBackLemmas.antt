@@ -1,5 +1,5 @@
 -- Headers that are written read back, where their library takes them.
-use Rattle.std.proofs.Common.{◌≡◌, ◌≢◌, ℕ, ◌<◌, Bool, true, false, true≢false, List, [], ◌∷◌, ◌++◌, map, filter, length, Option, Some, None, Ordering, Less, Equal, Greater, is_some, bytes_eq, is_eq, inl, inr, refl, sym, ap, ◌∙◌, subst, append-nil, arith}
+use Rattle.std.proofs.Common.{◌≡◌, ◌≢◌, ℕ, ◌<◌, Bool, true, false, true≢false, List, [], ◌∷◌, ◌++◌, map, filter, length, Some, None, Ordering, Less, Equal, Greater, bytes_eq, is_eq, inl, inr, refl, sym, ap, ◌∙◌, subst, append-nil, arith}
 use Rattle.std.specs.Prelude.{T}
 use Rattle.std.specs.List.{AllZip, AllByRecursion}
 use Rattle.std.specs.FinMap as fin
@@ -11,13 +11,14 @@ use Rattle.std.proofs.lemmas.List.{map-append}
 use Rattle.std.proofs.lemmas.Slice.Eq.{bytes_eq-Decides}
 use Rattle.http_header.specs.Token.{lowercase}
 use Rattle.http_header.specs.HeaderMap.{Entry, Entries, entry_pairs, pairs}
-use Rattle.http_cache_fields.specs.Headers.{Headers, value_count}
-use Rattle.http_cache_fields.proofs.HeadersLemmas.{by_name, ties, same_headers}
+use Rattle.http_cache_fields.specs.Headers.{Headers}
+use Rattle.http_cache_fields.proofs.HeadersLemmas.{by_name, ties}
 use Rattle.http_cache_stored.specs.Pairs.{Pair, values_under, some_values}
-use Rattle.http_cache_stored.specs.HeaderObject.{members_in, members_data, headers_data, text_data, IsValueText, IsHeaderMember, IsHeaderObject, IsFilled}
+use Rattle.http_cache_stored.specs.HeaderObject.{members_in, members_data, headers_data, text_data, IsValueText, IsHeaderMember, IsHeaderObject}
 use Rattle.http_cache_stored.specs.ReadBack.{IsReadableEntry, AreReadable}
+use Rattle.http_cache_stored.proofs.SomeLemmas.{none_some}
 use Rattle.http_cache_stored.proofs.ZipLemmas.{values_of-items_of}
-use Rattle.http_cache_stored.proofs.TextBackLemmas.{texts_back, texts_are}
+use Rattle.http_cache_stored.proofs.TextBackLemmas.{texts_back}
 
 is_true : (b : Bool) → T b → b ≡ true
 is_true true h = refl
@@ -119,7 +120,7 @@ filled_entries (e ∷ es) h filled =
             let same : e.0 ≡ q = (bytes_eq-Decides e.0 q).0 t in
             let none : find by_name q es ≡ None = find_below q es (ap (λ k. below_all by_name k es) (sym same)
             ∙ parts.0) in
-            none_some (sym none ∙ is)
+            none_some [] (sym none ∙ is)
         | inr f ↦ filled q (rw (ties q e.0, f) is)
       ]),
     )
@@ -128,10 +129,7 @@ filled_entries (e ∷ es) h filled =
     some [] some_there = absurd (some_there refl)
     some (v ∷ vs) some_there = omega arith
 
-    none_some : ◌≢◌ {A = Option (List (List ℕ))} None (Some [])
-    none_some e = true≢false (sym (ap is_some e))
-
--- ---- both ways
+-- ---- what is written
 
 members_back : (es : Entries (List ℕ)) → AllByRecursion IsReadableEntry es
     → AllByRecursion (λ e. 0 < length e.1) es → AllZip IsHeaderMember (members_in (members_data es)) es
@@ -147,41 +145,14 @@ members_back (e ∷ es) h some = (
   members_back es h.1 some.1,
 )
 
-record EntriesBack (es fs : Entries (List ℕ)) : Type 0 where
-  same : fs ≡ es
-  readable : AllByRecursion IsReadableEntry es
-  plain : AllByRecursion IsPlain es
-
-members_are : (es fs : Entries (List ℕ)) → AllZip IsHeaderMember (members_in (members_data es)) fs
-    → EntriesBack es fs
-members_are [] [] h = record { same = refl; readable = tt; plain = tt }
-members_are [] (f ∷ fs) h = absurd h
-members_are (e ∷ es) [] h = absurd h
-members_are (e ∷ es) (f ∷ fs) h =
-    let texts = texts_are e.1 f.1 (subst (λ ds. AllZip IsValueText ds f.1) (values_of-items_of
-    (map text_data e.1)) h.0.listed) in
-    let rest = members_are es fs h.1 in
-    record {
-      same = λ i. (h.0.name i, texts.same i) ∷ rest.same i;
-      readable = (record { name = h.0.header_name; values = texts.readable }, rest.readable);
-      plain = (
-        record {
-          lower = h.0.header_name.1;
-          some =
-              subst (λ (vs : List (List ℕ)). 0 < length vs) texts.same h.0.some;
-        },
-        rest.plain,
-      );
-    }
-
 plain_entries : (es : Entries (List ℕ)) → AllByRecursion IsReadableEntry es
     → AllByRecursion (λ e. 0 < length e.1) es → AllByRecursion IsPlain es
 plain_entries [] h some = tt
 plain_entries (e ∷ es) h some = (record { lower = h.0.name.1; some = some.0 }, plain_entries es h.1 some.1)
 
-pub headers_back : (h : Headers) → IsFilled h → AreReadable h → IsHeaderObject (headers_data h) h
-headers_back h filled r =
-    let some = filled_entries (fin.entries h) (is_true _ (fin.entries_sorted h)) (λ q is. filled q
+pub headers_back : (h : Headers) → AreReadable h → IsHeaderObject (headers_data h) h
+headers_back h r =
+    let some = filled_entries (fin.entries h) (is_true _ (fin.entries_sorted h)) (λ q is. r.filled q
     (fin.get-entries h q ∙ is)) in
     record {
       entries = fin.entries h;
@@ -190,25 +161,5 @@ headers_back h filled r =
         held = held_own h (plain_entries (fin.entries h) r.entries some);
         names_fit = r.names_fit;
         values_fit = r.values_fit;
-      };
-    }
-
--- what written headers read back as
-pub record HeadersBack (h g : Headers) : Type 0 where
-  pub same : g ≡ h
-  pub readable : AreReadable h
-
-pub headers_are : (h g : Headers) → IsHeaderObject (headers_data h) g → HeadersBack h g
-headers_are h g is =
-    let back = members_are (fin.entries h) is.entries is.listed in
-    let same : g ≡ h = same_headers g h (λ q.
-    is.held.held q ∙ ap (λ (es : Entries (List ℕ)). some_values (values_under q (pairs es))) back.same
-    ∙ sym (held_own h back.plain q)) in
-    record {
-      same = same;
-      readable = record {
-        entries = back.readable;
-        names_fit = omega (arith, is.held.names_fit, ap fin.len same);
-        values_fit = omega (arith, is.held.values_fit, ap value_count same);
       };
     }

@@ -201,6 +201,10 @@ refused_fits m p (inr (absent, inl many)) fits =
 refused_fits m p (inr (absent, inr full)) fits =
     omega (arith, full, fits.count, count_more m (lowercase p.0) (plain_value p.1))
 
+-- pairs are held by one map of headers at most
+pub HoldsPairs-unique : (pairs : List Pair) (g h : Headers) → HoldsPairs pairs g → HoldsPairs pairs h → g ≡ h
+HoldsPairs-unique pairs g h p q = same_headers g h (λ name. p.held name ∙ sym (q.held name))
+
 -- a map that gathered pairs which headers hold has room for them
 pub fits_held : (m : Entries FieldValue) (ps : List Pair) (h : Headers) → Gathers m ps → HoldsPairs ps h
     → Fits m

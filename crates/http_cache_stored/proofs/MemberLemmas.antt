@@ -1,19 +1,18 @@
 -- Members of an object and the headers that hold them.
-use Rattle.std.proofs.Common.{◌≡◌, ℕ, ◌<◌, List, [], ◌∷◌, ◌++◌, map, length, Option, Some, None, IsSomeAnd, String, Global, refl, sym, ap, ◌∙◌, subst, append_assoc, append-nil, arith}
+use Rattle.std.proofs.Common.{◌≡◌, ℕ, ◌<◌, List, [], ◌∷◌, ◌++◌, map, length, String, Global, refl, sym, ap, ◌∙◌, subst, append_assoc, append-nil, arith}
 use Rattle.std.specs.List.{AllZip}
 use Rattle.http_header.specs.FieldValue.{FieldValue}
 use Rattle.http_header.specs.HeaderMap.{Entries, Entry, entry_pairs, pairs}
 use Rattle.serde_json.specs.Data.{Data}
-use Rattle.serde_json.specs.Find.{as_array, as_object}
+use Rattle.serde_json.specs.Find.{as_object}
 use Rattle.serde_json.specs.View.{members_view}
 use Rattle.serde_json.specs.declared.value.Value.{Value}
 use Rattle.http_cache_fields.specs.Headers.{Headers, headers_of}
-use Rattle.http_cache_fields.proofs.HeadersLemmas.{same_headers}
-use Rattle.http_cache_stored.specs.Lists.{values_of}
 use Rattle.http_cache_stored.specs.HeaderObject.{Member, member_of, members_in, IsValueText, IsHeaderMember, IsHeaderObject}
-use Rattle.http_cache_stored.specs.Pairs.{Pair, some_values, values_under, HoldsPairs, with_pairs, Fits}
-use Rattle.http_cache_stored.proofs.ZipLemmas.{zip_cut, zip_same}
-use Rattle.http_cache_stored.proofs.HeldLemmas.{Gathers, gathers_none, gathers_all, holds_gathered, fits_held}
+use Rattle.http_cache_stored.specs.Pairs.{Pair, HoldsPairs, with_pairs, Fits}
+use Rattle.http_cache_stored.proofs.SomeLemmas.{some_same}
+use Rattle.http_cache_stored.proofs.ZipLemmas.{zip_cut, zip_same, IsListOf-unique}
+use Rattle.http_cache_stored.proofs.HeldLemmas.{Gathers, gathers_none, gathers_all, holds_gathered, fits_held, HoldsPairs-unique}
 use Rattle.http_cache_stored.proofs.AppendLemmas.{with_pairs-after, fits_before, IsValueText-unique}
 
 pub members_in-view : (es : List (String Global × Value)) → members_in (members_view es) ≡ map member_of es
@@ -50,17 +49,11 @@ holds_all m es is fits =
     holds_gathered m (pairs es) (subst (λ (n : Entries FieldValue). Gathers n (pairs es)) (sym is) (gathered
     (pairs es))) fits
 
-texts_same : (o : Option _) (xs ys : List (List ℕ))
-    → IsSomeAnd o (λ ds. AllZip IsValueText (values_of ds) xs)
-    → IsSomeAnd o (λ ds. AllZip IsValueText (values_of ds) ys) → xs ≡ ys
-texts_same (Some ds) xs ys h k = zip_same IsValueText IsValueText-unique (values_of ds) xs ys h k
-texts_same None xs ys h k = absurd h
-
 pub IsHeaderMember-unique : (m : Member) (e f : Entry (List ℕ)) → IsHeaderMember m e → IsHeaderMember m f
     → e ≡ f
 IsHeaderMember-unique m e f h k =
     let name = h.name ∙ sym k.name in
-    let values = texts_same (as_array m.1) e.1 f.1 h.listed k.listed in
+    let values = IsListOf-unique IsValueText IsValueText-unique m.1 e.1 f.1 h.listed k.listed in
     λ i. (name i, values i)
 
 -- where one member of an object can't be appended, no headers hold all of them
@@ -90,13 +83,8 @@ refused_member front done m back all whole zip refuses entries listed h held =
 -- an object is of one map of headers at most
 pub IsHeaderObject-unique : (d : Data) (g h : Headers) → IsHeaderObject d g → IsHeaderObject d h → g ≡ h
 IsHeaderObject-unique d g h x y =
-    let same = by (as_object d) x.entries y.entries x.listed y.listed in
-    same_headers g h (λ name. x.held.held name
-    ∙ ap (λ (es : Entries (List ℕ)). some_values (values_under name (pairs es))) same
-    ∙ sym (y.held.held name))
-  where
-    by : (o : Option _) (es fs : Entries (List ℕ))
-        → IsSomeAnd o (λ ms. AllZip IsHeaderMember (members_in ms) es)
-        → IsSomeAnd o (λ ms. AllZip IsHeaderMember (members_in ms) fs) → es ≡ fs
-    by (Some ms) es fs p q = zip_same IsHeaderMember IsHeaderMember-unique (members_in ms) es fs p q
-    by None es fs p q = absurd p
+    let same = some_same (λ ms es. AllZip IsHeaderMember (members_in ms) es)
+    (λ ms. zip_same IsHeaderMember IsHeaderMember-unique (members_in ms)) (as_object d) x.entries y.entries
+    x.listed y.listed in
+    HoldsPairs-unique (pairs y.entries) g h
+    (subst (λ (es : Entries (List ℕ)). HoldsPairs (pairs es) g) same x.held) y.held

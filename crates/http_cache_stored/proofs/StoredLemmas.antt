@@ -1,7 +1,8 @@
 -- A value is of one exchange at most.
-use Rattle.std.proofs.Common.{◌≡◌, Option, Some, None, IsSomeAnd, sym, ◌∙◌}
+use Rattle.std.proofs.Common.{◌≡◌, sym, ◌∙◌}
 use Rattle.serde_json.specs.Data.{Data}
 use Rattle.http_cache_stored.specs.Stored.{Stored, StoredForm, stored_form, IsStoredOf, IsStored}
+use Rattle.http_cache_stored.proofs.SomeLemmas.{some_same}
 use Rattle.http_cache_stored.proofs.MemberLemmas.{IsHeaderObject-unique}
 use Rattle.http_cache_stored.proofs.TargetLemmas.{Spells-one_target}
 
@@ -27,9 +28,4 @@ IsStoredOf-unique form s t h k =
     }
 
 pub IsStored-unique : (d : Data) (s t : Stored) → IsStored d s → IsStored d t → s ≡ t
-IsStored-unique d s t = by (stored_form d)
-  where
-    by : (o : Option StoredForm) → IsSomeAnd o (λ form. IsStoredOf form s)
-        → IsSomeAnd o (λ form. IsStoredOf form t) → s ≡ t
-    by None h k = absurd h
-    by (Some form) h k = IsStoredOf-unique form s t h k
+IsStored-unique d s t h k = some_same IsStoredOf IsStoredOf-unique (stored_form d) s t h k

@@ -1,6 +1,6 @@
 -- Headers that are put into an object name by name.
-use Rattle.std.proofs.Common.{◌≡◌, ◌≢◌, ℕ, Bool, true, false, cond, List, [], ◌∷◌, map, length, Option, Some, None, Ordering, Less, Equal, Greater, unwrap_or, bytes_eq, inl, inr, true≢false, refl, sym, ap, ◌∙◌, arith}
-use Rattle.std.specs.List.{list_any}
+use Rattle.std.proofs.Common.{◌≡◌, ◌≢◌, ℕ, Bool, true, false, cond, List, [], ◌∷◌, map, length, Option, Some, None, Ordering, Less, Equal, Greater, unwrap_or, bytes_eq, inl, inr, true≢false, refl, sym, ap, ◌∙◌, subst, arith}
+use Rattle.std.specs.List.{list_any, AllByRecursion}
 use Rattle.std.specs.FinMap as fin
 use Rattle.std.specs.FinMap.Entries.{put as put_entry, by_order}
 use Rattle.std.specs.Cmp.Lexicographic.{nat_list_cmp_total}
@@ -11,8 +11,9 @@ use Rattle.http_header.specs.FieldValue.{FieldValue}
 use Rattle.http_header.specs.HeaderMap.{Entries, keys, get_all, IsHeaderMap}
 use Rattle.serde_json.specs.Data.{no_members, put}
 use Rattle.http_cache_fields.specs.Headers.{Headers, headers_of, bytes_of, entry_of}
-use Rattle.http_cache_fields.proofs.HeadersLemmas.{by_name, ties, same_headers, get-headers_of, non_empty}
+use Rattle.http_cache_fields.proofs.HeadersLemmas.{by_name, ties, same_headers, get-headers_of, non_empty, len-headers_of, value_count-headers_of}
 use Rattle.http_cache_stored.specs.HeaderObject.{texts_data, members_data, IsFilled}
+use Rattle.http_cache_stored.specs.ReadBack.{IsReadableEntry, AreReadable}
 
 by_order-members : (o : Ordering) (a b e : Entries (List ℕ))
     → members_data (by_order o a b e) ≡ match_ordering o (members_data a) (members_data b) (members_data e)
@@ -79,16 +80,45 @@ all_names m =
     (fin.get-empty by_name q)
     ∙ sym (fin.get-from_entries nat_list_cmp_total (map entry_of m) q ∙ find-names m q))
 
-pub none_yet : members_data (fin.entries (fin.empty {X = List (List ℕ)} {R = by_name})) ≡ no_members
-none_yet =
-    ap members_data (empty _ (sym (fin.len-entries (fin.empty {X = List (List ℕ)} {R = by_name}))
-    ∙ fin.len-empty by_name (List (List ℕ))))
+no_entries : fin.entries (fin.empty {X = List (List ℕ)} {R = by_name}) ≡ []
+no_entries = empty _ (sym (fin.len-entries (fin.empty {X = List (List ℕ)} {R = by_name}))
+    ∙ fin.len-empty by_name (List (List ℕ)))
   where
     empty : (es : Entries (List ℕ)) → length es ≡ 0 → es ≡ []
     empty [] e = refl
     empty (x ∷ es) e = absurd (omega arith)
 
-pub filled : (m : Entries FieldValue) → IsHeaderMap m → IsFilled (headers_of m)
+pub none_yet : members_data (fin.entries (fin.empty {X = List (List ℕ)} {R = by_name})) ≡ no_members
+none_yet = ap members_data no_entries
+
+-- ---- what the library takes
+
+-- entries that the library of headers takes
+abbrev AreReadableEntries : Entries (List ℕ) → Type 0
+AreReadableEntries es = AllByRecursion IsReadableEntry es
+
+pub readable_none : AreReadableEntries (fin.entries (fin.empty {X = List (List ℕ)} {R = by_name}))
+readable_none = subst AreReadableEntries (sym no_entries) tt
+
+readable_put : (k : List ℕ) (vs : List (List ℕ)) (es : Entries (List ℕ)) → IsReadableEntry (k, vs)
+    → AreReadableEntries es → AreReadableEntries (put_entry by_name k vs es)
+readable_put k vs [] new h = (new, tt)
+readable_put k vs (e ∷ es) new h = by (by_name k e.0) (readable_put k vs es new h.1)
+  where
+    by : (o : Ordering) → AreReadableEntries (put_entry by_name k vs es) → AreReadableEntries (by_order o ((k, vs) ∷ e ∷ es) ((e.0, vs) ∷ es)
+        (e ∷ put_entry by_name k vs es))
+    by Less rest = (new, h)
+    by Equal rest = (record { name = h.0.name; values = new.values }, h.1)
+    by Greater rest = (h.0, rest)
+
+-- the entries of headers with what stands under one more name
+pub readable_insert : (h : Headers) (k : List ℕ) (vs : List (List ℕ)) → IsReadableEntry (k, vs)
+    → AreReadableEntries (fin.entries h) → AreReadableEntries (fin.entries (fin.insert h k vs))
+readable_insert h k vs new old =
+    subst AreReadableEntries (sym (fin.entries-insert nat_list_cmp_total h k vs))
+    (readable_put k vs (fin.entries h) new old)
+
+filled : (m : Entries FieldValue) → IsHeaderMap m → IsFilled (headers_of m)
 filled m valid name is = by (map (λ v. v.bytes) (get_all m name)) (sym (get-headers_of m name valid) ∙ is)
   where
     by : (vs : List (List ℕ)) → non_empty vs ≢ Some []
@@ -98,3 +128,14 @@ filled m valid name is = by (map (λ v. v.bytes) (get_all m name)) (sym (get-hea
         is_cons : List (List ℕ) → Bool
         is_cons [] = false
         is_cons (x ∷ xs) = true
+
+-- what a header map holds, where its library takes the entries
+pub readable : (m : Entries FieldValue) → IsHeaderMap m → AreReadableEntries (fin.entries (headers_of m))
+    → AreReadable (headers_of m)
+readable m valid entries =
+    record {
+      entries = entries;
+      filled = filled m valid;
+      names_fit = omega (arith, valid.names_fit, len-headers_of m valid.unique);
+      values_fit = omega (arith, valid.values_fit, value_count-headers_of m valid.unique);
+    }

@@ -26,17 +26,19 @@ pub record IsReadableEntry (e : Entry (List ℕ)) : Type 0 where
   pub name : IsHeaderName e.0
   pub values : AllByRecursion IsReadableValue e.1
 
--- names, values and counts that the library of headers takes
+-- names with a value each, and values and counts, that the library of headers takes
 pub record AreReadable (h : Headers) : Type 0 where
   pub entries : AllByRecursion IsReadableEntry (fin.entries h)
+  pub filled : IsFilled h
   pub names_fit : fin.len h ≤ 24_576
   pub values_fit : value_count h < 2 ^ 64
 
 -- what holds of all that is written
 pub record IsWritable (s : Stored) : Type 0 where
+  pub method : IsToken s.method
   pub status : IsStatusCode s.status
-  pub request : IsFilled s.request_headers
-  pub response : IsFilled s.response_headers
+  pub request : AreReadable s.request_headers
+  pub response : AreReadable s.response_headers
   pub options : AreInRange s.options
   pub response_time : IsTimestampNanos s.response_time
 
@@ -45,10 +47,7 @@ pub record IsWrittenFor (d : Data) (s : Stored) : Type 0 where
   pub is : d ≡ stored_data s
   pub writable : IsWritable s
 
--- the same with the target that the printed target spells, where the libraries take what is written
+-- the same, but for the target, which is the one that the printed target spells
 pub record IsReadBack (s t : Stored) : Type 0 where
   pub same : t ≡ record s { target = t.target }
   pub target : Spells (uri_text s.target) t.target
-  pub method : IsToken s.method
-  pub request : AreReadable s.request_headers
-  pub response : AreReadable s.response_headers

@@ -1,13 +1,15 @@
 //! Headers from JSON objects and to them.
 ghost use Rattle.std.specs.Prelude.{◌≡◌, ℕ, List, map, None, Some, IfOk, OnOk, IsErrOf};
-ghost use Rattle.std.specs.List.{AllZip};
+ghost use Rattle.std.specs.List.{AllZip, AllByRecursion};
+ghost use Rattle.hex.specs.Hex.{IsBytes};
 ghost use Rattle.http_header.specs.FieldName.{IsHeaderName};
 ghost use Rattle.http_header.specs.FieldValue.{plain_value};
 ghost use Rattle.http_header.specs.HeaderMap.{Entry, Entries, entry_pairs, pairs, get_all as all_under};
 ghost use Rattle.serde_json.specs.View.{view};
 ghost use Rattle.http_cache_fields.specs.Headers.{Headers, headers_of, bytes_of};
-ghost use Rattle.http_cache_stored.specs.HeaderObject.{member_of, value_of_text, IsValueText, IsHeaderMember, IsHeaderObject, text_data, texts_data, headers_data, IsFilled};
+ghost use Rattle.http_cache_stored.specs.HeaderObject.{member_of, value_of_text, IsValueText, IsHeaderMember, IsHeaderObject, text_data, texts_data, headers_data};
 ghost use Rattle.http_cache_stored.specs.Pairs.{HoldsPairs, Fits, with_pairs};
+ghost use Rattle.http_cache_stored.specs.ReadBack.{IsReadableValue, AreReadable};
 
 use crate::refusal::Unread;
 use hex::FromHexError;
@@ -131,14 +133,25 @@ pub fn headers_from_value(alloc: Global, value: &Value) -> Result<HeaderMap, Unr
     }
 }
 
-fn text_of_value(alloc: Global, value: &HeaderValue) -> Result<Value, AllocError>
-    ensures { IfOk result (λ v. view v ≡ text_data value.now.bytes) }
+fn text_of_bytes(alloc: Global, bytes: &[u8]) -> Result<Value, AllocError>
+    ensures value { IfOk result (λ v. view v ≡ text_data bytes.now) }
+    ensures bytes { IfOk result (λ _. IsBytes bytes.now) }
 {
-    Ok(Value::String(hex::encode(alloc, value.as_bytes())?))
+    Ok(Value::String(hex::encode(alloc, bytes)?))
+}
+
+fn text_of_value(alloc: Global, value: &HeaderValue) -> Result<Value, AllocError>
+    ensures value { IfOk result (λ v. view v ≡ text_data value.now.bytes) }
+    ensures readable { IfOk result (λ _. IsReadableValue value.now.bytes) }
+{
+    text_of_bytes(alloc, value.as_bytes())
 }
 
 fn texts_under(alloc: Global, headers: &HeaderMap, name: &HeaderName) -> Result<Value, AllocError>
-    ensures { IfOk result (λ v. view v ≡ texts_data (bytes_of (all_under headers.now name.now))) }
+    ensures value { IfOk result (λ v. view v
+        ≡ texts_data (bytes_of (all_under headers.now name.now))) }
+    ensures readable { IfOk result (λ _.
+        AllByRecursion IsReadableValue (bytes_of (all_under headers.now name.now))) }
 {
     let mut texts = Vec::new(alloc);
     for value in headers.get_all(name) {
@@ -150,9 +163,9 @@ fn texts_under(alloc: Global, headers: &HeaderMap, name: &HeaderName) -> Result<
 /// The object that is written for headers.
 pub fn value_of_headers(alloc: Global, headers: &HeaderMap) -> Result<Value, AllocError>
     ensures value { IfOk result (λ v. view v ≡ headers_data (headers_of headers.now)) }
-    ensures filled { IfOk result (λ _. IsFilled (headers_of headers.now)) }
+    ensures readable { IfOk result (λ _. AreReadable (headers_of headers.now)) }
 {
-    // The length tells the proof that no name stands without a value.
+    // The length tells the proof that the counts fit and that no name stands without a value.
     let _length = headers.len();
     let mut members: Map<String, Value> = Map::new(alloc);
     for name in headers.keys() {

@@ -22,6 +22,8 @@ mod replays;
 #[cfg(test)]
 mod requests_for_origin;
 #[cfg(test)]
+mod runs;
+#[cfg(test)]
 mod scripts;
 #[cfg(test)]
 mod stored_form;

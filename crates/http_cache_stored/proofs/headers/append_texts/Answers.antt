@@ -48,7 +48,7 @@ loop-text-preserved c =
       appended = (
         done ++ bytes ∷ [],
         subst (λ (ds : List Data). AllZip IsValueText ds (done ++ bytes ∷ [])) (sym
-            (up_to_next texts i item lt c.text-item.is)) longer,
+            (up_to_next view texts i item lt c.text-item.is)) longer,
         step ∙ ap (λ (m : Entries FieldValue). append m name (plain_value bytes)) at
             ∙ sym (appended c.args.headers.now name done bytes c.requires.name),
       );

@@ -7,6 +7,7 @@ use Rattle.http_cache_stored.specs.Stored.{Stored, IsStored}
 use Rattle.http_cache_stored.specs.ReadBack.{IsWrittenFor, IsReadBack}
 use Rattle.http_cache_stored.proofs.StoredBackLemmas.{stored-reads_back}
 use Rattle.http_cache_semantics.specs.Stored.{stored_of}
+use Rattle.http_cache_semantics.proofs.ReadLemmas.{kept-restored}
 use Rattle.http_cache_semantics.proofs.policy.CachePolicy.to_value.Goals as goal
 
 pub returns-clause-reads_back : goal.returns-clause-reads_back
@@ -22,7 +23,7 @@ returns-clause-reads_back c = λ e.
       response_time = c.stored_response_time.result.nanosecond;
     } in
     let parts-are : parts ≡ s = λ i. record {
-      target = c.stored_target.ensures i;
+      target = c.stored_target.ensures.value i;
       method = c.stored_method.ensures i;
       status = c.stored_status.ensures i;
       request_headers = c.request_headers.ensures i;
@@ -32,3 +33,7 @@ returns-clause-reads_back c = λ e.
     } in
     let written : IsWrittenFor (view c.in_ok-value.value) s = subst (IsWrittenFor (view c.in_ok-value.value)) parts-are c.in_ok-value.ensures in
     subst (λ (d : Data). IsStored d (stored_of e) ↔ IsReadBack s (stored_of e)) (sym written.is) (stored-reads_back s (stored_of e) written.writable)
+
+pub returns-clause-restored : goal.returns-clause-restored
+returns-clause-restored c = λ e is.
+    kept-restored c.args.self.now e c.stored_target.ensures.settled ((returns-clause-reads_back c e).0 is)
