@@ -1,5 +1,5 @@
 -- Each stored response that a run uses has an age.
-use Rattle.std.proofs.Common.{◌≡◌, ℕ, ℤ, ◌<◌, ◌/◌, List, [], ◌∷◌, map, Some, is_some, slice_get, option_and_then, codes, sym, ap, ◌∙◌, subst, arith}
+use Rattle.std.proofs.Common.{◌≡◌, ℕ, ℤ, ◌<◌, ◌/◌, ◌^◌, List, [], ◌∷◌, map, Some, is_some, slice_get, option_and_then, codes, sym, ap, ◌∙◌, subst, arith}
 use Rattle.std.specs.List.{AllByRecursion}
 use Rattle.http.specs.declared.response.Parts.{Parts}
 use Rattle.http_cache_semantics.specs.Headers.{Headers, headers_of, first_text}
@@ -13,11 +13,11 @@ use Rattle.http_cache_semantics.specs.declared.before.BeforeRequest.TheVariants.
 use Rattle.http_cache_semantics.specs.declared.chain.Outcome.{Outcome}
 use Rattle.http_cache_semantics.specs.declared.chain.Outcome.TheVariants.{Asked, NotModified, Modified, Restarted}
 use Rattle.http_cache_semantics.proofs.FreshLemmas.{one_age_and_date}
+use Rattle.http_cache_semantics.proofs.NumberLemmas.{text_of-decimal}
 use Rattle.cachecheck.specs.Lines.{HasAge}
-use Rattle.cachecheck.proofs.LineLemmas.{text_of-decimal}
 
 -- an age has no more seconds than the greatest duration
-seconds_fit : (e : Exchange) (now : ℤ) → age_at e now / 1_000_000_000 < 18446744073709551616
+seconds_fit : (e : Exchange) (now : ℤ) → age_at e now / 1_000_000_000 < 2 ^ 64
 unfolding age_at
 seconds_fit e now = omega arith
 

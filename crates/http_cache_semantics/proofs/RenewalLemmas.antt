@@ -58,12 +58,6 @@ pub record HasTaken (e : Exchange) (steps : List StepSeen) (outcomes : List Outc
   pub run : IsRun e steps outcomes f
   pub renewed : has_replacement outcomes ≡ false → IsRenewedTo e steps outcomes f
 
-pub taken-none : (e : Exchange) → HasTaken e [] [] e
-taken-none e = record {
-  run = refl;
-  renewed = λ _. record { statuses = tt; run = refl; renewal = renewal-same e e refl refl };
-}
-
 both_false : (a b : Bool) → (a || b) ≡ false → (a ≡ false) × (b ≡ false)
 both_false true b h = absurd (true≢false h)
 both_false false b h = (refl, h)

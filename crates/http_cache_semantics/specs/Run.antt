@@ -1,5 +1,5 @@
 -- What a list of steps makes of a stored exchange.
-use Rattle.std.specs.Prelude.{◌≡◌, ⊤, ℤ, Bool, true, false, List, [], ◌∷◌}
+use Rattle.std.specs.Prelude.{◌≡◌, ⊤, ℤ, Bool, true, false, List, [], ◌∷◌, map}
 use Rattle.http.specs.declared.response.Parts.{Parts}
 use Rattle.http_cache_semantics.specs.Messages.{RequestSeen}
 use Rattle.http_cache_semantics.specs.Exchange.{Exchange}
@@ -11,7 +11,7 @@ use Rattle.http_cache_semantics.specs.Stale.{IsStaleRequest}
 use Rattle.http_cache_semantics.specs.Update.{selects, next_exchange}
 use Rattle.http_cache_semantics.specs.Stored.{Reads, writes}
 use Rattle.http_cache_semantics.specs.Answer.{is_fresh, WhereFresh, WhereStale}
-use Rattle.http_cache_semantics.specs.Steps.{StepSeen, asks, receives, restarts}
+use Rattle.http_cache_semantics.specs.Steps.{StepSeen, asks, receives, restarts, outcome_seen}
 use Rattle.http_cache_semantics.specs.declared.before.BeforeRequest.{BeforeRequest}
 use Rattle.http_cache_semantics.specs.declared.chain.Outcome.{Outcome}
 use Rattle.http_cache_semantics.specs.declared.chain.Outcome.TheVariants.{Asked, NotModified, Modified, Restarted}
@@ -64,3 +64,10 @@ IsRunThrough P e (step ∷ steps) (outcome ∷ outcomes) f =
 -- the steps have the outcomes one after the other, and f is the exchange from then on
 abbrev pub IsRun : Exchange → List StepSeen → List Outcome → Exchange → Type 0
 IsRun e steps outcomes f = IsRunThrough (λ _. ⊤) e steps outcomes f
+
+-- the steps have these outcomes and lead to this exchange, and in all that is seen to no other
+pub record IsOnlyRun
+    (e : Exchange) (steps : List StepSeen) (outcomes : List Outcome) (f : Exchange) : Type 0 where
+  pub run : IsRun e steps outcomes f
+  pub alone : (others : List Outcome) (other : Exchange) → IsRun e steps others other
+      → (map outcome_seen others ≡ map outcome_seen outcomes) × (other ≡ f)

@@ -25,6 +25,10 @@ fn cases() -> &'static str {
      |Cache-Control: max-age=100|GET|Cache-Control: max-age=x|99000000000|fresh age 99
      |Cache-Control: max-age=100, max-age=200|GET|Cache-Control: max-stale|99000000000|fresh age 99
      |Cache-Control: max-age=100, max-age=200|GET|Cache-Control: max-stale|150000000000|stale matches true
+     |Cache-Control: max-age=18446744073709551615|GET|Cache-Control: min-fresh=18446744073709551615|0|fresh age 0
+     |Cache-Control: max-age=18446744073709551615|GET|Cache-Control: min-fresh=18446744073709551615|1|stale matches true
+     |Cache-Control: max-age=10|GET|Cache-Control: max-stale=18446744073709551615, max-age=20|20000000000|fresh age 20
+     |Cache-Control: max-age=10|GET|Cache-Control: max-stale=18446744073709551615, max-age=20|20000000001|stale matches true
      |Cache-Control: no-store|GET|Cache-Control: max-stale=soon|0|fresh age 0
      |Cache-Control: no-store|GET|Cache-Control: max-stale=soon|7000000000000000|fresh age 7000000
      |Cache-Control: no-store|GET|Cache-Control: max-stale=soon|-3913056000000000000|fresh age 0

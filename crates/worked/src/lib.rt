@@ -6,6 +6,8 @@ mod after_response;
 #[cfg(test)]
 mod before_request;
 #[cfg(test)]
+mod chains;
+#[cfg(test)]
 mod fixtures;
 #[cfg(test)]
 mod fresh_headers;

@@ -100,7 +100,7 @@ fn outcomes_of_steps(rt: HostRuntime) -> Result<(), Fail> {
 fn restart_under(alloc: Global, len: usize) -> Result<String, Fail> {
     let text = stored("Cache-Control: max-age=10").script(alloc, "\"restart\"")?;
     let mut target = String::from_str(alloc, "http://")?;
-    while target.len() < len {
+    for _ in target.len()..len {
         target.push('a')?;
     }
     let text = text.as_str().replace(alloc, "/a", target.as_str())?;

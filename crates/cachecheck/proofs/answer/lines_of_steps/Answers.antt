@@ -9,7 +9,7 @@ use Rattle.cachecheck.proofs.answer.lines_of_steps.Goals as goal
 pub lines_of-requires : goal.lines_of-requires
 lines_of-requires c =
     let run = c.in_ok-outcomes.ensures.run in
-    subst (λ (os : List Outcome). AllByRecursion HasAge (map outcome_seen os)) (sym c.as_slice.ensures.value) (run-has_ages c.args.policy.now _ c.in_ok-outcomes.outcomes.items run.0 run.1)
+    subst (λ (os : List Outcome). AllByRecursion HasAge (map outcome_seen os)) (sym c.as_slice.ensures.value) (run-has_ages c.args.policy.now _ c.in_ok-outcomes.outcomes.items run.0 run.1.run)
 
 pub returns-clause-lines : goal.returns-clause-lines
 returns-clause-lines c =
@@ -17,6 +17,6 @@ returns-clause-lines c =
     record {
       outcomes = c.in_ok-outcomes.outcomes.items;
       last = run.0;
-      run = run.1;
+      run = run.1.run;
       lines = subst (λ (os : List Outcome). AreLines (map outcome_seen os) (string_bytes c.in_ok-lines_of.field-0)) c.as_slice.ensures.value c.in_ok-lines_of.ensures;
     }

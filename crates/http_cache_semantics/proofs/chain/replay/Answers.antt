@@ -40,12 +40,14 @@ returns-in_err-outcome-clause-malformed g c = λ e.
 pub returns-clause-run : goal.returns-clause-run
 returns-clause-run g c =
     let all = take_all c.loop-step.step-index c.args.steps.now c.loop-step-test.false in
-    (c.loop-step.current, (rw all at c.loop-step.invariant).run)
-
-pub returns-clause-alone : goal.returns-clause-alone
-returns-clause-alone g c = λ others last other.
-    let whole = returns-clause-run g c in
-    (run-unique c.args.policy.now _ others c.loop-step.outcomes.items last whole.0 other whole.1).0
+    let run = (rw all at c.loop-step.invariant).run in (
+      c.loop-step.current,
+      record {
+        run = run;
+        alone = λ others other is.
+            run-unique c.args.policy.now _ others c.loop-step.outcomes.items other c.loop-step.current is run;
+      },
+    )
 
 pub returns-clause-renewed : goal.returns-clause-renewed
 returns-clause-renewed g c =

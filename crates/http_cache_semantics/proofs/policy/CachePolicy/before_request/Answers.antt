@@ -1,5 +1,45 @@
+use Rattle.std.proofs.Common.{rules, sym, ◌∙◌}
+use Rattle.http_cache_semantics.specs.Verdict.{is_fresh_for}
+use Rattle.http_cache_semantics.proofs.BoundLemmas.{is_fresh_for-by_bound, is_fresh_for-earlier, is_fresh_for-later, is_fresh_for-storable}
 use Rattle.http_cache_semantics.proofs.FreshLemmas.{one_age_and_date}
 use Rattle.http_cache_semantics.proofs.policy.CachePolicy.before_request.Goals as goal
 
+-- ---- the fresh answer
+
 pub returns-then-branch-clause-one_age_and_date : goal.returns-then-branch-clause-one_age_and_date
 returns-then-branch-clause-one_age_and_date g c = one_age_and_date c.in_ok-cached_response.ensures.fresh.headers
+
+pub returns-then-branch-clause-verdict : goal.returns-then-branch-clause-verdict
+unfolding is_fresh_for
+returns-then-branch-clause-verdict g c = search rules
+
+pub returns-then-branch-clause-bound : goal.returns-then-branch-clause-bound
+returns-then-branch-clause-bound g c =
+    returns-then-branch-clause-verdict g c
+    ∙ is_fresh_for-by_bound c.args.self.now (g.Req.RequestLike.seen c.args.req.now) c.args.now.nanosecond
+
+pub returns-then-branch-clause-earlier : goal.returns-then-branch-clause-earlier
+returns-then-branch-clause-earlier g c _ moment before =
+    is_fresh_for-earlier c.args.self.now (g.Req.RequestLike.seen c.args.req.now) moment c.args.now.nanosecond before
+    (sym (returns-then-branch-clause-verdict g c))
+
+pub returns-then-branch-clause-storable : goal.returns-then-branch-clause-storable
+returns-then-branch-clause-storable g c _ unasked =
+    is_fresh_for-storable c.args.self.now (g.Req.RequestLike.seen c.args.req.now) c.args.now.nanosecond
+    (sym (returns-then-branch-clause-verdict g c)) unasked
+
+-- ---- the stale answer
+
+pub returns-clause-verdict : goal.returns-clause-verdict
+unfolding is_fresh_for
+returns-clause-verdict g c = search rules
+
+pub returns-clause-bound : goal.returns-clause-bound
+returns-clause-bound g c =
+    returns-clause-verdict g c
+    ∙ is_fresh_for-by_bound c.args.self.now (g.Req.RequestLike.seen c.args.req.now) c.args.now.nanosecond
+
+pub returns-clause-later : goal.returns-clause-later
+returns-clause-later g c _ moment after =
+    is_fresh_for-later c.args.self.now (g.Req.RequestLike.seen c.args.req.now) c.args.now.nanosecond moment after
+    (sym (returns-clause-verdict g c))

@@ -1,0 +1,123 @@
+-- Ages along a chain of caches.
+use Rattle.std.proofs.Common.{◌≡◌, ◌≤◌, ◌≤ℤ◌, ◌-ℤ◌, ◌+◌, ◌-◌, ◌*◌, ◌/◌, ◌^◌, min, ℕ, ℤ, List, [], ◌∷◌, length, take, slice_get, zero, suc, sym, ap, subst, ◌∙◌, arith}
+use Rattle.std.specs.Duration.{max_nanos}
+use Rattle.std.proofs.lemmas.Int.{ints}
+use Rattle.std.proofs.lemmas.Option.{slice_get_within}
+use Rattle.http_cache_rules.specs.Dates.{elapsed_time}
+use Rattle.http_cache_semantics.specs.Messages.{RequestSeen}
+use Rattle.http_cache_semantics.specs.Exchange.{Exchange}
+use Rattle.http_cache_semantics.specs.Kept.{kept_exchange}
+use Rattle.http_cache_semantics.specs.Age.{received_age, age_at}
+use Rattle.http_cache_semantics.specs.Chain.{IsHandedOn, Follow, IsChain}
+use Rattle.http_cache_semantics.specs.ChainLaws.{IsAt, NeverGoDown, whole_seconds, HasReceived, IsAgedLike}
+use Rattle.http_cache_semantics.proofs.AgeLemmas.{elapsed-is}
+use Rattle.http_cache_semantics.proofs.HopLemmas.{received_age-bound, received_age-handed_on}
+
+-- ---- one hand-over
+
+-- the fresh headers came at the moment
+response_time-handed_on : (e : Exchange) (now : ℤ) (next : Exchange) → IsHandedOn e now next → next.response_time ≡ now
+unfolding kept_exchange
+response_time-handed_on e now next handed = ap (λ (x : Exchange). x.response_time) handed.is_kept
+
+elapsed-through : (a b c : ℤ) → a ≤ℤ b → b ≤ℤ c → elapsed_time (c -ℤ a) ≡ elapsed_time (b -ℤ a) + elapsed_time (c -ℤ b)
+elapsed-through a b c h k = omega (arith, ints, elapsed-is (c -ℤ a), elapsed-is (b -ℤ a), elapsed-is (c -ℤ b))
+
+-- the next age, by the seconds r and nanoseconds d before the hand-over and those after it
+no_older_by : (r d later : ℕ)
+    → min (min (r + d / 1_000_000_000) (2 ^ 64 - 1) * 1_000_000_000 + later) max_nanos
+    ≤ min (r * 1_000_000_000 + (d + later)) max_nanos
+no_older_by r d later = omega arith
+
+not_far_by : (r d later : ℕ)
+    → min (r * 1_000_000_000 + (d + later)) max_nanos
+    ≤ min (min (r + d / 1_000_000_000) (2 ^ 64 - 1) * 1_000_000_000 + later) max_nanos + 999_999_999
+not_far_by r d later = omega arith
+
+module _ (e : Exchange) (now : ℤ) (next : Exchange) (handed : IsHandedOn e now next) (before : e.response_time ≤ℤ now) (later : ℤ) (after : now ≤ℤ later) where
+  age-here : age_at e later ≡ min (received_age e * 1_000_000_000 + (elapsed_time (now -ℤ e.response_time) + elapsed_time (later -ℤ now))) max_nanos
+  unfolding age_at
+  age-here = ap (λ n. min (received_age e * 1_000_000_000 + n) max_nanos) (elapsed-through e.response_time now later before after)
+
+  age-next : age_at next later ≡ min (min (received_age e + elapsed_time (now -ℤ e.response_time) / 1_000_000_000) (2 ^ 64 - 1) * 1_000_000_000 + elapsed_time (later -ℤ now)) max_nanos
+  unfolding age_at
+  age-next =
+      (λ i. min (received_age-handed_on e now next handed i * 1_000_000_000 + elapsed_time (later -ℤ response_time-handed_on e now next handed i)) max_nanos)
+
+  -- the next cache is no older
+  age-handed_on-le : age_at next later ≤ age_at e later
+  age-handed_on-le = rw (age-here, age-next) (no_older_by (received_age e) (elapsed_time (now -ℤ e.response_time)) (elapsed_time (later -ℤ now)))
+
+  -- and less than a second behind
+  age-handed_on-near : age_at e later ≤ age_at next later + 999_999_999
+  age-handed_on-near = rw (age-here, age-next) (not_far_by (received_age e) (elapsed_time (now -ℤ e.response_time)) (elapsed_time (later -ℤ now)))
+
+-- ---- the whole chain
+
+stops_twice : (r s more : ℕ) → min (min (r + s) (2 ^ 64 - 1) + more) (2 ^ 64 - 1) ≡ min (r + (s + more)) (2 ^ 64 - 1)
+stops_twice r s more = omega arith
+
+le-trans : (a b c : ℤ) → a ≤ℤ b → b ≤ℤ c → a ≤ℤ c
+le-trans a b c h k = omega (arith, ints)
+
+le-refl : (a : ℤ) → a ≤ℤ a
+le-refl a = omega (arith, ints)
+
+-- one that is reached is aged like the first, and came no earlier
+record IsReached (first : Exchange) (hops : ℕ) (e : Exchange) : Type 0 where
+  aged : IsAgedLike first hops e
+  came : first.response_time ≤ℤ e.response_time
+
+reached-first : (e : Exchange) → IsReached e 0 e
+reached-first e = record {
+  aged = record { no_older = λ now after. omega arith; not_far_behind = λ now after. omega arith };
+  came = le-refl e.response_time;
+}
+
+reached-next : (e next x : Exchange) (now : ℤ) (hops : ℕ) → e.response_time ≤ℤ now → IsHandedOn e now next → IsReached next hops x → IsReached e (suc hops) x
+reached-next e next x now hops before handed rest =
+    let came : now ≤ℤ x.response_time = subst (λ (m : ℤ). m ≤ℤ x.response_time) (response_time-handed_on e now next handed) rest.came in
+    record {
+      aged = record {
+        no_older = λ later after.
+            omega (arith, rest.aged.no_older later after, age-handed_on-le e now next handed before later (le-trans now x.response_time later came after));
+        not_far_behind = λ later after.
+            omega (arith, rest.aged.not_far_behind later after, age-handed_on-near e now next handed before later (le-trans now x.response_time later came after));
+      };
+      came = le-trans e.response_time now x.response_time before came;
+    }
+
+none-behind : (k : ℕ) (e x : Exchange) → IsAt (e ∷ []) (suc k) x → ⊥
+none-behind k e x at = absurd (omega (arith, slice_get_within (e ∷ []) (suc k) x at))
+
+module _ (request : RequestSeen) where
+  follow-received : (e : Exchange) (moments : List ℤ) (behind : List Exchange) → Follow request e moments behind
+      → (place : ℕ) (x : Exchange) → IsAt (e ∷ behind) place x → HasReceived moments e place x
+  follow-received e moments behind chain zero x at = let same : e ≡ x = cc in subst (HasReceived moments e 0) same (omega (arith, received_age-bound e))
+  follow-received e moments [] chain (suc place) x at = absurd (none-behind place e x at)
+  follow-received e [] (next ∷ behind) chain (suc place) x at = let none = chain in absurd (omega (arith, ap length none))
+  follow-received e (now ∷ moments) (next ∷ behind) chain (suc place) x at =
+      follow-received next moments behind chain.2 place x at
+      ∙ (λ i. min (received_age-handed_on e now next chain.1 i + whole_seconds (response_time-handed_on e now next chain.1 i) (take place moments)) (2 ^ 64 - 1))
+      ∙ stops_twice (received_age e) (elapsed_time (now -ℤ e.response_time) / 1_000_000_000) (whole_seconds now (take place moments))
+
+  follow-reached : (e : Exchange) (moments : List ℤ) (behind : List Exchange) → NeverGoDown e.response_time moments → Follow request e moments behind
+      → (place : ℕ) (x : Exchange) → IsAt (e ∷ behind) place x → IsReached e place x
+  follow-reached e moments behind order chain zero x at = let same : e ≡ x = cc in subst (IsReached e 0) same (reached-first e)
+  follow-reached e moments [] order chain (suc place) x at = absurd (none-behind place e x at)
+  follow-reached e [] (next ∷ behind) order chain (suc place) x at = let none = chain in absurd (omega (arith, ap length none))
+  follow-reached e (now ∷ moments) (next ∷ behind) order chain (suc place) x at =
+      let later : NeverGoDown next.response_time moments = subst (λ (m : ℤ). NeverGoDown m moments) (sym (response_time-handed_on e now next chain.1)) order.1 in
+      reached-next e next x now place order.0 chain.1 (follow-reached next moments behind later chain.2 place x at)
+
+  module _ (first : Exchange) (moments : List ℤ) (exchanges : List Exchange) (chain : IsChain request first moments exchanges) where
+    there : (place : ℕ) (e : Exchange) → IsAt exchanges place e → IsAt (first ∷ chain.behind) place e
+    there place e at = ap (λ es. slice_get es place) (sym chain.are) ∙ at
+
+    -- each cache of a chain has received the first one's age and the whole seconds since
+    pub received-along_chain : (place : ℕ) (e : Exchange) → IsAt exchanges place e → HasReceived moments first place e
+    received-along_chain place e at = follow-received first moments chain.behind chain.follow place e (there place e at)
+
+    -- and is aged like the first
+    pub ages-along_chain : NeverGoDown first.response_time moments → (place : ℕ) (e : Exchange) → IsAt exchanges place e → IsAgedLike first place e
+    ages-along_chain order place e at = (follow-reached first moments chain.behind order chain.follow place e (there place e at)).aged
