@@ -1,12 +1,11 @@
 //! The pieces between the commas of header lines.
 ghost use Rattle.std.specs.Prelude.{◌≡◌, [], ◌∷◌, MatchOption};
 ghost use Rattle.std.specs.Iterator.{YieldsFirstRef, item_count};
-ghost use Rattle.http_header.specs.Token.{lowercase};
 ghost use Rattle.http_cache_fields.specs.Headers.{headers_of, bytes_of};
 ghost use Rattle.http_cache_fields.specs.Pieces.{text_lines, pieces_of_line, pieces_of_rest, pieces_of_values, pieces_under};
 
 use crate::text::trim;
-use http_header::{GetAll, HeaderMap, HeaderValue, ValueIter};
+use http_header::{AsHeaderName, GetAll, HeaderMap, HeaderValue, ValueIter};
 use std::iter::FusedIterator;
 use std::marker::Model;
 
@@ -38,8 +37,8 @@ pub fn get_all_comma<'a>(all: GetAll<'a, HeaderValue>) -> Commas<'a>
 }
 
 /// The pieces of the values under a name.
-pub fn pieces_under<'a>(headers: &'a HeaderMap, name: &str) -> Commas<'a>
-    ensures { result ≡ pieces_under (headers_of headers.now) (lowercase name.now) }
+pub fn pieces_under<'a, K: AsHeaderName>(headers: &'a HeaderMap, name: K) -> Commas<'a>
+    ensures { result ≡ pieces_under (headers_of headers.now) (K.name name) }
 {
     get_all_comma(headers.get_all(name))
 }

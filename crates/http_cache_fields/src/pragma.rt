@@ -5,14 +5,14 @@ ghost use Rattle.http_cache_fields.specs.Pragma.{pragma_forbids, with_pragma};
 
 use crate::directives::CacheControl;
 use crate::headers::{first_text, holds};
-use http_header::HeaderMap;
+use http_header::{CACHE_CONTROL, HeaderMap, PRAGMA};
 use std::alloc::AllocError;
 
 /// Whether the first Pragma asks for validation.
 pub fn pragma_forbids(headers: &HeaderMap) -> bool
     ensures { result ≡ pragma_forbids (headers_of headers.now) }
 {
-    match first_text(headers, "pragma") {
+    match first_text(headers, PRAGMA) {
         Some(text) => text.contains("no-cache"),
         None => false,
     }
@@ -23,7 +23,7 @@ pub fn pragma_forbids(headers: &HeaderMap) -> bool
 pub(crate) fn heed_pragma(res: &HeaderMap, directives: &mut CacheControl) -> Result<(), AllocError>
     ensures { OnOk result (directives.new ≡ with_pragma (headers_of res.now) directives.old) }
 {
-    if holds(res, "cache-control") || !pragma_forbids(res) {
+    if holds(res, CACHE_CONTROL) || !pragma_forbids(res) {
         return Ok(());
     }
     directives.set("no-cache", None)

@@ -47,7 +47,7 @@ let_through-below false revalidated more life age = grind (arith, nat_tests)
 
 -- ---- the least of them
 
-meets-below : (e : Exchange) (asks : Asks) (age : ℕ) → meets e (asked_directives asks) age ≡ is_below (bound e asks) age
+pub meets-below : (e : Exchange) (asks : Asks) (age : ℕ) → meets e (asked_directives asks) age ≡ is_below (bound e asks) age
 unfolding bound
 meets-below e asks age =
     let ds = asked_directives asks in

@@ -1,11 +1,17 @@
-use Rattle.std.proofs.Common.{ap, ◌∙◌}
+use Rattle.std.proofs.Common.{sym, ap, ◌∙◌}
 use Rattle.http_cache_fields.specs.Headers.{headers_of, set}
-use Rattle.http_cache_fields.proofs.LastLemmas.{leave_last-none, leave_last-some, holds-from_last}
+use Rattle.http_cache_fields.proofs.LastLemmas.{leave_last-none, leave_last-some, leave_last-single, holds-from_last}
 use Rattle.http_cache_fields.proofs.headers.leave_last.Goals as goal
+
+-- with as many values as names nothing changes
+pub returns-then-len-keys_len : goal.returns-then-len-keys_len
+returns-then-len-keys_len c =
+    leave_last-single c.args.map.now c.args.name.now c.len.ensures.valid
+    (sym c.len.ensures.value ∙ c.if-len-keys_len.true ∙ c.keys_len.ensures.value)
 
 pub returns-in_default : goal.returns-in_default
 returns-in_default c =
-    leave_last-none c.args.map.now c.args.name.now c.len-length.ensures.valid c.in_default.ensures
+    leave_last-none c.args.map.now c.args.name.now c.len.ensures.valid c.in_default.ensures
 
 pub replace-requires-clause-there : goal.replace-requires-clause-there
 replace-requires-clause-there c =
@@ -19,5 +25,5 @@ returns c =
     let last = c.in-Some.ensures in
     let same = c.replace.ensures ∙ ap (λ v. set (headers_of m) name v.bytes) c.in_ok-last.ensures.cases in
     leave_last-some
-    (headers_of c.replace.new.map) m name last.front c.in-Some.value.now c.len-length.ensures.valid last.is
+    (headers_of c.replace.new.map) m name last.front c.in-Some.value.now c.len.ensures.valid last.is
     same

@@ -1,11 +1,10 @@
 use Rattle.std.proofs.Common.{ap, sym, ◌∙◌}
-use Rattle.http_header.specs.Token.{lowercase}
 use Rattle.http_cache_fields.specs.Headers.{bytes_of}
 use Rattle.http_cache_fields.specs.Pieces.{pieces_of_values}
 use Rattle.http_cache_fields.proofs.HeadersLemmas.{values-headers_of}
 use Rattle.http_cache_fields.proofs.pieces.pieces_under.Goals as goal
 
 pub returns : goal.returns
-returns c =
+returns g c =
     c.get_all_comma.ensures ∙ ap (λ vs. pieces_of_values (bytes_of vs)) c.get_all.ensures.value
-    ∙ ap pieces_of_values (sym (values-headers_of c.args.headers.now (lowercase c.args.name.now)))
+    ∙ ap pieces_of_values (sym (values-headers_of c.args.headers.now (g.K.AsHeaderName.name c.args.name)))

@@ -6,27 +6,27 @@ use Rattle.http_cache_semantics.proofs.policy.CachePolicy.before_request.Goals a
 
 -- ---- the fresh answer
 
-pub returns-then-branch-clause-one_age_and_date : goal.returns-then-branch-clause-one_age_and_date
-returns-then-branch-clause-one_age_and_date g c = one_age_and_date c.in_ok-cached_response.ensures.fresh.headers
+pub returns-then-satisfies_without_revalidation-clause-one_age_and_date : goal.returns-then-satisfies_without_revalidation-clause-one_age_and_date
+returns-then-satisfies_without_revalidation-clause-one_age_and_date g c = one_age_and_date c.in_ok-cached_response.ensures.fresh.headers
 
-pub returns-then-branch-clause-verdict : goal.returns-then-branch-clause-verdict
+pub returns-then-satisfies_without_revalidation-clause-verdict : goal.returns-then-satisfies_without_revalidation-clause-verdict
 unfolding is_fresh_for
-returns-then-branch-clause-verdict g c = search rules
+returns-then-satisfies_without_revalidation-clause-verdict g c = search rules
 
-pub returns-then-branch-clause-bound : goal.returns-then-branch-clause-bound
-returns-then-branch-clause-bound g c =
-    returns-then-branch-clause-verdict g c
+pub returns-then-satisfies_without_revalidation-clause-bound : goal.returns-then-satisfies_without_revalidation-clause-bound
+returns-then-satisfies_without_revalidation-clause-bound g c =
+    returns-then-satisfies_without_revalidation-clause-verdict g c
     ∙ is_fresh_for-by_bound c.args.self.now (g.Req.RequestLike.seen c.args.req.now) c.args.now.nanosecond
 
-pub returns-then-branch-clause-earlier : goal.returns-then-branch-clause-earlier
-returns-then-branch-clause-earlier g c _ moment before =
+pub returns-then-satisfies_without_revalidation-clause-earlier : goal.returns-then-satisfies_without_revalidation-clause-earlier
+returns-then-satisfies_without_revalidation-clause-earlier g c _ moment before =
     is_fresh_for-earlier c.args.self.now (g.Req.RequestLike.seen c.args.req.now) moment c.args.now.nanosecond before
-    (sym (returns-then-branch-clause-verdict g c))
+    (sym (returns-then-satisfies_without_revalidation-clause-verdict g c))
 
-pub returns-then-branch-clause-storable : goal.returns-then-branch-clause-storable
-returns-then-branch-clause-storable g c _ unasked =
+pub returns-then-satisfies_without_revalidation-clause-storable : goal.returns-then-satisfies_without_revalidation-clause-storable
+returns-then-satisfies_without_revalidation-clause-storable g c _ unasked =
     is_fresh_for-storable c.args.self.now (g.Req.RequestLike.seen c.args.req.now) c.args.now.nanosecond
-    (sym (returns-then-branch-clause-verdict g c)) unasked
+    (sym (returns-then-satisfies_without_revalidation-clause-verdict g c)) unasked
 
 -- ---- the stale answer
 

@@ -19,13 +19,14 @@ invariant_of-result c =
     exchange_of (request_seen c.args.request) (response_seen c.args.response) (options_of c.args.options) c.args.response_time.nanosecond in
     let e : Exchange = record handed_in { response_headers = headers_of c.keep.new.res } in
     let is_kept : e ≡ kept_exchange handed_in =
-    ap (λ (h : Headers). record handed_in { response_headers = h }) c.in_ok-directives.ensures.headers in
-    let directives = c.in_ok-directives.ensures.directives in
+    ap (λ (h : Headers). record handed_in { response_headers = h }) c.in_ok-kept.ensures.headers in
+    let directives = c.of-directives.ensures ∙ c.in_ok-kept.ensures.directives in
     let storable : c.in_ok-reading.reading.storable ≡ is_storable e =
     c.in_ok-reading.ensures.storable ∙ ap (is_storable_by e.options.shared e.method e.status e.request_headers e.response_headers (request_directives e)) directives in
     record {
       settled = ap kept_exchange is_kept ∙ kept-settled handed_in ∙ sym is_kept;
       directives_are = directives;
+      forbidden = c.in_ok-reading.ensures.forbidden;
       storable = storable;
       received = c.in_ok-reading.ensures.received;
       lifetime_is = c.in_ok-reading.ensures.lifetime ∙ (λ i. lifetime_of (storable i) e.response_headers (directives i) e.options e.response_time);

@@ -16,4 +16,4 @@ returns-clause-reads c = (
 
 pub returns-clause-value : goal.returns-clause-value
 returns-clause-value c = λ e is.
-    c.in_ok-policy.ensures ∙ ap kept_exchange (Reads-one_exchange (view c.args.value.now) _ e c.in_ok-parts.ensures.found is)
+    c.in_ok-policy.ensures.value ∙ ap kept_exchange (Reads-one_exchange (view c.args.value.now) _ e c.in_ok-parts.ensures.found is)

@@ -1,5 +1,5 @@
 use Rattle.http_cache_fields.proofs.ReadLemmas.{HasRead, named}
-use Rattle.http_cache_fields.proofs.directives.directives_of.Given as goal
+use Rattle.http_cache_fields.proofs.reading.directives_of.Given as goal
 
 abbrev pub invariant-loop-piece : goal.invariant-loop-piece
 invariant-loop-piece l =

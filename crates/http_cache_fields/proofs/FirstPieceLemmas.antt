@@ -1,0 +1,79 @@
+-- A directive is what the first piece of its name says.
+use Rattle.std.proofs.Common.{◌≡◌, ℕ, Bool, true, false, cond, List, [], ◌∷◌, ◌++◌, length, filter, Option, Some, None, codes, refl, sym, ap, ◌∙◌, subst, append_assoc, arith, nat_lt, bytes_eq}
+use Rattle.std.specs.List.{find}
+use Rattle.std.specs.Option.{option_map}
+use Rattle.std.proofs.lemmas.Bool.Decides.{nat_tests}
+use Rattle.std.proofs.lemmas.List.{append-nil}
+use Rattle.std.proofs.lemmas.Slice.Eq.{bytes_eq-Decides}
+use Rattle.http_cache_fields.specs.Directives.{Directive, name_of, unquoted_value_of, has_name, first_directives, has_conflict, value_under, set_directive, must_revalidate, with_conflict, directives}
+use Rattle.http_cache_fields.proofs.ReadLemmas.{HasRead, HasRead-none, HasRead-new, HasRead-again, has_name_of}
+
+-- the pieces say the directives at first positions
+abbrev Says : List (List ℕ) → Type 0
+Says ps = HasRead ps (first_directives ps) (has_conflict ps)
+
+Says-from_read : (ps : List (List ℕ)) (ds : List Directive) (conflict : Bool) → HasRead ps ds conflict → Says ps
+Says-from_read ps ds conflict h =
+    let firsts = λ (n : List ℕ). ap (λ es. value_under es n) (sym h.listed) ∙ h.firsts n in
+    record { listed = refl; firsts = firsts; clash = refl }
+
+Says-push : (ps : List (List ℕ)) (p : List ℕ) → Says ps → Says (ps ++ p ∷ [])
+Says-push ps p h = by (value_under (first_directives ps) (name_of p)) refl
+  where
+    by : (o : Option (Option (List ℕ))) → value_under (first_directives ps) (name_of p) ≡ o
+        → Says (ps ++ p ∷ [])
+    by None e = Says-from_read _ _ _ (HasRead-new ps (first_directives ps) (has_conflict ps) p h e)
+    by (Some v) e = Says-from_read _ _ _ (HasRead-again ps (first_directives ps) (has_conflict ps) p v h e)
+
+Says-all : (done ps : List (List ℕ)) → Says done → Says (done ++ ps)
+Says-all done [] h = subst Says (sym (append-nil done)) h
+Says-all done (p ∷ ps) h =
+    subst Says (append_assoc done (p ∷ []) ps) (Says-all (done ++ p ∷ []) ps (Says-push done p h))
+
+-- what a conflict adds leaves the other names
+value_under-set_other : (ds : List Directive) (d : Directive) (n : List ℕ) → bytes_eq n d.0 ≡ false
+    → value_under (set_directive ds d) n ≡ value_under ds n
+value_under-set_other [] d n apart = ap (λ b. cond b (Some d.1) None) apart
+value_under-set_other (c ∷ ds) d n apart =
+    by (bytes_eq d.0 c.0) refl (value_under-set_other ds d n apart)
+  where
+    by : (t : Bool) → bytes_eq d.0 c.0 ≡ t → value_under (set_directive ds d) n ≡ value_under ds n
+        → value_under (cond t ((c.0, d.1) ∷ ds) (c ∷ set_directive ds d)) n ≡ value_under (c ∷ ds) n
+    by true e h =
+        let same : d.0 ≡ c.0 = (bytes_eq-Decides d.0 c.0).0 e in
+        let other : bytes_eq n c.0 ≡ false = subst (λ (k : List ℕ). bytes_eq n k ≡ false) same apart in
+        rw other refl
+    by false e h = ap (cond (bytes_eq n c.0) (Some c.1)) h
+
+value_under-with_conflict : (t : Bool) (ds : List Directive) (n : List ℕ)
+    → bytes_eq n (codes "must-revalidate") ≡ false
+    → value_under (with_conflict t ds) n ≡ value_under ds n
+value_under-with_conflict true ds n apart = value_under-set_other ds must_revalidate n apart
+value_under-with_conflict false ds n apart = refl
+
+nameless : (n m : List ℕ) → nat_lt 0 (length n) ≡ true → nat_lt 0 (length m) ≡ false → bytes_eq n m ≡ false
+nameless [] m named empty = absurd (grind (arith, nat_tests))
+nameless (b ∷ n) [] named empty = refl
+nameless (b ∷ n) (c ∷ m) named empty = absurd (grind (arith, nat_tests))
+
+-- a piece without a name is no piece of a name with a byte
+find-named : (n : List ℕ) (ps : List (List ℕ)) → nat_lt 0 (length n) ≡ true
+    → find (has_name_of n) (filter has_name ps) ≡ find (has_name_of n) ps
+find-named n [] named = refl
+find-named n (p ∷ ps) named = by (has_name p) refl (find-named n ps named)
+  where
+    by : (t : Bool) → has_name p ≡ t → find (has_name_of n) (filter has_name ps) ≡ find (has_name_of n) ps
+        → find (has_name_of n) (cond t (p ∷ filter has_name ps) (filter has_name ps))
+        ≡ cond (has_name_of n p) (Some p) (find (has_name_of n) ps)
+    by true e h = ap (cond (has_name_of n p) (Some p)) h
+    by false e h = h ∙ sym (ap (λ b. cond b (Some p) (find (has_name_of n) ps)) (nameless n (name_of p) named e))
+
+-- what stands under a name that a conflict doesn't set is what the first piece of the name says
+pub value_under-first_piece : (ps : List (List ℕ)) (n : List ℕ) → nat_lt 0 (length n) ≡ true
+    → bytes_eq n (codes "must-revalidate") ≡ false
+    → value_under (directives ps) n ≡ option_map unquoted_value_of (find (λ p. bytes_eq n (name_of p)) ps)
+value_under-first_piece ps n named apart =
+    let kept = filter has_name ps in
+    value_under-with_conflict (has_conflict kept) (first_directives kept) n apart
+    ∙ (Says-all [] kept HasRead-none).firsts n
+    ∙ ap (option_map unquoted_value_of) (find-named n ps named)

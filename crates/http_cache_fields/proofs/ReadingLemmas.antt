@@ -1,0 +1,79 @@
+-- Directives that are found by an ordered map.
+use Rattle.std.proofs.Common.{◌≡◌, ℕ, suc, zero, ◌<◌, ◌≤◌, Bool, true, false, cond, List, [], ◌∷◌, ◌++◌, length, take, drop, Option, Some, None, refl, sym, ap, ◌∙◌, subst, arith, bytes_eq, Bor}
+use Rattle.std.specs.Option.{option_map, option_copied, option_or}
+use Rattle.std.specs.Ordering.{nat_cmp}
+use Rattle.std.specs.Cmp.Lexicographic.{slice_cmp}
+use Rattle.std.specs.BTreeMap.{UpdatesBy, get_by}
+use Rattle.std.proofs.lemmas.List.{drop-append-le, length_push}
+use Rattle.std.proofs.lemmas.Map.Text.{btree_map_updates_str}
+use Rattle.std.proofs.lemmas.Slice.Eq.{bytes_eq-Decides}
+use Rattle.http_cache_fields.specs.Directives.{Directive, value_under}
+use Rattle.http_cache_fields.specs.Reading.{ByName, HasLater}
+use Rattle.http_cache_fields.proofs.ReadLemmas.{value_under-push}
+use Rattle.http_cache_fields.proofs.ReadableLemmas.{other_way}
+
+-- a value stands among the first directives, or else behind them
+pub value_under-parts : (count : ℕ) (ds : List Directive) (n : List ℕ)
+    → value_under ds n ≡ option_or (value_under (take count ds) n) (value_under (drop count ds) n)
+value_under-parts zero ds n = refl
+value_under-parts (suc count) [] n = refl
+value_under-parts (suc count) (d ∷ ds) n = by (bytes_eq n d.0) (value_under-parts count ds n)
+  where
+    by : (b : Bool)
+        → value_under ds n ≡ option_or (value_under (take count ds) n) (value_under (drop count ds) n)
+        → cond b (Some d.1) (value_under ds n)
+        ≡ option_or (cond b (Some d.1) (value_under (take count ds) n)) (value_under (drop count ds) n)
+    by true h = refl
+    by false h = h
+
+-- a name that is new is new behind the first directives too
+later_new : (count : ℕ) (ds : List Directive) (n : List ℕ) → value_under ds n ≡ None
+    → value_under (drop count ds) n ≡ None
+later_new count ds n new =
+    by (value_under (take count ds) n) (sym (value_under-parts count ds n) ∙ new)
+  where
+    by : (o : Option (Option (List ℕ))) → option_or o (value_under (drop count ds) n) ≡ None
+        → value_under (drop count ds) n ≡ None
+    by None h = h
+    by (Some v) h = absurd (cc)
+
+-- among no more directives than are looked through there is nothing to keep
+pub HasLater-few : (ds : List Directive) (d : Directive) (later : ByName) → length ds < 16
+    → HasLater ds later → HasLater (ds ++ d ∷ []) later
+HasLater-few ds d later few h name =
+    h name ∙ ap (λ es. value_under es name) (drop_few 16 ds (omega arith) ∙ sym (drop_few 16 (ds ++ d ∷ []) (short ds few)))
+  where
+    drop_few : (count : ℕ) (es : List Directive) → length es ≤ count → drop count es ≡ []
+    drop_few zero [] few = refl
+    drop_few zero (e ∷ es) few = absurd (omega arith)
+    drop_few (suc count) [] few = refl
+    drop_few (suc count) (e ∷ es) few = drop_few count es (omega arith)
+
+    short : (es : List Directive) → length es < 16 → length (es ++ d ∷ []) ≤ 16
+    short es few = omega (arith, length_push es d)
+
+-- behind them a directive of a new name stands in the map too
+pub HasLater-more : (ds : List Directive) (n : List ℕ) (v : Option (Bor (List ℕ))) (later more : ByName)
+    → 16 ≤ length ds → value_under ds n ≡ None
+    → UpdatesBy (λ x y. slice_cmp nat_cmp x.now y.now) (λ k. slice_cmp nat_cmp n k.now) later more (Some v)
+    → HasLater ds later → HasLater (ds ++ (n, option_copied v) ∷ []) more
+HasLater-more ds n v later more many new updates h name =
+    ap (option_map option_copied) (btree_map_updates_str n later more (Some v) updates name)
+    ∙ by (bytes_eq n name) refl
+    ∙ sym (ap (λ es. value_under es name) (drop-append-le 16 ds ((n, option_copied v) ∷ []) many)
+    ∙ value_under-push (drop 16 ds) (n, option_copied v) name)
+  where
+    or_none : (o : Option (Option (List ℕ))) → option_or o None ≡ o
+    or_none None = refl
+    or_none (Some x) = refl
+
+    by : (b : Bool) → bytes_eq n name ≡ b
+        → option_map option_copied (cond b (Some v) (get_by (λ k. slice_cmp nat_cmp name k.now) later))
+        ≡ option_or (value_under (drop 16 ds) name) (cond (bytes_eq name n) (Some (option_copied v)) None)
+    by true e =
+        let same : n ≡ name = (bytes_eq-Decides n name).0 e in
+        let none : value_under (drop 16 ds) name ≡ None =
+        subst (λ (k : List ℕ). value_under (drop 16 ds) k ≡ None) same (later_new 16 ds n new) in
+        let back : bytes_eq name n ≡ true = (bytes_eq-Decides name n).1 (sym same) in
+        rw (none, back) refl
+    by false e = h name ∙ rw (other_way n name e) (sym (or_none (value_under (drop 16 ds) name)))

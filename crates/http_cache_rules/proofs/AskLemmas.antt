@@ -1,0 +1,97 @@
+-- What a request asks, one piece after another.
+use Rattle.std.proofs.Common.{◌≡◌, ℕ, Bool, true, false, cond, ◌||◌, true≢false, List, [], ◌∷◌, ◌++◌, codes, length, Option, Some, None, is_some, option_map, refl, sym, ap, ◌∙◌, bytes_eq, nat_lt}
+use Rattle.std.specs.Option.{option_or}
+use Rattle.std.specs.List.{list_any, find}
+use Rattle.std.proofs.lemmas.List.Folds.{find-append, list_any-append}
+use Rattle.http_cache_fields.specs.Directives.{name_of, unquoted_value_of, directives, has}
+use Rattle.http_cache_rules.specs.DeltaSeconds.{said_by_value, said_by_pieces, delta_seconds_under, is_said}
+use Rattle.http_cache_rules.specs.Asks.{asked_of, asked_by_pieces}
+use Rattle.http_cache_fields.proofs.FirstPieceLemmas.{value_under-first_piece}
+use Rattle.http_cache_rules.proofs.DeltaSecondsLemmas.{said-by_value}
+
+abbrev first_said : Option (List ℕ) → Rattle.http_cache_rules.specs.declared.delta_seconds.DeltaSeconds.DeltaSeconds
+first_said o = said_by_value (option_map unquoted_value_of o)
+
+module _ (n : List ℕ) (ps : List (List ℕ)) (p : List ℕ) where
+  next : said_by_pieces n (ps ++ p ∷ [])
+      ≡ first_said (option_or (find (λ q. bytes_eq n (name_of q)) ps) (cond (bytes_eq n (name_of p)) (Some p) None))
+  next = ap first_said (find-append (λ q. bytes_eq n (name_of q)) ps (p ∷ []))
+
+  -- what is said once stays
+  pub said-kept : is_said (said_by_pieces n ps) ≡ true → said_by_pieces n ps ≡ said_by_pieces n (ps ++ p ∷ [])
+  said-kept h = by (find (λ q. bytes_eq n (name_of q)) ps) (bytes_eq n (name_of p)) h ∙ sym next
+    where
+      by : (o : Option (List ℕ)) (b : Bool) → is_said (first_said o) ≡ true
+          → first_said o ≡ first_said (option_or o (cond b (Some p) None))
+      by None b e = absurd (true≢false (sym e))
+      by (Some q) b e = refl
+
+  -- a piece of another name says nothing of this one
+  pub said-other : bytes_eq n (name_of p) ≡ false → said_by_pieces n ps ≡ said_by_pieces n (ps ++ p ∷ [])
+  said-other h = by (find (λ q. bytes_eq n (name_of q)) ps) (bytes_eq n (name_of p)) h ∙ sym next
+    where
+      by : (o : Option (List ℕ)) (b : Bool) → b ≡ false
+          → first_said o ≡ first_said (option_or o (cond b (Some p) None))
+      by None true e = absurd (true≢false e)
+      by None false e = refl
+      by (Some q) b e = refl
+
+  -- the first piece of a name says it
+  pub said-first : is_said (said_by_pieces n ps) ≡ false → bytes_eq n (name_of p) ≡ true
+      → said_by_value (Some (unquoted_value_of p)) ≡ said_by_pieces n (ps ++ p ∷ [])
+  said-first new h = by (find (λ q. bytes_eq n (name_of q)) ps) (bytes_eq n (name_of p)) new h ∙ sym next
+    where
+      by : (o : Option (List ℕ)) (b : Bool) → is_said (first_said o) ≡ false → b ≡ true
+          → said_by_value (Some (unquoted_value_of p)) ≡ first_said (option_or o (cond b (Some p) None))
+      by None true e k = refl
+      by None false e k = absurd (true≢false (sym k))
+      by (Some q) b e k = absurd (true≢false (sym (said-by_value (Some (unquoted_value_of q))) ∙ e))
+
+-- a name is there behind one piece more where it was, or the piece has it
+pub named-next : (n : List ℕ) (ps : List (List ℕ)) (p : List ℕ)
+    → list_any (λ q. bytes_eq n (name_of q)) (ps ++ p ∷ [])
+    ≡ (list_any (λ q. bytes_eq n (name_of q)) ps || bytes_eq n (name_of p))
+named-next n ps p =
+    list_any-append (λ q. bytes_eq n (name_of q)) ps (p ∷ [])
+    ∙ ap (λ b. list_any (λ q. bytes_eq n (name_of q)) ps || b) (or_false (bytes_eq n (name_of p)))
+  where
+    or_false : (b : Bool) → (b || false) ≡ b
+    or_false true = refl
+    or_false false = refl
+
+-- ---- what is asked by directives
+
+-- what the first piece of a name says is what its directive says
+pub said-by_directive : (ps : List (List ℕ)) (n : List ℕ) → nat_lt 0 (length n) ≡ true
+    → bytes_eq n (codes "must-revalidate") ≡ false → said_by_pieces n ps ≡ delta_seconds_under (directives ps) n
+said-by_directive ps n named other = ap said_by_value (sym (value_under-first_piece ps n named other))
+
+-- a name is there where a piece has it
+pub named-by_directive : (ps : List (List ℕ)) (n : List ℕ) → nat_lt 0 (length n) ≡ true
+    → bytes_eq n (codes "must-revalidate") ≡ false
+    → list_any (λ p. bytes_eq n (name_of p)) ps ≡ has (directives ps) n
+named-by_directive ps n named other =
+    found ps ∙ sym (mapped (find (λ p. bytes_eq n (name_of p)) ps))
+    ∙ ap is_some (sym (value_under-first_piece ps n named other))
+  where
+    mapped : (o : Option (List ℕ)) → is_some (option_map unquoted_value_of o) ≡ is_some o
+    mapped None = refl
+    mapped (Some q) = refl
+
+    found : (qs : List (List ℕ)) → list_any (λ p. bytes_eq n (name_of p)) qs ≡ is_some (find (λ p. bytes_eq n (name_of p)) qs)
+    found [] = refl
+    found (q ∷ qs) = by (bytes_eq n (name_of q)) (found qs)
+      where
+        by : (b : Bool) → list_any (λ p. bytes_eq n (name_of p)) qs ≡ is_some (find (λ p. bytes_eq n (name_of p)) qs)
+            → (b || list_any (λ p. bytes_eq n (name_of p)) qs)
+            ≡ is_some (cond b (Some q) (find (λ p. bytes_eq n (name_of p)) qs))
+        by true ih = refl
+        by false ih = ih
+
+pub asked-by_directives : (ps : List (List ℕ)) → asked_by_pieces ps ≡ asked_of (directives ps)
+asked-by_directives ps = λ i. record {
+  no_cache = named-by_directive ps (codes "no-cache") refl refl i;
+  max_age = said-by_directive ps (codes "max-age") refl refl i;
+  min_fresh = said-by_directive ps (codes "min-fresh") refl refl i;
+  max_stale = said-by_directive ps (codes "max-stale") refl refl i;
+}

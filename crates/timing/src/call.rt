@@ -1,0 +1,91 @@
+//! The calls that are timed.
+use cache_script::Script;
+use http::{request, response};
+use http_cache_semantics::{AfterResponse, BeforeRequest, CacheError, CachePolicy};
+use jiff::Timestamp;
+use std::alloc::Global;
+
+/// A call on the exchange of a script.
+#[derive(Clone, Copy)]
+pub enum Call<'a> {
+    NewOptions,
+    TryClone,
+    FreshAt(&'a request::Parts, Timestamp),
+    BeforeRequest(&'a request::Parts, Timestamp),
+    AfterResponse(&'a request::Parts, &'a response::Parts, Timestamp),
+}
+
+impl Call<'_> {
+    /// The name of the call.
+    pub fn name(&self) -> &'static str {
+        match self {
+            Call::NewOptions => "new_options",
+            Call::TryClone => "try_clone",
+            Call::FreshAt(..) => "fresh_at",
+            Call::BeforeRequest(..) => "before_request",
+            Call::AfterResponse(..) => "after_response",
+        }
+    }
+}
+
+/// The policy of a script's exchange.
+pub fn policy_of(alloc: Global, script: &Script) -> Result<CachePolicy, CacheError> {
+    CachePolicy::new_options(
+        alloc,
+        &script.request,
+        &script.response,
+        script.received,
+        script.options,
+    )
+}
+
+fn weight_of_answer(answer: &BeforeRequest) -> u64 {
+    match answer {
+        BeforeRequest::Fresh(parts) => parts.headers.len() as u64,
+        BeforeRequest::Stale { request, .. } => request.headers.len() as u64,
+    }
+}
+
+fn weight_of_update(answer: &AfterResponse) -> u64 {
+    match answer {
+        AfterResponse::NotModified(_, parts) => parts.headers.len() as u64,
+        AfterResponse::Modified(_, parts) => parts.headers.len() as u64,
+    }
+}
+
+// Makes a call, and tells something of its answer, so that no call can be left out.
+#[inline(never)]
+fn once(
+    alloc: Global,
+    script: &Script,
+    policy: &CachePolicy,
+    call: &Call<'_>,
+) -> Result<u64, CacheError> {
+    match call {
+        Call::NewOptions => Ok(u64::from(policy_of(alloc, script)?.is_storable())),
+        Call::TryClone => Ok(u64::from(policy.try_clone(alloc)?.is_storable())),
+        Call::FreshAt(request, now) => Ok(u64::from(policy.fresh_at(*request, *now))),
+        Call::BeforeRequest(request, now) => {
+            Ok(weight_of_answer(&policy.before_request(alloc, *request, *now)?))
+        }
+        Call::AfterResponse(request, response, now) => {
+            let answer = policy.after_response(alloc, *request, *response, *now)?;
+            Ok(weight_of_update(&answer))
+        }
+    }
+}
+
+/// Makes a call so many times, and sums up what its answers weigh; nothing where one is refused.
+pub fn repeat(
+    alloc: Global,
+    script: &Script,
+    policy: &CachePolicy,
+    call: &Call<'_>,
+    count: u64,
+) -> Option<u64> {
+    let mut sum = 0u64;
+    for _ in 0..count {
+        sum = sum.wrapping_add(once(alloc, script, policy, call).ok()?);
+    }
+    Some(sum)
+}

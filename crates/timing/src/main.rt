@@ -1,0 +1,122 @@
+//! Tells how long the library's calls take on this machine.
+//!
+//! `timing COUNT < SCRIPT` makes a policy of the script's exchange and prints, for each call on it,
+//! the mean nanoseconds of so many runs. Without a count it prints nothing.
+#![tactic(auto)]
+
+mod call;
+
+use cache_script::{Script, ScriptStep, Step, script_from_bytes};
+use call::{Call, policy_of, repeat};
+use http_cache_semantics::CachePolicy;
+use std::io::Read;
+use std::process::ExitCode;
+use std::time::Instant;
+use std::{env, io};
+
+// The status where the input is no script, or a call was refused.
+const NOTHING_TIMED: u8 = 2;
+
+fn count_of(rt: &HostRuntime) -> io::Result<u64> {
+    let mut words = env::args(rt)?;
+    let _program = words.next();
+    match words.next() {
+        Some(word) => Ok(word.as_str().parse::<u64>().unwrap_or(0)),
+        None => Ok(0),
+    }
+}
+
+fn input(rt: &HostRuntime) -> io::Result<Vec<u8>> {
+    let mut bytes = Vec::new(rt.alloc());
+    rt.stdin().read_to_end(&mut bytes)?;
+    Ok(bytes)
+}
+
+// Prints how long a call takes, where it isn't refused.
+fn tell(
+    rt: &HostRuntime,
+    script: &Script,
+    policy: &CachePolicy,
+    call: &Call<'_>,
+    count: u64,
+) -> io::Result<bool> {
+    let start = Instant::now(rt)?;
+    let weight = repeat(rt.alloc(), script, policy, call, count);
+    let nanos = start.elapsed(rt)?.as_nanos();
+    if weight.is_none() {
+        return Ok(false);
+    }
+    if let Some(mean) = nanos.checked_div(u128::from(count)) {
+        println!(rt; "{} {mean}", call.name())?;
+    }
+    Ok(true)
+}
+
+fn tell_step(
+    rt: &HostRuntime,
+    script: &Script,
+    policy: &CachePolicy,
+    step: &ScriptStep,
+    count: u64,
+) -> io::Result<bool> {
+    match step {
+        Step::Ask { request, moment } => {
+            let verdict = Call::FreshAt(request, *moment);
+            let answer = Call::BeforeRequest(request, *moment);
+            Ok(
+                tell(rt, script, policy, &verdict, count)?
+                    && tell(rt, script, policy, &answer, count)?,
+            )
+        }
+        Step::Receive {
+            request,
+            response,
+            moment,
+        } => {
+            let after = Call::AfterResponse(request, response, *moment);
+            tell(rt, script, policy, &after, count)
+        }
+        Step::Restart => Ok(true),
+    }
+}
+
+fn tell_all(
+    rt: &HostRuntime,
+    script: &Script,
+    policy: &CachePolicy,
+    count: u64,
+) -> io::Result<bool> {
+    let mut told = tell(rt, script, policy, &Call::NewOptions, count)?
+        && tell(rt, script, policy, &Call::TryClone, count)?;
+    for step in script.steps.as_slice() {
+        told = told && tell_step(rt, script, policy, step, count)?;
+    }
+    Ok(told)
+}
+
+fn tell_script(rt: &HostRuntime, script: &Script, count: u64) -> io::Result<bool> {
+    match policy_of(rt.alloc(), script) {
+        Ok(policy) => tell_all(rt, script, &policy, count),
+        Err(_) => Ok(false),
+    }
+}
+
+fn run(rt: &HostRuntime) -> io::Result<bool> {
+    let count = count_of(rt)?;
+    let bytes = input(rt)?;
+    match script_from_bytes(rt.alloc(), bytes.as_slice()) {
+        Ok(script) => tell_script(rt, &script, count),
+        Err(_) => Ok(false),
+    }
+}
+
+fn main(rt: HostRuntime) -> ExitCode {
+    match run(&rt) {
+        Ok(true) => ExitCode::SUCCESS,
+        _ => {
+            // Where the text can't be written, the status still tells.
+            let _ = eprintln!(rt; "timing: the input is no script, or a call was refused");
+            ExitCode::from(NOTHING_TIMED)
+        }
+    }
+}
