@@ -9,7 +9,7 @@ use Rattle.http_cache_semantics.specs.Age.{age_at}
 use Rattle.http_cache_semantics.specs.Fresh.{IsFreshParts, HasOneAgeAndDate, age_text}
 use Rattle.http_cache_semantics.specs.Steps.{StepSeen, asks, receives, restarts, outcome_seen}
 use Rattle.http_cache_semantics.specs.Run.{IsStepOf, IsRun}
-use Rattle.http_cache_semantics.specs.declared.before.BeforeRequest.TheVariants.{Fresh, Stale}
+use Rattle.http_cache_policy.specs.declared.before.BeforeRequest.TheVariants.{Fresh, Stale}
 use Rattle.http_cache_semantics.specs.declared.chain.Outcome.{Outcome}
 use Rattle.http_cache_semantics.specs.declared.chain.Outcome.TheVariants.{Asked, NotModified, Modified, Restarted}
 use Rattle.http_cache_semantics.proofs.FreshLemmas.{one_age_and_date}

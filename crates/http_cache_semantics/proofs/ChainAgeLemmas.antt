@@ -4,13 +4,13 @@ use Rattle.std.specs.Duration.{max_nanos}
 use Rattle.std.proofs.lemmas.Int.{ints}
 use Rattle.std.proofs.lemmas.Option.{slice_get_within}
 use Rattle.http_cache_rules.specs.Dates.{elapsed_time}
-use Rattle.http_cache_semantics.specs.Messages.{RequestSeen}
-use Rattle.http_cache_semantics.specs.Exchange.{Exchange}
-use Rattle.http_cache_semantics.specs.Kept.{kept_exchange}
-use Rattle.http_cache_semantics.specs.Age.{received_age, age_at}
+use Rattle.http_cache_policy.specs.Messages.{RequestSeen}
+use Rattle.http_cache_policy.specs.Exchange.{Exchange}
+use Rattle.http_cache_policy.specs.Kept.{kept_exchange}
+use Rattle.http_cache_policy.specs.Age.{received_age, age_at}
 use Rattle.http_cache_semantics.specs.Chain.{IsHandedOn, Follow, IsChain}
 use Rattle.http_cache_semantics.specs.ChainLaws.{IsAt, NeverGoDown, whole_seconds, HasReceived, IsAgedLike}
-use Rattle.http_cache_semantics.proofs.AgeLemmas.{elapsed-is}
+use Rattle.http_cache_policy.proofs.AgeLemmas.{elapsed-is}
 use Rattle.http_cache_semantics.proofs.HopLemmas.{received_age-bound, received_age-handed_on}
 
 -- ---- one hand-over

@@ -4,11 +4,11 @@ use Rattle.std.proofs.lemmas.List.{drop-map, nil_from_length, length-map}
 use Rattle.std.proofs.Math.Seq.{get_or-append_seam}
 use Rattle.jiff.specs.declared.timestamp.Timestamp.{Timestamp}
 use Rattle.http_cache_rules.specs.Options.{Options}
-use Rattle.http_cache_semantics.specs.Messages.{RequestSeen, ResponseSeen}
-use Rattle.http_cache_semantics.specs.Exchange.{Exchange}
-use Rattle.http_cache_semantics.specs.Kept.{kept_exchange}
-use Rattle.http_cache_semantics.specs.Verdict.{is_fresh_for}
-use Rattle.http_cache_semantics.specs.Refused.{RefusesAnswer, HasUndatedAnswer}
+use Rattle.http_cache_policy.specs.Messages.{RequestSeen, ResponseSeen}
+use Rattle.http_cache_policy.specs.Exchange.{Exchange}
+use Rattle.http_cache_policy.specs.Kept.{kept_exchange}
+use Rattle.http_cache_policy.specs.Verdict.{is_fresh_for}
+use Rattle.http_cache_policy.specs.Refused.{RefusesAnswer, HasUndatedAnswer}
 use Rattle.http_cache_semantics.specs.Chain.{first_kept, IsHandedOn, Follow, IsChain, IsFor, Meets, nanoseconds}
 use Rattle.http_cache_semantics.specs.ChainLaws.{IsAt, ForEach, NeverGoDown, HasReceived, IsAgedLike, IsExplicit, SaysLike, ExpiresLike}
 use Rattle.http_cache_semantics.proofs.ChainAgeLemmas.{received-along_chain, ages-along_chain}

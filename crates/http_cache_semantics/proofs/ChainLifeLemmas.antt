@@ -1,14 +1,14 @@
 -- Explicit lifetimes along a chain of caches.
 use Rattle.std.proofs.Common.{◌≡◌, ℕ, ℤ, true, List, [], ◌∷◌, length, slice_get, zero, suc, refl, sym, ap, subst, ◌∙◌, arith}
 use Rattle.std.proofs.lemmas.Option.{slice_get_within}
-use Rattle.http_cache_semantics.specs.Messages.{RequestSeen}
-use Rattle.http_cache_semantics.specs.Exchange.{Exchange}
-use Rattle.http_cache_semantics.specs.Kept.{kept_exchange}
-use Rattle.http_cache_semantics.specs.Age.{time_to_live_at}
-use Rattle.http_cache_semantics.specs.Verdict.{is_fresh_for}
+use Rattle.http_cache_policy.specs.Messages.{RequestSeen}
+use Rattle.http_cache_policy.specs.Exchange.{Exchange}
+use Rattle.http_cache_policy.specs.Kept.{kept_exchange}
+use Rattle.http_cache_policy.specs.Age.{time_to_live_at}
+use Rattle.http_cache_policy.specs.Verdict.{is_fresh_for}
 use Rattle.http_cache_semantics.specs.Chain.{IsHandedOn, Follow, IsChain}
 use Rattle.http_cache_semantics.specs.ChainLaws.{IsAt, NeverGoDown, IsExplicit, IsAgedLike, SaysLike, ExpiresLike}
-use Rattle.http_cache_semantics.proofs.KeptLemmas.{kept-settled}
+use Rattle.http_cache_policy.proofs.KeptLemmas.{kept-settled}
 use Rattle.http_cache_semantics.proofs.ExplicitLemmas.{kept-handed, storable-same, directives-same, lifetime-same, explicit-after}
 use Rattle.http_cache_semantics.proofs.ChainAgeLemmas.{ages-along_chain}
 

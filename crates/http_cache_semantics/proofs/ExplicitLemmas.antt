@@ -15,14 +15,14 @@ use Rattle.http_cache_rules.specs.Storing.{has_explicit_expiration, is_method_ca
 use Rattle.http_cache_rules.specs.Lifetimes.{Row, first_row, seconds_in, has_own_cookies, varies_always, rows_by_date, server_date, immutable_floor}
 use Rattle.http_cache_rules.specs.Filter.{is_hop_by_hop, is_spelled}
 use Rattle.http_cache_rules.proofs.FilterLemmas.{values-filtered_other, filtered_headers-none}
-use Rattle.http_cache_semantics.specs.Messages.{RequestSeen}
-use Rattle.http_cache_semantics.specs.Exchange.{Exchange, stored_directives, request_directives}
-use Rattle.http_cache_semantics.specs.Kept.{kept_exchange}
-use Rattle.http_cache_semantics.specs.Storable.{is_storable}
-use Rattle.http_cache_semantics.specs.Lifetime.{lifetime}
-use Rattle.http_cache_semantics.specs.Match.{named_parts, varied_names, vary_matches, matches}
-use Rattle.http_cache_semantics.specs.Verdict.{is_fresh_for}
-use Rattle.http_cache_semantics.specs.Fresh.{IsFreshHeaders}
+use Rattle.http_cache_policy.specs.Messages.{RequestSeen}
+use Rattle.http_cache_policy.specs.Exchange.{Exchange, stored_directives, request_directives}
+use Rattle.http_cache_policy.specs.Kept.{kept_exchange}
+use Rattle.http_cache_policy.specs.Storable.{is_storable}
+use Rattle.http_cache_policy.specs.Lifetime.{lifetime}
+use Rattle.http_cache_policy.specs.Match.{named_parts, varied_names, vary_matches, matches}
+use Rattle.http_cache_policy.specs.Verdict.{is_fresh_for}
+use Rattle.http_cache_policy.specs.Fresh.{IsFreshHeaders}
 use Rattle.http_cache_semantics.specs.ChainLaws.{applies, table, IsExplicit}
 use Rattle.http_cache_semantics.proofs.HopLemmas.{values-fresh}
 

@@ -2,8 +2,8 @@
 use Rattle.std.proofs.Common.{◌≡◌, ℤ, codes, sym, ap, ◌∙◌}
 use Rattle.http_cache_fields.specs.Headers.{Headers, set}
 use Rattle.http_cache_rules.proofs.DateUniqueLemmas.{IsDateText-unique}
-use Rattle.http_cache_semantics.specs.Exchange.{Exchange}
-use Rattle.http_cache_semantics.specs.Fresh.{aged_headers, IsFreshHeaders}
+use Rattle.http_cache_policy.specs.Exchange.{Exchange}
+use Rattle.http_cache_policy.specs.Fresh.{aged_headers, IsFreshHeaders}
 
 pub IsFreshHeaders-unique : (e : Exchange) (now : ℤ) (h k : Headers)
     → IsFreshHeaders e now h → IsFreshHeaders e now k → h ≡ k

@@ -11,12 +11,12 @@ use Rattle.http_cache_fields.proofs.NumberLemmas.{text_of-decimal, number-decima
 use Rattle.http_cache_rules.specs.Dates.{elapsed_time}
 use Rattle.http_cache_rules.specs.Filter.{filtered_headers}
 use Rattle.http_cache_rules.specs.ReceivedAge.{received_age_of}
-use Rattle.http_cache_semantics.specs.Exchange.{Exchange}
-use Rattle.http_cache_semantics.specs.Kept.{kept_exchange}
-use Rattle.http_cache_semantics.specs.Age.{received_age, age_at}
-use Rattle.http_cache_semantics.specs.Fresh.{is_guessed_past_a_day, heuristic_warning, warned_headers, age_text, aged_headers, IsFreshHeaders}
+use Rattle.http_cache_policy.specs.Exchange.{Exchange}
+use Rattle.http_cache_policy.specs.Kept.{kept_exchange}
+use Rattle.http_cache_policy.specs.Age.{received_age, age_at}
+use Rattle.http_cache_policy.specs.Fresh.{is_guessed_past_a_day, heuristic_warning, warned_headers, age_text, aged_headers, IsFreshHeaders}
 use Rattle.http_cache_semantics.specs.Chain.{IsHandedOn}
-use Rattle.http_cache_semantics.proofs.FreshLemmas.{get-insert_other, one_age_and_date}
+use Rattle.http_cache_policy.proofs.FreshLemmas.{get-insert_other, one_age_and_date}
 
 -- what fresh headers hold under a name that a fresh answer doesn't tell anew
 pub values-fresh : (e : Exchange) (now : ℤ) (h : Headers) → IsFreshHeaders e now h → (name : List ℕ)

@@ -5,11 +5,11 @@ use Rattle.std.specs.List.{AllByRecursion, list_any}
 use Rattle.std.proofs.lemmas.List.{map-append}
 use Rattle.std.proofs.lemmas.List.Folds.{list_any-append}
 use Rattle.http_cache_fields.specs.Headers.{Headers, values}
-use Rattle.http_cache_semantics.specs.Exchange.{Exchange}
+use Rattle.http_cache_policy.specs.Exchange.{Exchange}
 use Rattle.http_cache_semantics.specs.Steps.{StepSeen, OutcomeSeen, asks, receives, restarts, outcome_seen}
 use Rattle.http_cache_semantics.specs.Run.{IsStepOf, IsRun, IsRunThrough}
 use Rattle.http_cache_semantics.specs.Renewal.{IsRenewalOf, IsRenewedThrough, is_replacement, has_replacement, HasStatus}
-use Rattle.http_cache_semantics.specs.declared.before.BeforeRequest.TheVariants.{Fresh, Stale}
+use Rattle.http_cache_policy.specs.declared.before.BeforeRequest.TheVariants.{Fresh, Stale}
 use Rattle.http_cache_semantics.specs.declared.chain.Outcome.{Outcome}
 use Rattle.http_cache_semantics.specs.declared.chain.Outcome.TheVariants.{Asked, NotModified, Modified, Restarted}
 use Rattle.http_cache_semantics.proofs.RunLemmas.{run-push}

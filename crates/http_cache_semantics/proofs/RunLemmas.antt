@@ -4,20 +4,20 @@ use Rattle.http.specs.declared.request.Parts.{Parts as RequestParts}
 use Rattle.http.specs.declared.response.Parts.{Parts}
 use Rattle.http_uri.specs.Uri.{uri_eq}
 use Rattle.http_cache_fields.specs.Headers.{headers_of}
-use Rattle.http_cache_semantics.specs.Messages.{RequestSeen, request_seen, response_seen}
-use Rattle.http_cache_semantics.specs.Exchange.{Exchange}
-use Rattle.http_cache_semantics.specs.Kept.{kept_exchange}
-use Rattle.http_cache_semantics.specs.Fresh.{IsFreshParts}
-use Rattle.http_cache_semantics.specs.Stale.{IsStaleRequest}
-use Rattle.http_cache_semantics.specs.Stored.{writes}
+use Rattle.http_cache_policy.specs.Messages.{RequestSeen, request_seen, response_seen}
+use Rattle.http_cache_policy.specs.Exchange.{Exchange}
+use Rattle.http_cache_policy.specs.Kept.{kept_exchange}
+use Rattle.http_cache_policy.specs.Fresh.{IsFreshParts}
+use Rattle.http_cache_policy.specs.Stale.{IsStaleRequest}
+use Rattle.http_cache_policy.specs.Stored.{writes}
 use Rattle.http_cache_semantics.specs.Steps.{StepSeen, asks, receives, restarts, uses, sends, renews, replaces, answer_seen, outcome_seen}
 use Rattle.http_cache_semantics.specs.Run.{IsAnswer, IsStepOf, IsRun, IsRunThrough}
-use Rattle.http_cache_semantics.specs.declared.before.BeforeRequest.{BeforeRequest}
-use Rattle.http_cache_semantics.specs.declared.before.BeforeRequest.TheVariants.{Fresh, Stale}
+use Rattle.http_cache_policy.specs.declared.before.BeforeRequest.{BeforeRequest}
+use Rattle.http_cache_policy.specs.declared.before.BeforeRequest.TheVariants.{Fresh, Stale}
 use Rattle.http_cache_semantics.specs.declared.chain.Outcome.{Outcome}
 use Rattle.http_cache_semantics.specs.declared.chain.Outcome.TheVariants.{Asked, NotModified, Modified, Restarted}
 use Rattle.http_cache_semantics.proofs.FreshUniqueLemmas.{IsFreshHeaders-unique}
-use Rattle.http_cache_semantics.proofs.ReadLemmas.{Reads-one_exchange}
+use Rattle.http_cache_policy.proofs.ReadLemmas.{Reads-one_exchange}
 
 response_seen-unique : (e : Exchange) (moment : ℤ) (p q : Parts) → IsFreshParts e moment p → IsFreshParts e moment q
     → response_seen p ≡ response_seen q

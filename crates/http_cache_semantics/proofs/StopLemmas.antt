@@ -1,16 +1,16 @@
 -- Where a step is refused, it has no outcome.
 use Rattle.std.proofs.Common.{◌≡◌, ℕ, ℤ, ◌<◌, suc, true≢false, List, map, take, drop, length, get_or, inl, inr, sym, ◌∙◌, subst}
 use Rattle.http_cache_fields.specs.Headers.{Headers, headers_of}
-use Rattle.http_cache_semantics.specs.Exchange.{Exchange}
-use Rattle.http_cache_semantics.specs.Fresh.{IsFreshHeaders, RefusesFreshHeaders, HasNoDate}
-use Rattle.http_cache_semantics.specs.Refused.{RefusesAnswer, HasUndatedAnswer}
-use Rattle.http_cache_semantics.specs.Update.{next_exchange}
+use Rattle.http_cache_policy.specs.Exchange.{Exchange}
+use Rattle.http_cache_policy.specs.Fresh.{IsFreshHeaders, RefusesFreshHeaders, HasNoDate}
+use Rattle.http_cache_policy.specs.Refused.{RefusesAnswer, HasUndatedAnswer}
+use Rattle.http_cache_policy.specs.Update.{next_exchange}
 use Rattle.http_cache_semantics.specs.Steps.{StepSeen, asks, receives, restarts}
 use Rattle.http_cache_semantics.specs.Run.{IsAnswer}
 use Rattle.http_cache_semantics.specs.RunRefused.{RefusesStep, HasUndatedStep, HasNoOutcome, StopsFor}
-use Rattle.http_cache_semantics.specs.Messages.{RequestSeen}
-use Rattle.http_cache_semantics.specs.declared.before.BeforeRequest.{BeforeRequest}
-use Rattle.http_cache_semantics.specs.declared.before.BeforeRequest.TheVariants.{Fresh, Stale}
+use Rattle.http_cache_policy.specs.Messages.{RequestSeen}
+use Rattle.http_cache_policy.specs.declared.before.BeforeRequest.{BeforeRequest}
+use Rattle.http_cache_policy.specs.declared.before.BeforeRequest.TheVariants.{Fresh, Stale}
 use Rattle.http_cache_semantics.specs.declared.chain.Outcome.{Outcome}
 use Rattle.http_cache_semantics.specs.declared.chain.Outcome.TheVariants.{Asked, NotModified, Modified, Restarted}
 use Rattle.http_cache_stored.proofs.ZipLemmas.{place}

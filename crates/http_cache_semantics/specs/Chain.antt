@@ -4,11 +4,11 @@ use Rattle.std.specs.Prelude.{◌≡◌, ◌⊎◌, ℤ, true, false, List, [], 
 use Rattle.jiff.specs.declared.timestamp.Timestamp.{Timestamp}
 use Rattle.http_cache_fields.specs.Headers.{Headers}
 use Rattle.http_cache_rules.specs.Options.{Options}
-use Rattle.http_cache_semantics.specs.Messages.{RequestSeen, ResponseSeen}
-use Rattle.http_cache_semantics.specs.Exchange.{Exchange, exchange_of}
-use Rattle.http_cache_semantics.specs.Kept.{kept_exchange}
-use Rattle.http_cache_semantics.specs.Verdict.{is_fresh_for}
-use Rattle.http_cache_semantics.specs.Fresh.{IsFreshHeaders}
+use Rattle.http_cache_policy.specs.Messages.{RequestSeen, ResponseSeen}
+use Rattle.http_cache_policy.specs.Exchange.{Exchange, exchange_of}
+use Rattle.http_cache_policy.specs.Kept.{kept_exchange}
+use Rattle.http_cache_policy.specs.Verdict.{is_fresh_for}
+use Rattle.http_cache_policy.specs.Fresh.{IsFreshHeaders}
 
 -- the nanoseconds of moments
 abbrev pub nanoseconds : List Timestamp → List ℤ

@@ -6,10 +6,10 @@ use Rattle.http_cache_fields.specs.Pieces.{pieces_under}
 use Rattle.http_cache_rules.specs.Dates.{elapsed_time}
 use Rattle.http_cache_rules.specs.Filter.{is_spelled}
 use Rattle.http_cache_rules.specs.Lifetimes.{Row, lifetime_rows}
-use Rattle.http_cache_semantics.specs.Exchange.{Exchange, stored_directives}
-use Rattle.http_cache_semantics.specs.Storable.{is_storable}
-use Rattle.http_cache_semantics.specs.Lifetime.{lifetime}
-use Rattle.http_cache_semantics.specs.Age.{received_age, age_at, time_to_live_at}
+use Rattle.http_cache_policy.specs.Exchange.{Exchange, stored_directives}
+use Rattle.http_cache_policy.specs.Storable.{is_storable}
+use Rattle.http_cache_policy.specs.Lifetime.{lifetime}
+use Rattle.http_cache_policy.specs.Age.{received_age, age_at, time_to_live_at}
 
 -- the exchange in a place, counted from 0
 abbrev pub IsAt : List Exchange → ℕ → Exchange → Type 0

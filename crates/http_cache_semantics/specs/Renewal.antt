@@ -4,7 +4,7 @@ use Rattle.std.specs.Prelude.{◌≡◌, ⊤, ℕ, Bool, true, false, List, map,
 use Rattle.std.specs.List.{AllByRecursion, list_any}
 use Rattle.http_cache_fields.specs.Headers.{values, IsAbsent}
 use Rattle.http_cache_rules.specs.Renewed.{is_of_body}
-use Rattle.http_cache_semantics.specs.Exchange.{Exchange}
+use Rattle.http_cache_policy.specs.Exchange.{Exchange}
 use Rattle.http_cache_semantics.specs.Steps.{StepSeen, OutcomeSeen, uses, sends, renews, replaces, restarted, outcome_seen}
 use Rattle.http_cache_semantics.specs.Run.{IsRunThrough}
 use Rattle.http_cache_semantics.specs.declared.chain.Outcome.{Outcome}

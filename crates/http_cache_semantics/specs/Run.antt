@@ -1,18 +1,18 @@
 -- What a list of steps makes of a stored exchange.
 use Rattle.std.specs.Prelude.{◌≡◌, ⊤, ℤ, Bool, true, false, List, [], ◌∷◌, map}
 use Rattle.http.specs.declared.response.Parts.{Parts}
-use Rattle.http_cache_semantics.specs.Messages.{RequestSeen}
-use Rattle.http_cache_semantics.specs.Exchange.{Exchange}
-use Rattle.http_cache_semantics.specs.Kept.{kept_exchange}
-use Rattle.http_cache_semantics.specs.Match.{request_matches}
-use Rattle.http_cache_semantics.specs.Verdict.{is_fresh_for}
-use Rattle.http_cache_semantics.specs.Fresh.{IsFreshParts}
-use Rattle.http_cache_semantics.specs.Stale.{IsStaleRequest}
-use Rattle.http_cache_semantics.specs.Update.{selects, next_exchange}
-use Rattle.http_cache_semantics.specs.Stored.{Reads, writes}
-use Rattle.http_cache_semantics.specs.Answer.{is_fresh, WhereFresh, WhereStale}
+use Rattle.http_cache_policy.specs.Messages.{RequestSeen}
+use Rattle.http_cache_policy.specs.Exchange.{Exchange}
+use Rattle.http_cache_policy.specs.Kept.{kept_exchange}
+use Rattle.http_cache_policy.specs.Match.{request_matches}
+use Rattle.http_cache_policy.specs.Verdict.{is_fresh_for}
+use Rattle.http_cache_policy.specs.Fresh.{IsFreshParts}
+use Rattle.http_cache_policy.specs.Stale.{IsStaleRequest}
+use Rattle.http_cache_policy.specs.Update.{selects, next_exchange}
+use Rattle.http_cache_policy.specs.Stored.{Reads, writes}
+use Rattle.http_cache_policy.specs.Answer.{is_fresh, WhereFresh, WhereStale}
 use Rattle.http_cache_semantics.specs.Steps.{StepSeen, asks, receives, restarts, outcome_seen}
-use Rattle.http_cache_semantics.specs.declared.before.BeforeRequest.{BeforeRequest}
+use Rattle.http_cache_policy.specs.declared.before.BeforeRequest.{BeforeRequest}
 use Rattle.http_cache_semantics.specs.declared.chain.Outcome.{Outcome}
 use Rattle.http_cache_semantics.specs.declared.chain.Outcome.TheVariants.{Asked, NotModified, Modified, Restarted}
 

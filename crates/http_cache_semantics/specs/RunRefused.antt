@@ -2,10 +2,10 @@
 use Rattle.std.specs.Prelude.{◌≡◌, List, ◌∷◌, ◌++◌}
 use Rattle.http_uri.specs.Uri.{Spells, uri_text}
 use Rattle.http_uri.specs.declared.uri.Uri.{Uri}
-use Rattle.http_cache_semantics.specs.Exchange.{Exchange}
-use Rattle.http_cache_semantics.specs.Fresh.{RefusesFreshHeaders, HasNoDate}
-use Rattle.http_cache_semantics.specs.Refused.{RefusesAnswer, HasUndatedAnswer}
-use Rattle.http_cache_semantics.specs.Update.{next_exchange}
+use Rattle.http_cache_policy.specs.Exchange.{Exchange}
+use Rattle.http_cache_policy.specs.Fresh.{RefusesFreshHeaders, HasNoDate}
+use Rattle.http_cache_policy.specs.Refused.{RefusesAnswer, HasUndatedAnswer}
+use Rattle.http_cache_policy.specs.Update.{next_exchange}
 use Rattle.http_cache_semantics.specs.Steps.{StepSeen, asks, receives, restarts}
 use Rattle.http_cache_semantics.specs.Run.{IsStepOf, IsRun}
 use Rattle.http_cache_semantics.specs.declared.chain.Outcome.{Outcome}

@@ -1,8 +1,8 @@
 -- The steps of a run and their outcomes, as they are seen.
 use Rattle.std.specs.Prelude.{ℤ, Bool}
-use Rattle.http_cache_semantics.specs.Messages.{RequestSeen, ResponseSeen, request_seen, response_seen}
-use Rattle.http_cache_semantics.specs.declared.before.BeforeRequest.{BeforeRequest}
-use Rattle.http_cache_semantics.specs.declared.before.BeforeRequest.TheVariants.{Fresh, Stale}
+use Rattle.http_cache_policy.specs.Messages.{RequestSeen, ResponseSeen, request_seen, response_seen}
+use Rattle.http_cache_policy.specs.declared.before.BeforeRequest.{BeforeRequest}
+use Rattle.http_cache_policy.specs.declared.before.BeforeRequest.TheVariants.{Fresh, Stale}
 use Rattle.http_cache_semantics.specs.declared.chain.Step.{Step}
 use Rattle.http_cache_semantics.specs.declared.chain.Step.TheVariants.{Ask, Receive, Restart}
 use Rattle.http_cache_semantics.specs.declared.chain.Outcome.{Outcome}

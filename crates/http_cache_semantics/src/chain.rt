@@ -1,10 +1,10 @@
 //! Whole runs: what a list of steps makes of a policy, and what a chain of caches keeps.
 ghost use Rattle.std.specs.Prelude.{◌≡◌, ◌≢◌, List, Err, true, false, map, IfOk, IsErrOf, MatchOption};
 ghost use Rattle.http_cache_rules.specs.Options.{options_of};
-ghost use Rattle.http_cache_semantics.specs.Exchange.{Exchange};
-ghost use Rattle.http_cache_semantics.specs.Verdict.{is_fresh_for};
-ghost use Rattle.http_cache_semantics.specs.Refused.{RefusesAnswer, HasUndatedAnswer};
-ghost use Rattle.http_cache_semantics.specs.Answer.{is_not_modified, policy_in, parts_in};
+ghost use Rattle.http_cache_policy.specs.Exchange.{Exchange};
+ghost use Rattle.http_cache_policy.specs.Verdict.{is_fresh_for};
+ghost use Rattle.http_cache_policy.specs.Refused.{RefusesAnswer, HasUndatedAnswer};
+ghost use Rattle.http_cache_policy.specs.Answer.{is_not_modified, policy_in, parts_in};
 ghost use Rattle.http_cache_semantics.specs.Steps.{receives, restarts, step_seen, outcome_seen};
 ghost use Rattle.http_cache_semantics.specs.Run.{IsReceived, IsStepOf, IsOnlyRun};
 ghost use Rattle.http_cache_semantics.specs.RunRefused.{RefusesStep, HasUndatedStep, HasLostTarget, LosesTarget, HasNoOutcome, StopsFor};
@@ -12,11 +12,11 @@ ghost use Rattle.http_cache_semantics.specs.Renewal.{IsRenewalOf, IsRenewedThrou
 ghost use Rattle.http_cache_semantics.specs.Chain.{nanoseconds, first_kept, IsHandedOn, IsChain, IsFor, Meets};
 ghost use Rattle.http_cache_semantics.specs.ChainLaws.{ForEach, NeverGoDown, HasReceived, IsAgedLike, IsExplicit, SaysLike, ExpiresLike};
 
-use crate::after::AfterResponse;
-use crate::before::BeforeRequest;
-use crate::policy::{CacheOptions, CachePolicy, RequestLike, ResponseLike};
 use http::response;
 use http_cache_fields::CacheError;
+use http_cache_policy::after::AfterResponse;
+use http_cache_policy::before::BeforeRequest;
+use http_cache_policy::policy::{CacheOptions, CachePolicy, RequestLike, ResponseLike};
 use jiff::Timestamp;
 use std::alloc::Global;
 

@@ -14,6 +14,8 @@ mod fresh_headers;
 #[cfg(test)]
 mod kept_headers;
 #[cfg(test)]
+mod lifetimes;
+#[cfg(test)]
 mod parse_cache_control;
 #[cfg(test)]
 mod policies;

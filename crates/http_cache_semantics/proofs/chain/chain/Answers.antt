@@ -1,9 +1,9 @@
 use Rattle.std.proofs.Common.{rules, ◌≡◌, ◌+◌, ◌<◌, [], ◌∷◌, drop, length, Err, refl, sym, subst, ◌∙◌, arith}
 use Rattle.http_cache_fields.specs.declared.error.CacheError.TheVariants.{HeaderMapFull, DateNotPrintable}
 use Rattle.http_cache_rules.specs.Options.{options_of}
-use Rattle.http_cache_semantics.specs.Kept.{kept_exchange}
+use Rattle.http_cache_policy.specs.Kept.{kept_exchange}
 use Rattle.http_cache_semantics.specs.Chain.{IsFor, first_kept, nanoseconds}
-use Rattle.http_cache_semantics.proofs.KeptLemmas.{kept-settled}
+use Rattle.http_cache_policy.proofs.KeptLemmas.{kept-settled}
 use Rattle.http_cache_semantics.proofs.ChainLemmas.{IsFor-first, HasReached, reached-first, reached-some, reached-last, turn-refused, turn-undated, turn-stops, turn-next, turns-end, each-received, each-aged, each-says, each-expires}
 use Rattle.http_cache_semantics.proofs.ChainUniqueLemmas.{chain-unique}
 use Rattle.http_cache_semantics.proofs.chain.chain.Goals as goal

@@ -1,11 +1,11 @@
 use Rattle.std.proofs.Common.{◌≡◌, ℕ, ℤ, sym, ap, ◌∙◌}
 use Rattle.http_cache_fields.specs.Headers.{Headers, headers_of}
 use Rattle.http_cache_rules.specs.Options.{Options, options_of}
-use Rattle.http_cache_semantics.specs.Messages.{RequestSeen}
-use Rattle.http_cache_semantics.specs.Exchange.{Exchange, exchange_of}
-use Rattle.http_cache_semantics.specs.Kept.{kept_exchange}
-use Rattle.http_cache_semantics.specs.Fresh.{IsFreshHeaders}
-use Rattle.http_cache_semantics.specs.Answer.{is_fresh}
+use Rattle.http_cache_policy.specs.Messages.{RequestSeen}
+use Rattle.http_cache_policy.specs.Exchange.{Exchange, exchange_of}
+use Rattle.http_cache_policy.specs.Kept.{kept_exchange}
+use Rattle.http_cache_policy.specs.Fresh.{IsFreshHeaders}
+use Rattle.http_cache_policy.specs.Answer.{is_fresh}
 use Rattle.http_cache_semantics.specs.Chain.{IsHandedOn, IsFor}
 use Rattle.http_cache_semantics.proofs.chain.hand_on.Goals as goal
 

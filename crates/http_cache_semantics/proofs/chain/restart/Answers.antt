@@ -1,8 +1,8 @@
 use Rattle.std.proofs.Common.{rules, ◌≡◌, Err, refl, sym, ◌∙◌, subst}
 use Rattle.serde_json.specs.Data.{Data}
 use Rattle.http_cache_fields.specs.declared.error.CacheError.TheVariants.{Malformed}
-use Rattle.http_cache_semantics.specs.Exchange.{Exchange}
-use Rattle.http_cache_semantics.specs.Stored.{Reads, with_target}
+use Rattle.http_cache_policy.specs.Exchange.{Exchange}
+use Rattle.http_cache_policy.specs.Stored.{Reads, with_target}
 use Rattle.http_cache_semantics.specs.Renewal.{IsRenewalOf}
 use Rattle.http_cache_semantics.proofs.RenewalLemmas.{renewal-same}
 use Rattle.http_cache_semantics.proofs.chain.restart.Goals as goal

@@ -1,0 +1,120 @@
+-- What is asked of an age is one bound, and what follows of the verdict.
+use Rattle.std.proofs.Common.{◌≡◌, ℕ, ℤ, ◌+◌, ◌*◌, ◌-◌, ◌≤◌, ◌<◌, ◌≤ℤ◌, Bool, true, false, not, ◌&&◌, ◌||◌, true≢false, nat_lt, nat_le, codes, Option, Some, None, option_map, option_and_then, unwrap_or, if◌then◌else◌, zero, suc, refl, sym, ap, ◌∙◌, arith}
+use Rattle.std.proofs.Math.Bool.{and_assoc, and_comm}
+use Rattle.std.proofs.lemmas.Bool.{lt-ltb, ltb-true, and_parts, and_from, or_parts, not-false, cond-true, false_from_ne_true}
+use Rattle.std.proofs.lemmas.Bool.Decides.{nat_tests}
+use Rattle.http_cache_fields.specs.Directives.{has}
+use Rattle.http_cache_rules.specs.Asks.{Asks, asks_of, asked_directives, has_no_cache, number_under}
+use Rattle.http_cache_policy.specs.Messages.{RequestSeen}
+use Rattle.http_cache_policy.specs.Exchange.{Exchange, stored_directives}
+use Rattle.http_cache_policy.specs.Storable.{is_storable}
+use Rattle.http_cache_policy.specs.Lifetime.{lifetime}
+use Rattle.http_cache_policy.specs.Age.{age_at}
+use Rattle.http_cache_policy.specs.Match.{request_matches}
+use Rattle.http_cache_policy.specs.Verdict.{asks_max_stale, is_let_through, meets, is_fresh_for}
+use Rattle.http_cache_policy.specs.Bound.{lesser, is_below, bound_by_lifetime, bound_by_max_age, bound_to_leave, bound_by_min_fresh, bound, is_fresh_by_bound}
+use Rattle.http_cache_policy.proofs.AgeLemmas.{age_at-rises}
+
+-- ---- one bound each
+
+below-lesser : (a b : Option ℕ) (age : ℕ) → is_below (lesser a b) age ≡ (is_below a age && is_below b age)
+below-lesser None b age = refl
+below-lesser (Some m) None age = grind (arith, nat_tests)
+below-lesser (Some m) (Some n) age = grind (arith, nat_tests)
+
+most-below : (most : Option ℕ) (age : ℕ)
+    → unwrap_or (option_map (λ seconds. nat_le age (seconds * 1_000_000_000)) most) true
+    ≡ is_below (option_map (λ seconds. seconds * 1_000_000_000 + 1) most) age
+most-below None age = refl
+most-below (Some most) age = grind (arith, nat_tests)
+
+least-below : (least : Option ℕ) (life age : ℕ)
+    → unwrap_or (option_map (λ seconds. nat_le (seconds * 1_000_000_000) (life - age)) least) true
+    ≡ is_below (option_and_then (bound_to_leave life) least) age
+least-below None life age = refl
+least-below (Some zero) life age = grind (arith, nat_tests)
+least-below (Some (suc least)) life age = grind (arith, nat_tests)
+
+-- what is let through, by whether max-stale and must-revalidate are there, and by the number
+let_through-below : (taken revalidated : Bool) (more : Option ℕ) (life age : ℕ)
+    → (not (nat_le life age) || ((taken && unwrap_or (option_map (λ seconds. nat_lt (age - life) (seconds * 1_000_000_000)) more) true) && not revalidated))
+    ≡ is_below (if taken && not revalidated then option_map (λ seconds. life + seconds * 1_000_000_000) more else Some life) age
+let_through-below true true None life age = grind (arith, nat_tests)
+let_through-below true true (Some n) life age = grind (arith, nat_tests)
+let_through-below true false None life age = grind (arith, nat_tests)
+let_through-below true false (Some n) life age = grind (arith, nat_tests)
+let_through-below false revalidated more life age = grind (arith, nat_tests)
+
+-- ---- the least of them
+
+pub meets-below : (e : Exchange) (asks : Asks) (age : ℕ) → meets e (asked_directives asks) age ≡ is_below (bound e asks) age
+unfolding bound
+meets-below e asks age =
+    let ds = asked_directives asks in
+    let stale = bound_by_lifetime e ds in
+    let most = bound_by_max_age ds in
+    let least = bound_by_min_fresh e ds in
+    (λ i. most-below (number_under ds (codes "max-age")) age i
+    && least-below (number_under ds (codes "min-fresh")) (lifetime e) age i
+    && let_through-below (has ds (codes "max-stale")) (has (stored_directives e) (codes "must-revalidate")) (number_under ds (codes "max-stale")) (lifetime e) age i)
+    ∙ and_comm (is_below most age && is_below least age) (is_below stale age)
+    ∙ sym (below-lesser stale (lesser most least) age ∙ ap (λ b. is_below stale age && b) (below-lesser most least age))
+
+-- a stored response answers exactly where its age is below the bound, and all else holds
+pub is_fresh_for-by_bound : (e : Exchange) (request : RequestSeen) (now : ℤ) → is_fresh_for e request now ≡ is_fresh_by_bound e request now
+unfolding is_fresh_for is_fresh_by_bound
+is_fresh_for-by_bound e request now =
+    let asks = asks_of request.headers in
+    ap (λ b. request_matches e request && (not (has_no_cache asks) && b)) (meets-below e asks (age_at e now))
+    ∙ sym (and_assoc (request_matches e request) (not (has_no_cache asks)) (is_below (bound e asks) (age_at e now)))
+
+-- ---- what follows
+
+below-younger : (limit : Option ℕ) (a b : ℕ) → a ≤ b → is_below limit b ≡ true → is_below limit a ≡ true
+below-younger None a b h e = refl
+below-younger (Some n) a b h e = let k = ltb-true b n e in lt-ltb a n (omega arith)
+
+-- what answers at a moment has answered at each earlier one
+pub is_fresh_for-earlier : (e : Exchange) (request : RequestSeen) (earlier now : ℤ) → earlier ≤ℤ now
+    → is_fresh_for e request now ≡ true → is_fresh_for e request earlier ≡ true
+unfolding is_fresh_by_bound
+is_fresh_for-earlier e request earlier now before met =
+    let limit = bound e (asks_of request.headers) in
+    let parts = and_parts _ (is_below limit (age_at e now)) (sym (is_fresh_for-by_bound e request now) ∙ met) in
+    is_fresh_for-by_bound e request earlier
+    ∙ and_from _ _ parts.0 (below-younger limit (age_at e earlier) (age_at e now) (age_at-rises e earlier now before) parts.1)
+
+-- what doesn't answer at a moment answers at no later one
+pub is_fresh_for-later : (e : Exchange) (request : RequestSeen) (now later : ℤ) → now ≤ℤ later
+    → is_fresh_for e request now ≡ false → is_fresh_for e request later ≡ false
+is_fresh_for-later e request now later after unmet =
+    false_from_ne_true (is_fresh_for e request later)
+    (λ met. absurd (true≢false (sym (is_fresh_for-earlier e request now later after met) ∙ unmet)))
+
+lifetime-none : (e : Exchange) → (not (is_storable e) || has (stored_directives e) (codes "no-cache")) ≡ true → lifetime e ≡ 0
+unfolding lifetime
+lifetime-none e h = cond-true _ 0 _ h
+
+-- what may not be stored, and what is never used without validation, has no lifetime
+alive-storable : (e : Exchange) → 0 < lifetime e → (is_storable e ≡ true) × (has (stored_directives e) (codes "no-cache") ≡ false)
+alive-storable e alive =
+    let parts = or_parts (not (is_storable e)) (has (stored_directives e) (codes "no-cache")) (false_from_ne_true _ (λ h. omega (arith, alive, lifetime-none e h))) in
+    (not-false (is_storable e) parts.0, parts.1)
+
+young-alone : (taken revalidated through : Bool) (life age : ℕ) → taken ≡ false
+    → (not (nat_le life age) || ((taken && through) && not revalidated)) ≡ true → age < life
+young-alone true revalidated through life age unasked h = absurd (true≢false unasked)
+young-alone false revalidated through life age unasked h = grind (arith, nat_tests)
+
+-- so where max-stale isn't asked, what answers may be stored, and isn't stored with no-cache
+pub is_fresh_for-storable : (e : Exchange) (request : RequestSeen) (now : ℤ)
+    → is_fresh_for e request now ≡ true → asks_max_stale request ≡ false
+    → (is_storable e ≡ true) × (has (stored_directives e) (codes "no-cache") ≡ false)
+unfolding is_fresh_for
+is_fresh_for-storable e request now met unasked =
+    let ds = asked_directives (asks_of request.headers) in
+    let satisfied = and_parts (request_matches e request) _ met in
+    let met = and_parts (not (has_no_cache (asks_of request.headers))) _ satisfied.1 in
+    let through = and_parts _ (is_let_through e ds (age_at e now)) met.1 in
+    let young = young-alone (has ds (codes "max-stale")) (has (stored_directives e) (codes "must-revalidate")) _ (lifetime e) (age_at e now) unasked through.1 in
+    alive-storable e (omega arith)

@@ -1,0 +1,87 @@
+use Rattle.std.proofs.Common.{◌≡◌, Bool, true, List, ℕ, ℤ, Result, Ok, Err, IfOk, length, sym, ap, subst, ◌∙◌}
+use Rattle.std.proofs.lemmas.Result.{IfOk-weaker}
+use Rattle.http_cache_fields.specs.Headers.{headers_of, values, IsAbsent}
+use Rattle.http_cache_rules.specs.Selection.{is_selected}
+use Rattle.http_cache_rules.specs.Renewed.{is_of_body}
+use Rattle.http_cache_policy.specs.Messages.{RequestSeen, ResponseSeen}
+use Rattle.http_cache_policy.specs.Exchange.{Exchange}
+use Rattle.http_cache_policy.specs.Fresh.{HasOneAgeAndDate, RefusesFreshHeaders, HasNoDate}
+use Rattle.http_cache_policy.specs.Update.{selects, next_where, next_exchange}
+use Rattle.http_cache_policy.specs.Answer.{is_not_modified, policy_in, parts_in}
+use Rattle.http_cache_policy.proofs.FreshLemmas.{one_age_and_date}
+use Rattle.http_cache_policy.proofs.NextLemmas.{next-made, next-status, next-adds_none, next-body}
+use Rattle.http_cache_policy.proofs.policy.CachePolicy.after_response.Given as given
+use Rattle.http_cache_policy.proofs.policy.CachePolicy.after_response.Goals as goal
+
+both_ok : {T E : Type 0} (r : Result T E) {P Q R : T → Type 0} → IfOk r P → IfOk r Q → ((x : T) → P x → Q x → R x) → IfOk r R
+both_ok (Ok x) p q k = k x p q
+both_ok (Err e) p q k = tt
+
+module _ (g : given.Over) (c : goal.After-answer_with g) where
+  abbrev e : Exchange
+  e = c.args.self.now
+
+  abbrev request : RequestSeen
+  request = g.Req.RequestLike.seen c.args.request.now
+
+  abbrev response : ResponseSeen
+  response = g.Res.ResponseLike.seen c.args.response.now
+
+  abbrev now : ℤ
+  now = c.args.response_time.nanosecond
+
+  abbrev chosen : Bool
+  chosen = c.is_selected-selected.result
+
+  chosen-is : chosen ≡ selects e response
+  chosen-is =
+      c.is_selected-selected.ensures
+      ∙ (λ i. is_selected (c.response_headers.ensures i) (c.status.ensures i) (c.headers.ensures i))
+
+  by_choice : c.in_ok-policy.policy ≡ next_where chosen e request response now
+  by_choice =
+      c.in_ok-policy.ensures.value
+      ∙ next-made chosen e request response now _ c.in_ok-stored.ensures
+
+  policy-is : c.in_ok-policy.policy ≡ next_exchange e request response now
+  policy-is = by_choice ∙ ap (λ b. next_where b e request response now) chosen-is
+
+  renewed-is : chosen ≡ true → c.in_ok-policy.policy ≡ next_where true e request response now
+  renewed-is h = by_choice ∙ ap (λ b. next_where b e request response now) h
+
+  -- what holds of the exchange after a selected response holds of the answer
+  where_selected : (P : Exchange → Type 0) → P (next_where true e request response now)
+      → IfOk c.answer_with.result (λ answer. is_not_modified answer ≡ true → P (policy_in answer))
+  where_selected P p =
+      both_ok c.answer_with.result c.answer_with.ensures.selected c.answer_with.ensures.policy
+      (λ answer which is yes. subst P (sym (is ∙ renewed-is (sym which ∙ yes))) p)
+
+pub returns-clause-policy : goal.returns-clause-policy
+returns-clause-policy g c = IfOk-weaker c.answer_with.result _ _ (λ answer is. is ∙ policy-is g c) c.answer_with.ensures.policy
+
+pub returns-clause-one_age_and_date : goal.returns-clause-one_age_and_date
+returns-clause-one_age_and_date g c =
+    both_ok c.answer_with.result c.answer_with.ensures.policy c.answer_with.ensures.parts
+    (λ answer is fresh. subst (λ (p : Exchange). HasOneAgeAndDate p (now g c) (headers_of (parts_in answer).headers)) (sym is) (one_age_and_date fresh.headers))
+
+pub returns-clause-keeps_status : goal.returns-clause-keeps_status
+returns-clause-keeps_status g c =
+    where_selected g c (λ next. next.status ≡ c.args.self.now.status) (next-status (e g c) (request g c) (response g c) (now g c))
+
+pub returns-clause-adds_no_name : goal.returns-clause-adds_no_name
+returns-clause-adds_no_name g c =
+    where_selected g c (λ next. (name : List ℕ) → IsAbsent c.args.self.now.response_headers name → IsAbsent next.response_headers name)
+    (next-adds_none (e g c) (request g c) (response g c) (now g c))
+
+pub returns-clause-keeps_body : goal.returns-clause-keeps_body
+returns-clause-keeps_body g c =
+    where_selected g c
+    (λ next. (name : List ℕ) → is_of_body name ≡ true → length (values c.args.self.now.response_headers name) ≡ 1
+    → values next.response_headers name ≡ values c.args.self.now.response_headers name)
+    (next-body (e g c) (request g c) (response g c) (now g c))
+
+pub returns-clause-full : goal.returns-clause-full
+returns-clause-full g c = λ is. subst (λ (p : Exchange). RefusesFreshHeaders p (now g c)) (policy-is g c) (c.answer_with.ensures.full is)
+
+pub returns-clause-unprintable : goal.returns-clause-unprintable
+returns-clause-unprintable g c = λ is. subst (λ (p : Exchange). HasNoDate p (now g c)) (policy-is g c) (c.answer_with.ensures.unprintable is)

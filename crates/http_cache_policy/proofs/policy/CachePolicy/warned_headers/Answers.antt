@@ -1,0 +1,15 @@
+use Rattle.std.proofs.Common.{◌≡◌, codes, true, ap, sym, ◌∙◌, rules, if◌then◌else◌}
+use Rattle.http_cache_fields.specs.Headers.{headers_of, with_further_value}
+use Rattle.http_cache_rules.specs.Filter.{filtered_headers}
+use Rattle.http_cache_policy.specs.Fresh.{is_guessed_past_a_day, heuristic_warning}
+use Rattle.http_cache_policy.proofs.policy.CachePolicy.warned_headers.Goals as goal
+
+pub returns-clause-ok : goal.returns-clause-ok
+returns-clause-ok c =
+    let e = c.args.self.now in
+    let now = c.args.now.nanosecond in
+    let due : is_guessed_past_a_day e now ≡ true = sym c.is_guessed_past_a_day.ensures ∙ c.if-not-is_guessed_past_a_day.false in
+    let bytes : c.from_static-warning.result.bytes ≡ heuristic_warning = search rules in
+    let before : headers_of c.in_ok-out.out ≡ filtered_headers e.response_headers = c.in_ok-out.ensures.ok ∙ ap filtered_headers c.response_headers.ensures in
+    c.in_ok-add.ensures.ok ∙ (λ i. with_further_value (before i) (codes "warning") (bytes i))
+    ∙ sym (ap (λ b. if b then with_further_value (filtered_headers e.response_headers) (codes "warning") heuristic_warning else filtered_headers e.response_headers) due)

@@ -1,0 +1,37 @@
+-- Whether a stored response may be used without validation (RFC 7234, section 4).
+use Rattle.std.specs.Prelude.{ℕ, ℤ, ◌-◌, Bool, not, ◌&&◌, ◌||◌, List, codes, nat_le}
+use Rattle.http_cache_fields.specs.Directives.{Directive, has}
+use Rattle.http_cache_rules.specs.Asks.{Asks, asks_of, asked_directives, has_no_cache, is_young_enough, lasts_long_enough, takes_stale}
+use Rattle.http_cache_policy.specs.Messages.{RequestSeen}
+use Rattle.http_cache_policy.specs.Exchange.{Exchange, stored_directives}
+use Rattle.http_cache_policy.specs.Lifetime.{lifetime}
+use Rattle.http_cache_policy.specs.Age.{age_at}
+use Rattle.http_cache_policy.specs.Match.{NamedParts, named_parts, matches}
+
+-- the response isn't stale at an age, or is let through although it is (RFC 7234, section 4.2.4)
+abbrev pub is_let_through : Exchange → List Directive → ℕ → Bool
+is_let_through e ds age =
+    not (nat_le (lifetime e) age)
+    || (takes_stale ds (age - lifetime e)
+    && not (has (stored_directives e) (codes "must-revalidate")))
+
+-- the request asks for stale answers too (RFC 7234, section 5.2.1.2)
+abbrev pub asks_max_stale : RequestSeen → Bool
+asks_max_stale request = has (asked_directives (asks_of request.headers)) (codes "max-stale")
+
+-- the response meets what is asked of its age
+abbrev pub meets : Exchange → List Directive → ℕ → Bool
+meets e ds age =
+    is_young_enough ds age && lasts_long_enough ds (lifetime e - age) && is_let_through e ds age
+
+-- a request that matches takes the response without validation, by its asks alone
+abbrev pub satisfies : Exchange → Asks → ℤ → Bool
+satisfies e asks now = not (has_no_cache asks) && meets e (asked_directives asks) (age_at e now)
+
+-- the verdict, by the named parts of a request and its asks alone
+abbrev pub verdict : Exchange → NamedParts → Asks → ℤ → Bool
+verdict e named asks now = matches e named && satisfies e asks now
+
+-- the stored response may be used for the request at the moment
+unfoldable pub is_fresh_for : Exchange → RequestSeen → ℤ → Bool
+is_fresh_for e request now = verdict e (named_parts e request) (asks_of request.headers) now

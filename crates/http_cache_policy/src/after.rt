@@ -1,0 +1,141 @@
+//! What is stored after the origin has answered.
+ghost use Rattle.std.specs.Prelude.{◌≡◌, ◌≢◌, ℕ, List, true, length, IfOk, IsErrOf, IsOkUnless};
+ghost use Rattle.http_cache_fields.specs.Headers.{headers_of, values, IsAbsent};
+ghost use Rattle.http_cache_rules.specs.Renewed.{is_of_body};
+ghost use Rattle.http_cache_policy.specs.Messages.{response_seen};
+ghost use Rattle.http_cache_policy.specs.Exchange.{exchange_of};
+ghost use Rattle.http_cache_policy.specs.Kept.{kept_exchange};
+ghost use Rattle.http_cache_policy.specs.Fresh.{IsFreshParts, HasOneAgeAndDate, RefusesFreshHeaders, HasNoDate};
+ghost use Rattle.http_cache_policy.specs.Answer.{is_not_modified, policy_in, parts_in};
+ghost use Rattle.http_cache_policy.specs.Update.{selects, updated_response, next_exchange};
+
+use crate::policy::{CachePolicy, RequestLike, ResponseLike, copy_of_request, copy_of_response};
+use http::{Version, response};
+use http_cache_fields::CacheError;
+use http_cache_rules::selection::is_selected;
+use http_cache_rules::update::renewed_headers;
+use jiff::Timestamp;
+use std::alloc::{AllocError, Global};
+
+/// What is stored and used after the origin has answered: a policy, and its status and headers as
+/// they go to the client.
+#[derive(Drop)]
+pub enum AfterResponse {
+    /// The stored body still holds, under these headers.
+    NotModified(CachePolicy, response::Parts),
+    /// The body is that of the new response.
+    Modified(CachePolicy, response::Parts),
+}
+
+// The answer that gives a policy away.
+fn answer_with(
+    alloc: Global,
+    selected: bool,
+    policy: CachePolicy,
+    now: Timestamp,
+) -> Result<AfterResponse, CacheError>
+    ensures selected { IfOk result (λ answer. is_not_modified answer ≡ selected) }
+    ensures policy { IfOk result (λ answer. policy_in answer ≡ policy) }
+    ensures parts { IfOk result (λ answer. IsFreshParts policy now.nanosecond (parts_in answer)) }
+    ensures full { IsErrOf result CacheError.HeaderMapFull
+        → RefusesFreshHeaders policy now.nanosecond }
+    ensures unprintable { IsErrOf result CacheError.DateNotPrintable
+        → HasNoDate policy now.nanosecond }
+    ensures no_other { result ≢ Err CacheError.Malformed }
+{
+    let parts = policy.cached_response(alloc, now)?;
+    Ok(if selected {
+        AfterResponse::NotModified(policy, parts)
+    } else {
+        AfterResponse::Modified(policy, parts)
+    })
+}
+
+impl CachePolicy {
+    /// The policy after a response came for a request, and its headers as they go to the client
+    /// (RFC 7234, section 4.3.4). `NotModified` comes exactly where the response is a 304 that the
+    /// validators tell to be of the stored response.
+    ///
+    /// `HeaderMapFull` comes where `warning`, `age` or `date` has to be added to headers that are
+    /// full, and `DateNotPrintable` where the moment is earlier than 1900.
+    pub fn after_response<Req: RequestLike, Res: ResponseLike>(
+        &self,
+        alloc: Global,
+        request: &Req,
+        response: &Res,
+        response_time: Timestamp,
+    ) -> Result<AfterResponse, CacheError>
+        ensures selected { IfOk result (λ answer.
+            is_not_modified answer ≡ selects self.now (Res.seen response.now)) }
+        ensures policy { IfOk result (λ answer. policy_in answer ≡ next_exchange self.now
+            (Req.seen request.now) (Res.seen response.now) response_time.nanosecond) }
+        ensures parts { IfOk result (λ answer.
+            IsFreshParts (policy_in answer) response_time.nanosecond (parts_in answer)) }
+        ensures one_age_and_date { IfOk result (λ answer. HasOneAgeAndDate (policy_in answer)
+            response_time.nanosecond (headers_of (parts_in answer).headers)) }
+        ensures keeps_status { IfOk result (λ answer. is_not_modified answer ≡ true
+            → (policy_in answer).status ≡ self.now.status) }
+        ensures adds_no_name { IfOk result (λ answer. is_not_modified answer ≡ true
+            → (name : List ℕ) → IsAbsent self.now.response_headers name
+            → IsAbsent (policy_in answer).response_headers name) }
+        ensures keeps_body { IfOk result (λ answer. is_not_modified answer ≡ true
+            → (name : List ℕ) → is_of_body name ≡ true
+            → length (values self.now.response_headers name) ≡ 1
+            → values (policy_in answer).response_headers name
+            ≡ values self.now.response_headers name) }
+        ensures full { IsErrOf result CacheError.HeaderMapFull
+            → RefusesFreshHeaders (next_exchange self.now (Req.seen request.now)
+            (Res.seen response.now) response_time.nanosecond) response_time.nanosecond }
+        ensures unprintable { IsErrOf result CacheError.DateNotPrintable
+            → HasNoDate (next_exchange self.now (Req.seen request.now)
+            (Res.seen response.now) response_time.nanosecond) response_time.nanosecond }
+        ensures no_other { result ≢ Err CacheError.Malformed }
+    {
+        let selected = is_selected(
+            self.response_headers(),
+            response.status(),
+            response.headers(),
+        );
+        let stored = self.stored_after(selected, response)?;
+        let policy = self.policy_after(alloc, request, stored, response_time)?;
+        answer_with(alloc, selected, policy, response_time)
+    }
+
+    // The status and headers of the new response, or those of the stored one that it renews.
+    fn stored_after<Res: ResponseLike>(
+        &self,
+        selected: bool,
+        response: &Res,
+    ) -> Result<response::Parts, AllocError>
+        ensures { IfOk result (λ parts.
+            response_seen parts ≡ updated_response selected self.now (Res.seen response.now)) }
+    {
+        if !selected {
+            return copy_of_response(response.status(), response.headers());
+        }
+        Ok(response::Parts {
+            status: self.stored_status(),
+            version: Version::HTTP_11,
+            headers: renewed_headers(self.response_headers(), response.headers())?,
+        })
+    }
+
+    // The policy of a request and what is stored for it, under the same options.
+    fn policy_after<Req: RequestLike>(
+        &self,
+        alloc: Global,
+        request: &Req,
+        stored: response::Parts,
+        response_time: Timestamp,
+    ) -> Result<CachePolicy, CacheError>
+        ensures value { IfOk result (λ policy. policy ≡ kept_exchange (exchange_of
+            (Req.seen request.now) (response_seen stored) self.now.options
+            response_time.nanosecond)) }
+        ensures only_memory { IsOkUnless result CacheError.Memory }
+    {
+        let uri = request.uri(alloc)?;
+        let request = copy_of_request(request.method(), uri, request.headers())?;
+        let options = self.stored_options();
+        CachePolicy::from_details(alloc, request, stored, response_time, options)
+    }
+}

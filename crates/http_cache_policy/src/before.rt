@@ -1,0 +1,109 @@
+//! Whether a stored response answers a request, and what goes to the origin where it doesn't.
+ghost use Rattle.std.specs.Prelude.{◌≡◌, ◌≢◌, ◌≤ℤ◌, ℤ, true, false, bytes_eq, codes, IfOk, IsErrOf};
+ghost use Rattle.http_cache_fields.specs.Headers.{headers_of};
+ghost use Rattle.http_cache_fields.specs.Directives.{has};
+ghost use Rattle.http_cache_policy.specs.Exchange.{stored_directives};
+ghost use Rattle.http_cache_policy.specs.Storable.{is_storable};
+ghost use Rattle.http_cache_policy.specs.Match.{request_matches};
+ghost use Rattle.http_cache_policy.specs.Verdict.{asks_max_stale, is_fresh_for};
+ghost use Rattle.http_cache_policy.specs.Bound.{is_fresh_by_bound};
+ghost use Rattle.http_cache_policy.specs.Fresh.{IsFreshParts, HasOneAgeAndDate};
+ghost use Rattle.http_cache_policy.specs.Stale.{IsStaleRequest};
+ghost use Rattle.http_cache_policy.specs.Refused.{RefusesAnswer, HasUndatedAnswer};
+
+mod fresh;
+mod matching;
+mod origin;
+mod verdict;
+
+use crate::policy::{CachePolicy, RequestLike};
+use http::{Method, request, response};
+use http_cache_fields::CacheError;
+use jiff::Timestamp;
+use std::alloc::Global;
+
+/// What a cache answers to a request.
+#[derive(Drop)]
+pub enum BeforeRequest {
+    /// The stored response may be used without validation: its status, and its headers as they go
+    /// to the client.
+    Fresh(response::Parts),
+    /// The origin is to be asked.
+    Stale {
+        /// The request for the origin.
+        request: request::Parts,
+        /// Whether the stored response answers the request, once it is validated.
+        matches: bool,
+    },
+}
+
+impl BeforeRequest {
+    ghost use Rattle.http_cache_policy.specs.Answer.{is_fresh};
+
+    /// Whether the stored response may be used without validation: true exactly for `Fresh`.
+    pub fn satisfies_without_revalidation(&self) -> bool
+        ensures { result ≡ is_fresh self.now }
+    {
+        matches!(self, BeforeRequest::Fresh(_))
+    }
+}
+
+// Whether the method is HEAD.
+fn is_head(method: &Method) -> bool
+    ensures { result ≡ bytes_eq method.now (codes "HEAD") }
+{
+    method.as_str() == "HEAD"
+}
+
+impl CachePolicy {
+    ghost use Rattle.http_cache_policy.specs.Answer.{is_fresh, WhereFresh, WhereStale};
+
+    /// Whether the stored response may be used for a request at a moment without validation, and
+    /// what is to be used or sent (RFC 7234, section 4).
+    ///
+    /// `HeaderMapFull` comes where `warning`, `age` or `date` of a fresh answer, or `if-none-match`
+    /// or `if-modified-since` of a request for the origin, has to be added to full headers.
+    /// `DateNotPrintable` comes for a fresh answer at a moment earlier than 1900.
+    #[tactic(auto, unfolding(crate::specs::Verdict::is_fresh_for, crate::specs::Refused::RefusesAnswer))]
+    pub fn before_request<Req: RequestLike>(
+        &self,
+        alloc: Global,
+        req: &Req,
+        now: Timestamp,
+    ) -> Result<BeforeRequest, CacheError>
+        ensures verdict { IfOk result (λ answer.
+            is_fresh answer ≡ is_fresh_for self.now (Req.seen req.now) now.nanosecond) }
+        ensures bound { IfOk result (λ answer.
+            is_fresh answer ≡ is_fresh_by_bound self.now (Req.seen req.now) now.nanosecond) }
+        ensures earlier { IfOk result (λ answer. is_fresh answer ≡ true
+            → (moment : ℤ) → moment ≤ℤ now.nanosecond
+            → is_fresh_for self.now (Req.seen req.now) moment ≡ true) }
+        ensures later { IfOk result (λ answer. is_fresh answer ≡ false
+            → (moment : ℤ) → now.nanosecond ≤ℤ moment
+            → is_fresh_for self.now (Req.seen req.now) moment ≡ false) }
+        ensures storable { IfOk result (λ answer. is_fresh answer ≡ true
+            → asks_max_stale (Req.seen req.now) ≡ false
+            → (is_storable self.now ≡ true)
+            × (has (stored_directives self.now) (codes "no-cache") ≡ false)) }
+        ensures fresh { IfOk result (WhereFresh (IsFreshParts self.now now.nanosecond)) }
+        ensures one_age_and_date { IfOk result (WhereFresh (λ parts.
+            HasOneAgeAndDate self.now now.nanosecond (headers_of parts.headers))) }
+        ensures stale { IfOk result (WhereStale (λ request _.
+            IsStaleRequest self.now (Req.seen req.now) request)) }
+        ensures matches { IfOk result (WhereStale (λ _ matched.
+            matched ≡ request_matches self.now (Req.seen req.now))) }
+        ensures full { IsErrOf result CacheError.HeaderMapFull
+            → RefusesAnswer self.now (Req.seen req.now) now.nanosecond }
+        ensures unprintable { IsErrOf result CacheError.DateNotPrintable
+            → HasUndatedAnswer self.now (Req.seen req.now) now.nanosecond }
+        ensures no_other { result ≢ Err CacheError.Malformed }
+    {
+        let matches = self.matches_request(req);
+        if matches && self.satisfies_without_revalidation(req.headers(), now) {
+            return Ok(BeforeRequest::Fresh(self.cached_response(alloc, now)?));
+        }
+        let validates = matches || is_head(req.method());
+        let request = self.revalidation_request(alloc, req.headers(), validates)?;
+        Ok(BeforeRequest::Stale { request, matches })
+    }
+}

@@ -1,0 +1,80 @@
+//! The headers of a fresh answer.
+ghost use Rattle.std.specs.Prelude.{◌≡◌, ◌≢◌, ◌⊎◌, IfOk, IfErr, IsErrOf};
+ghost use Rattle.http_cache_fields.specs.Headers.{headers_of};
+ghost use Rattle.http_cache_policy.specs.Fresh.{is_guessed_past_a_day, warned_headers, RefusesWarning, IsFreshParts, RefusesFreshHeaders, HasNoDate};
+
+use crate::policy::CachePolicy;
+use http::header::{AGE, DATE, HeaderValue, WARNING};
+use http::{HeaderMap, Version, response};
+use http_cache_fields::CacheError;
+use http_cache_fields::headers::{add, put, value_of};
+use http_cache_rules::dates::print_date;
+use http_cache_rules::filter::filter;
+use jiff::Timestamp;
+use std::alloc::Global;
+
+// 24 hours, in nanoseconds.
+const DAY: u128 = 86_400_000_000_000;
+
+impl CachePolicy {
+    // Whether the response is more than a day old and still fresh by a guess
+    // (RFC 7234, section 5.5.4).
+    #[tactic(auto, unfolding(crate::specs::Fresh::is_guessed_past_a_day))]
+    fn is_guessed_past_a_day(&self, now: Timestamp) -> bool
+        ensures { result ≡ is_guessed_past_a_day self.now now.nanosecond }
+    {
+        self.age(now).as_nanos() > DAY
+            && self.lifetime().as_nanos() > DAY
+            && !self.has_explicit_expiration()
+    }
+
+    // The stored headers that are handed on, with the warning that is due.
+    fn warned_headers(&self, alloc: Global, now: Timestamp) -> Result<HeaderMap, CacheError>
+        ensures ok { IfOk result (λ out. headers_of out ≡ warned_headers self.now now.nanosecond) }
+        ensures room { IfOk result (λ _. ¬ (RefusesWarning self.now now.nanosecond)) }
+        ensures full { IsErrOf result CacheError.HeaderMapFull
+            → RefusesWarning self.now now.nanosecond }
+        ensures known { IfErr result (λ e.
+            (e ≡ CacheError.HeaderMapFull) ⊎ (e ≡ CacheError.Memory)) }
+    {
+        let mut out = filter(alloc, self.response_headers())?;
+        if !self.is_guessed_past_a_day(now) {
+            return Ok(out);
+        }
+        let warning = HeaderValue::from_static("113 - \"rfc7234 5.5.4\"");
+        add(&mut out, WARNING, warning)?;
+        Ok(out)
+    }
+
+    /// The fresh answer at a moment.
+    ///
+    /// `HeaderMapFull` comes where `warning`, `age` or `date` has to be added to headers that are
+    /// full, and `DateNotPrintable` where the moment is earlier than 1900.
+    #[tactic(auto, unfolding(crate::specs::Fresh::RefusesFreshHeaders, crate::specs::Fresh::HasNoDate))]
+    pub(crate) fn cached_response(
+        &self,
+        alloc: Global,
+        now: Timestamp,
+    ) -> Result<response::Parts, CacheError>
+        ensures fresh { IfOk result (IsFreshParts self.now now.nanosecond) }
+        ensures full { IsErrOf result CacheError.HeaderMapFull
+            → RefusesFreshHeaders self.now now.nanosecond }
+        ensures unprintable { IsErrOf result CacheError.DateNotPrintable
+            → HasNoDate self.now now.nanosecond }
+        ensures no_other { result ≢ Err CacheError.Malformed }
+    {
+        let mut headers = self.warned_headers(alloc, now)?;
+        let age = HeaderValue::from_u64(alloc, self.age(now).as_secs())?;
+        put(&mut headers, AGE, age)?;
+        let Some(date) = print_date(now) else {
+            return Err(CacheError::DateNotPrintable);
+        };
+        let date = value_of(Vec::from_slice(alloc, &date)?)?;
+        put(&mut headers, DATE, date)?;
+        Ok(response::Parts {
+            status: self.stored_status(),
+            version: Version::HTTP_11,
+            headers,
+        })
+    }
+}

@@ -1,0 +1,170 @@
+//! The request that goes to the origin (RFC 7234, section 4.3.1).
+ghost use Rattle.std.specs.Prelude.{◌≡◌, ◌⊎◌, true, IfOk, IfErr, OnOk, IsErrOf};
+ghost use Rattle.http_cache_fields.specs.Headers.{headers_of};
+ghost use Rattle.http_cache_policy.specs.Stale.{without_conditions, with_stored_tag, with_stored_date, with_strong_alone, forbids_weak, with_validators, revalidation_headers, headers_for_origin, RefusesTag, RefusesDate, RefusesValidators, RefusesRevalidation, IsForOrigin};
+
+use crate::policy::{CachePolicy, copy_of_target, request_with};
+use http::header::{
+    ACCEPT_RANGES, ETAG, IF_MATCH, IF_MODIFIED_SINCE, IF_NONE_MATCH, IF_RANGE, IF_UNMODIFIED_SINCE,
+    LAST_MODIFIED,
+};
+use http::{HeaderMap, request};
+use http_cache_fields::CacheError;
+use http_cache_fields::headers::{
+    copy_of_map, first_text, holds, put, replace_line, take_out, value_of,
+};
+use http_cache_fields::join::{join_with, join_without};
+use http_cache_fields::pieces::pieces_under;
+use http_cache_rules::filter::filter;
+use std::alloc::{AllocError, Global};
+
+// Takes the conditions away that a stored response could meet.
+fn take_out_conditions(headers: &mut HeaderMap)
+    ensures { headers_of headers.new ≡ without_conditions (headers_of headers.old) }
+{
+    take_out(headers, IF_NONE_MATCH);
+    take_out(headers, IF_MODIFIED_SINCE);
+}
+
+// Leaves strong validators alone. No name is new.
+fn leave_strong(alloc: Global, headers: &mut HeaderMap) -> Result<(), AllocError>
+    ensures { OnOk result (headers_of headers.new ≡ with_strong_alone (headers_of headers.old)) }
+{
+    let tags = join_without(alloc, pieces_under(headers, IF_NONE_MATCH), "W/")?;
+    take_out(headers, IF_MODIFIED_SINCE);
+    replace_line(headers, IF_NONE_MATCH, tags)
+}
+
+impl CachePolicy {
+    // Puts the stored entity tag behind those that are asked for.
+    fn add_tag(&self, alloc: Global, headers: &mut HeaderMap) -> Result<(), CacheError>
+        ensures ok { OnOk result
+            (headers_of headers.new ≡ with_stored_tag self.now (headers_of headers.old)) }
+        ensures room { OnOk result (¬ (RefusesTag self.now (headers_of headers.old))) }
+        ensures full { IsErrOf result CacheError.HeaderMapFull
+            → RefusesTag self.now (headers_of headers.old) }
+        ensures known { IfErr result (λ e.
+            (e ≡ CacheError.HeaderMapFull) ⊎ (e ≡ CacheError.Memory)) }
+    {
+        let Some(tag) = first_text(self.response_headers(), ETAG) else {
+            return Ok(());
+        };
+        let line = join_with(alloc, pieces_under(headers, IF_NONE_MATCH), tag)?;
+        put(headers, IF_NONE_MATCH, value_of(line.into_bytes())?)
+    }
+
+    // Asks for the stored date, where none is asked for.
+    fn add_date(&self, alloc: Global, headers: &mut HeaderMap) -> Result<(), CacheError>
+        ensures ok { OnOk result (headers_of headers.new
+            ≡ with_stored_date self.now (headers_of headers.old)) }
+        ensures room { OnOk result (¬ (RefusesDate self.now (headers_of headers.old))) }
+        ensures full { IsErrOf result CacheError.HeaderMapFull
+            → RefusesDate self.now (headers_of headers.old) }
+        ensures known { IfErr result (λ e.
+            (e ≡ CacheError.HeaderMapFull) ⊎ (e ≡ CacheError.Memory)) }
+    {
+        if holds(headers, IF_MODIFIED_SINCE) {
+            return Ok(());
+        }
+        let Some(date) = first_text(self.response_headers(), LAST_MODIFIED) else {
+            return Ok(());
+        };
+        let value = value_of(Vec::from_slice(alloc, date.as_bytes())?)?;
+        put(headers, IF_MODIFIED_SINCE, value)
+    }
+
+    // Whether a weak validator won't do.
+    fn forbids_weak(&self, headers: &HeaderMap) -> bool
+        ensures { result ≡ forbids_weak self.now (headers_of headers.now) }
+    {
+        self.stored_method().as_str() != "GET"
+            || holds(headers, ACCEPT_RANGES)
+            || holds(headers, IF_MATCH)
+            || holds(headers, IF_UNMODIFIED_SINCE)
+    }
+
+    // Puts the stored validators that will do into the headers that go on.
+    fn add_validators(&self, alloc: Global, headers: &mut HeaderMap) -> Result<(), CacheError>
+        ensures ok { OnOk result
+            (headers_of headers.new ≡ with_validators self.now (headers_of headers.old)) }
+        ensures room { OnOk result (¬ (RefusesValidators self.now (headers_of headers.old))) }
+        ensures full { IsErrOf result CacheError.HeaderMapFull
+            → RefusesValidators self.now (headers_of headers.old) }
+        ensures known { IfErr result (λ e.
+            (e ≡ CacheError.HeaderMapFull) ⊎ (e ≡ CacheError.Memory)) }
+    {
+        self.add_tag(alloc, headers)?;
+        if self.forbids_weak(headers) {
+            return Ok(leave_strong(alloc, headers)?);
+        }
+        self.add_date(alloc, headers)
+    }
+
+    // The headers that validate the stored response.
+    #[tactic(auto, unfolding(crate::specs::Stale::revalidation_headers, crate::specs::Stale::RefusesRevalidation))]
+    fn revalidation_headers(
+        &self,
+        alloc: Global,
+        incoming: &HeaderMap,
+    ) -> Result<HeaderMap, CacheError>
+        ensures ok { IfOk result (λ out.
+            headers_of out ≡ revalidation_headers self.now (headers_of incoming.now)) }
+        ensures room { IfOk result (λ _.
+            ¬ (RefusesRevalidation self.now (headers_of incoming.now))) }
+        ensures full { IsErrOf result CacheError.HeaderMapFull
+            → RefusesRevalidation self.now (headers_of incoming.now) }
+        ensures known { IfErr result (λ e.
+            (e ≡ CacheError.HeaderMapFull) ⊎ (e ≡ CacheError.Memory)) }
+    {
+        let mut headers = filter(alloc, incoming)?;
+        take_out(&mut headers, IF_RANGE);
+        if self.is_storable() {
+            self.add_validators(alloc, &mut headers)?;
+        } else {
+            take_out_conditions(&mut headers);
+        }
+        Ok(headers)
+    }
+
+    // The headers of the request for the origin.
+    fn headers_for_origin(
+        &self,
+        alloc: Global,
+        incoming: &HeaderMap,
+        validates: bool,
+    ) -> Result<HeaderMap, CacheError>
+        ensures ok { IfOk result (λ out.
+            headers_of out ≡ headers_for_origin self.now validates (headers_of incoming.now)) }
+        ensures room { IfOk result (λ _.
+            validates ≡ true → ¬ (RefusesRevalidation self.now (headers_of incoming.now))) }
+        ensures full { IsErrOf result CacheError.HeaderMapFull
+            → (validates ≡ true) × RefusesRevalidation self.now (headers_of incoming.now) }
+        ensures known { IfErr result (λ e.
+            (e ≡ CacheError.HeaderMapFull) ⊎ (e ≡ CacheError.Memory)) }
+    {
+        if validates {
+            self.revalidation_headers(alloc, incoming)
+        } else {
+            Ok(copy_of_map(incoming)?)
+        }
+    }
+
+    /// The request for the origin.
+    pub(crate) fn revalidation_request(
+        &self,
+        alloc: Global,
+        incoming: &HeaderMap,
+        validates: bool,
+    ) -> Result<request::Parts, CacheError>
+        ensures ok { IfOk result (IsForOrigin self.now validates (headers_of incoming.now)) }
+        ensures full { IsErrOf result CacheError.HeaderMapFull
+            → (validates ≡ true) × RefusesRevalidation self.now (headers_of incoming.now) }
+        ensures known { IfErr result (λ e.
+            (e ≡ CacheError.HeaderMapFull) ⊎ (e ≡ CacheError.Memory)) }
+    {
+        let uri = copy_of_target(self.stored_target())?;
+        let headers = self.headers_for_origin(alloc, incoming, validates)?;
+        let request = request_with(self.stored_method(), uri, headers)?;
+        Ok(request)
+    }
+}

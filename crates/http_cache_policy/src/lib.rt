@@ -1,0 +1,8 @@
+//! A stored exchange: what it answers to a request, what becomes of it with a response, and the
+//! form that it is stored in (RFC 7234, sections 3 to 5).
+#![tactic(auto)]
+
+pub mod after;
+pub mod before;
+pub mod policy;
+pub mod stored;
