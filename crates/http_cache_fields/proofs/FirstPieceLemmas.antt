@@ -30,8 +30,8 @@ Says-all done [] h = subst Says (sym (append-nil done)) h
 Says-all done (p ∷ ps) h =
     subst Says (append_assoc done (p ∷ []) ps) (Says-all (done ++ p ∷ []) ps (Says-push done p h))
 
--- what a conflict adds leaves the other names
-value_under-set_other : (ds : List Directive) (d : Directive) (n : List ℕ) → bytes_eq n d.0 ≡ false
+-- a directive that is set leaves the other names
+pub value_under-set_other : (ds : List Directive) (d : Directive) (n : List ℕ) → bytes_eq n d.0 ≡ false
     → value_under (set_directive ds d) n ≡ value_under ds n
 value_under-set_other [] d n apart = ap (λ b. cond b (Some d.1) None) apart
 value_under-set_other (c ∷ ds) d n apart =
@@ -45,7 +45,18 @@ value_under-set_other (c ∷ ds) d n apart =
         rw other refl
     by false e h = ap (cond (bytes_eq n c.0) (Some c.1)) h
 
-value_under-with_conflict : (t : Bool) (ds : List Directive) (n : List ℕ)
+-- and stands under its own
+pub value_under-set_same : (ds : List Directive) (d : Directive)
+    → value_under (set_directive ds d) d.0 ≡ Some d.1
+value_under-set_same [] d = ap (λ b. cond b (Some d.1) None) ((bytes_eq-Decides d.0 d.0).1 refl)
+value_under-set_same (c ∷ ds) d = by (bytes_eq d.0 c.0) refl (value_under-set_same ds d)
+  where
+    by : (t : Bool) → bytes_eq d.0 c.0 ≡ t → value_under (set_directive ds d) d.0 ≡ Some d.1
+        → value_under (cond t ((c.0, d.1) ∷ ds) (c ∷ set_directive ds d)) d.0 ≡ Some d.1
+    by true e h = ap (λ b. cond b (Some d.1) (value_under ds d.0)) e
+    by false e h = ap (λ b. cond b (Some c.1) (value_under (set_directive ds d) d.0)) e ∙ h
+
+pub value_under-with_conflict : (t : Bool) (ds : List Directive) (n : List ℕ)
     → bytes_eq n (codes "must-revalidate") ≡ false
     → value_under (with_conflict t ds) n ≡ value_under ds n
 value_under-with_conflict true ds n apart = value_under-set_other ds must_revalidate n apart

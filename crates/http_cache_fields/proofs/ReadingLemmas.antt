@@ -26,6 +26,13 @@ value_under-parts (suc count) (d ∷ ds) n = by (bytes_eq n d.0) (value_under-pa
     by true h = refl
     by false h = h
 
+-- what stands among the first directives stands there
+pub value_among_first : (count : ℕ) (ds : List Directive) (n : List ℕ) (v : Option (List ℕ))
+    → value_under (take count ds) n ≡ Some v → value_under (take count ds) n ≡ value_under ds n
+value_among_first count ds n v found =
+    sym (value_under-parts count ds n
+    ∙ ap (λ o. option_or o (value_under (drop count ds) n)) found ∙ sym found)
+
 -- a name that is new is new behind the first directives too
 later_new : (count : ℕ) (ds : List Directive) (n : List ℕ) → value_under ds n ≡ None
     → value_under (drop count ds) n ≡ None

@@ -1,14 +1,15 @@
 //! Reading the directives of a header.
-ghost use Rattle.std.specs.Prelude.{◌≡◌, ◌∷◌, ◌++◌, [], None, option_copied, option_map, IfOk};
-ghost use Rattle.http_cache_fields.specs.Headers.{bytes_of};
+ghost use Rattle.std.specs.Prelude.{◌≡◌, ◌∷◌, ◌++◌, [], None, map, option_copied, option_map, IfOk};
+ghost use Rattle.http_cache_fields.specs.Headers.{headers_of, bytes_of};
 ghost use Rattle.http_cache_fields.specs.Pieces.{pieces_of_values};
-ghost use Rattle.http_cache_fields.specs.Directives.{directives, value_under};
+ghost use Rattle.http_cache_fields.specs.Directives.{directives, cache_control, value_under, has, with_conflict};
 ghost use Rattle.http_cache_fields.specs.Readable.{IsDirective, AreDirectives};
+ghost use Rattle.http_cache_fields.specs.Shown.{shown_entry};
 
-use crate::directives::{CacheControl, split_piece};
+use crate::directives::split_piece;
 use crate::pieces::get_all_comma;
 use crate::text::unquote;
-use http_header::{GetAll, HeaderValue};
+use http_header::{CACHE_CONTROL, GetAll, HeaderMap, HeaderValue};
 use std::alloc::{AllocError, Global};
 use std::collections::BTreeMap;
 use std::marker::Model;
@@ -16,92 +17,120 @@ use std::marker::Model;
 // How many directives are looked through. Few headers have more.
 const LOOKED_THROUGH: usize = 16;
 
-// The directives read so far. Those behind the first are found by an ordered map, so that reading
-// takes n log n steps, whichever names a sender chooses.
+/// The first directive of each name, borrowed from the lines of a header. Those behind the first 16
+/// are found by an ordered map, so that reading takes n log n steps, whichever names a sender
+/// chooses.
 #[derive(Drop)]
-struct Reading<'a> {
-    list: CacheControl,
+pub struct FirstDirectives<'a> {
+    list: Vec<(&'a str, Option<&'a str>)>,
     later: BTreeMap<&'a str, Option<&'a str>>,
 }
 
-impl<'a> Model for Reading<'a> {
-    ghost use Rattle.std.specs.Prelude.{List};
+impl<'a> Model for FirstDirectives<'a> {
+    ghost use Rattle.std.specs.Prelude.{List, map};
     ghost use Rattle.http_cache_fields.specs.Directives.{Directive};
-    ghost use Rattle.http_cache_fields.specs.Reading.{HasLater};
+    ghost use Rattle.http_cache_fields.specs.Shown.{shown_entry};
+    ghost use Rattle.http_cache_fields.specs.Reading.{IsFirst};
 
     ghost Value = { List Directive };
 
-    ghost view = { λ r. r.list };
+    ghost view = { λ f. map shown_entry f.list.items };
 
-    ghost invariant = { λ r. HasLater r.list r.later };
+    ghost invariant = { λ f. IsFirst (map shown_entry f.list.items) f.later };
 }
 
-impl<'a> Reading<'a> {
-    fn new(alloc: Global) -> Reading<'a>
+impl<'a> FirstDirectives<'a> {
+    fn new(alloc: Global) -> FirstDirectives<'a>
         ensures { result ≡ [] }
     {
-        Reading {
-            list: CacheControl::new(alloc),
+        FirstDirectives {
+            list: Vec::new(alloc),
             later: BTreeMap::new(alloc),
         }
     }
 
-    // The value of the directive with the name, if it is there.
-    fn find(&self, name: &str) -> Option<Option<&str>>
+    /// The directives in order.
+    pub(crate) fn entries(&self) -> &[(&'a str, Option<&'a str>)]
+        ensures shown { map shown_entry result.now ≡ self.now }
+        ensures valid { AreDirectives self.now }
+    {
+        &self.list
+    }
+
+    /// The value of the directive with the name, if it is there.
+    pub fn get(&self, name: &str) -> Option<Option<&'a str>>
         ensures { option_map option_copied result ≡ value_under self.now name.now }
     {
-        match self.list.get_among_first(LOOKED_THROUGH, name) {
-            Some(value) => Some(value),
+        let mut first = self.list.iter().take(LOOKED_THROUGH);
+        match first.find(|directive| name == directive.0) {
+            Some(directive) => Some(directive.1),
             None => self.later.get(name).copied(),
         }
     }
 
+    /// Whether a directive has the name.
+    pub fn contains_key(&self, name: &str) -> bool
+        ensures { result ≡ has self.now name.now }
+    {
+        self.get(name).is_some()
+    }
+
     // The same with a directive of a new name behind them.
-    fn with(self, name: &'a str, value: Option<&'a str>) -> Result<Reading<'a>, AllocError>
+    fn with(self, name: &'a str, value: Option<&'a str>) -> Result<FirstDirectives<'a>, AllocError>
         requires form { IsDirective (name.now, option_copied value) }
         requires new { value_under self name.now ≡ None }
         ensures { IfOk result (λ more. more
             ≡ self.entry ++ (name.now, option_copied value.entry) ∷ []) }
     {
-        let Reading {
+        let FirstDirectives {
             mut list,
             mut later,
         } = self;
         if list.len() >= LOOKED_THROUGH {
             later.insert(name, value)?;
         }
-        list.push(name, value)?;
-        Ok(Reading { list, later })
+        list.push((name, value))?;
+        Ok(FirstDirectives { list, later })
     }
 }
 
-// The directives of a header.
-pub(crate) fn directives_of(
-    alloc: Global,
-    all: GetAll<'_, HeaderValue>,
-) -> Result<CacheControl, AllocError>
-    ensures ok { IfOk result (λ read. read ≡ directives (pieces_of_values (bytes_of all.entry))) }
-    ensures valid { IfOk result AreDirectives }
+/// The directives of a header, as they are read.
+#[derive(Drop)]
+pub struct Reading<'a> {
+    /// The first directive of each name.
+    pub first: FirstDirectives<'a>,
+    /// Whether a name came again with another value.
+    pub conflict: bool,
+}
+
+/// Reads the directives of a header.
+pub fn read<'a>(alloc: Global, all: GetAll<'a, HeaderValue>) -> Result<Reading<'a>, AllocError>
+    ensures { IfOk result (λ read. with_conflict read.conflict read.first
+        ≡ directives (pieces_of_values (bytes_of all.entry))) }
 {
-    let mut read = Reading::new(alloc);
+    let mut first = FirstDirectives::new(alloc);
     let mut conflict = false;
     for piece in get_all_comma(all) {
         let (name, value) = split_piece(piece);
         if name.is_empty() {
             continue;
         }
-        match read.find(name) {
-            Some(first) => {
-                if first != value {
+        match first.get(name) {
+            Some(earlier) => {
+                if earlier != value {
                     conflict = true;
                 }
             }
-            None => read = read.with(name, value.map(unquote))?,
+            None => first = first.with(name, value.map(unquote))?,
         }
     }
-    let mut list = read.list;
-    if conflict {
-        list.set("must-revalidate", None)?;
-    }
-    Ok(list)
+    Ok(Reading { first, conflict })
+}
+
+/// Reads the Cache-Control lines of a map.
+pub fn read_cache_control(alloc: Global, headers: &HeaderMap) -> Result<Reading<'_>, AllocError>
+    ensures { IfOk result (λ read. with_conflict read.conflict read.first
+        ≡ cache_control (headers_of headers.now)) }
+{
+    read(alloc, headers.get_all(CACHE_CONTROL))
 }

@@ -1,5 +1,5 @@
 -- The exchange after a 304.
-use Rattle.std.proofs.Common.{◌≡◌, ◌∙◌, ℕ, ℤ, Bool, true, false, List, length, codes, bytes_eq, None, inl, inr, refl, sym, ap, true≢false}
+use Rattle.std.proofs.Common.{◌≡◌, ◌∙◌, ℕ, ℤ, true, false, List, length, codes, bytes_eq, None, inl, inr, refl, sym, ap, true≢false}
 use Rattle.std.specs.FinMap as fin
 use Rattle.std.proofs.lemmas.Bool.{cases_Bool}
 use Rattle.std.proofs.lemmas.Slice.Eq.{bytes_eq-Decides}
@@ -8,9 +8,9 @@ use Rattle.http_cache_fields.proofs.KeptLemmas.{kept_response-adds_none, kept_re
 use Rattle.http_cache_rules.specs.Renewed.{is_of_body, renewed_headers}
 use Rattle.http_cache_rules.proofs.UpdateLemmas.{renewed_headers-adds_none, renewed_headers-body}
 use Rattle.http_cache_policy.specs.Messages.{RequestSeen, ResponseSeen}
-use Rattle.http_cache_policy.specs.Exchange.{Exchange, exchange_of}
+use Rattle.http_cache_policy.specs.Exchange.{Exchange}
 use Rattle.http_cache_policy.specs.Kept.{kept_exchange}
-use Rattle.http_cache_policy.specs.Update.{updated_response, next_where}
+use Rattle.http_cache_policy.specs.Update.{next_where}
 
 apart_from_body : (name other : List ℕ) → is_of_body other ≡ false → is_of_body name ≡ true → bytes_eq other name ≡ false
 apart_from_body name other out body =
@@ -43,11 +43,3 @@ module _ (e : Exchange) (request : RequestSeen) (response : ResponseSeen) (respo
       kept_response-other e.options.ignores_cargo_cult (renewed_headers e.response_headers response.headers) name
       (apart_from_body name (codes "cache-control") refl body) (apart_from_body name (codes "expires") refl body) (apart_from_body name (codes "pragma") refl body)
       ∙ renewed_headers-body e.response_headers response.headers name body one
-
--- what is made of the parts is the exchange after the response
-pub next-made : (selected : Bool) (e : Exchange) (request : RequestSeen) (response : ResponseSeen) (response_time : ℤ) (stored : ResponseSeen)
-    → stored ≡ updated_response selected e response
-    → kept_exchange (exchange_of request stored e.options response_time) ≡ next_where selected e request response response_time
-unfolding next_where
-next-made selected e request response response_time stored is =
-    ap (λ (r : ResponseSeen). kept_exchange (exchange_of request r e.options response_time)) is

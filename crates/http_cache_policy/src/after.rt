@@ -2,18 +2,17 @@
 ghost use Rattle.std.specs.Prelude.{◌≡◌, ◌≢◌, ℕ, List, true, length, IfOk, IsErrOf, IsOkUnless};
 ghost use Rattle.http_cache_fields.specs.Headers.{headers_of, values, IsAbsent};
 ghost use Rattle.http_cache_rules.specs.Renewed.{is_of_body};
-ghost use Rattle.http_cache_policy.specs.Messages.{response_seen};
-ghost use Rattle.http_cache_policy.specs.Exchange.{exchange_of};
-ghost use Rattle.http_cache_policy.specs.Kept.{kept_exchange};
 ghost use Rattle.http_cache_policy.specs.Fresh.{IsFreshParts, HasOneAgeAndDate, RefusesFreshHeaders, HasNoDate};
 ghost use Rattle.http_cache_policy.specs.Answer.{is_not_modified, policy_in, parts_in};
-ghost use Rattle.http_cache_policy.specs.Update.{selects, updated_response, next_exchange};
+ghost use Rattle.http_cache_policy.specs.Update.{selects, updated_response, next_where, next_exchange};
 
-use crate::policy::{CachePolicy, RequestLike, ResponseLike, copy_of_request, copy_of_response};
-use http::{Version, response};
+use crate::policy::{CachePolicy, RequestLike, ResponseLike};
+use http::{HeaderMap, response};
 use http_cache_fields::CacheError;
+use http_cache_fields::headers::copy_of_map;
 use http_cache_rules::selection::is_selected;
 use http_cache_rules::update::renewed_headers;
+use http_cache_stored::stored::StoredParts;
 use jiff::Timestamp;
 use std::alloc::{AllocError, Global};
 
@@ -96,46 +95,53 @@ impl CachePolicy {
             response.status(),
             response.headers(),
         );
-        let stored = self.stored_after(selected, response)?;
-        let policy = self.policy_after(alloc, request, stored, response_time)?;
+        let policy = self.policy_after(alloc, selected, request, response, response_time)?;
         answer_with(alloc, selected, policy, response_time)
     }
 
-    // The status and headers of the new response, or those of the stored one that it renews.
-    fn stored_after<Res: ResponseLike>(
+    // The headers of the new response, or those of the stored one that it renews.
+    fn headers_after<Res: ResponseLike>(
         &self,
         selected: bool,
         response: &Res,
-    ) -> Result<response::Parts, AllocError>
-        ensures { IfOk result (λ parts.
-            response_seen parts ≡ updated_response selected self.now (Res.seen response.now)) }
+    ) -> Result<HeaderMap, AllocError>
+        ensures { IfOk result (λ headers. headers_of headers
+            ≡ (updated_response selected self.now (Res.seen response.now)).headers) }
     {
-        if !selected {
-            return copy_of_response(response.status(), response.headers());
+        if selected {
+            renewed_headers(self.response_headers(), response.headers())
+        } else {
+            copy_of_map(response.headers())
         }
-        Ok(response::Parts {
-            status: self.stored_status(),
-            version: Version::HTTP_11,
-            headers: renewed_headers(self.response_headers(), response.headers())?,
-        })
     }
 
     // The policy of a request and what is stored for it, under the same options.
-    fn policy_after<Req: RequestLike>(
+    #[tactic(auto, unfolding(crate::specs::Update::next_where))]
+    fn policy_after<Req: RequestLike, Res: ResponseLike>(
         &self,
         alloc: Global,
+        selected: bool,
         request: &Req,
-        stored: response::Parts,
+        response: &Res,
         response_time: Timestamp,
     ) -> Result<CachePolicy, CacheError>
-        ensures value { IfOk result (λ policy. policy ≡ kept_exchange (exchange_of
-            (Req.seen request.now) (response_seen stored) self.now.options
-            response_time.nanosecond)) }
+        ensures value { IfOk result (λ policy. policy ≡ next_where selected self.now
+            (Req.seen request.now) (Res.seen response.now) response_time.nanosecond) }
         ensures only_memory { IsOkUnless result CacheError.Memory }
     {
-        let uri = request.uri(alloc)?;
-        let request = copy_of_request(request.method(), uri, request.headers())?;
-        let options = self.stored_options();
-        CachePolicy::from_details(alloc, request, stored, response_time, options)
+        let parts = StoredParts {
+            target: request.uri(alloc)?,
+            method: request.method().clone()?,
+            status: if selected {
+                self.stored_status()
+            } else {
+                response.status()
+            },
+            request_headers: copy_of_map(request.headers())?,
+            response_headers: self.headers_after(selected, response)?,
+            options: self.stored_options(),
+            response_time,
+        };
+        CachePolicy::from_details(alloc, parts)
     }
 }

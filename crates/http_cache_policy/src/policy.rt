@@ -5,16 +5,11 @@ ghost use Rattle.http.specs.declared.version.TheConstants.Version.{HTTP_11};
 ghost use Rattle.http_cache_fields.specs.Headers.{headers_of};
 ghost use Rattle.http_cache_fields.specs.Directives.{cache_control, has};
 ghost use Rattle.http_cache_rules.specs.Options.{options_of, default_options};
-ghost use Rattle.http_cache_rules.specs.Storing.{is_storable_by};
-ghost use Rattle.http_cache_rules.specs.Lifetimes.{lifetime_of};
-ghost use Rattle.http_cache_rules.specs.ReceivedAge.{received_age_of};
-ghost use Rattle.http_cache_policy.specs.Messages.{request_seen, response_seen};
+ghost use Rattle.http_cache_stored.specs.Exchange.{exchange_in};
 
 mod like;
-#[cfg(test)]
-mod tests;
 
-use http::{HeaderMap, Method, StatusCode, Uri, Version, request, response};
+use http::{HeaderMap, Method, StatusCode, Uri, Version, request};
 use http_cache_fields::CacheError;
 use http_cache_fields::headers::copy_of_map;
 use http_cache_fields::kept::keep;
@@ -23,6 +18,7 @@ use http_cache_rules::lifetime::{elapsed_time, lifetime_of, received_age};
 pub use http_cache_rules::options::{CacheOptions, Fraction};
 use http_cache_rules::storable::{has_explicit_expiration, is_storable};
 use http_cache_rules::stored_directives::StoredDirectives;
+use http_cache_stored::stored::StoredParts;
 use jiff::Timestamp;
 pub use like::{RequestLike, ResponseLike};
 use std::alloc::{AllocError, Global};
@@ -33,31 +29,20 @@ use std::time::Duration;
 /// used again.
 #[derive(Debug, Drop)]
 pub struct CachePolicy {
-    target: Uri,
-    method: Method,
-    status: StatusCode,
-    request_headers: HeaderMap,
-    response_headers: HeaderMap,
-    options: CacheOptions,
-    response_time: Timestamp,
-    // What is read once, so that the answers below take no memory.
-    stored_directives: StoredDirectives,
-    request_forbids_storing: bool,
-    storable: bool,
-    received_age: u64,
-    lifetime: Duration,
+    parts: StoredParts,
+    found: Found,
 }
 
 impl Model for CachePolicy {
-    ghost use Rattle.http_cache_policy.specs.Exchange.{Exchange, exchange_code};
+    ghost use Rattle.http_cache_stored.specs.Exchange.{Exchange, exchange_code, exchange_in};
 
     ghost Value = { Exchange };
 
     ghost coded = { exchange_code };
 
-    ghost use Rattle.http_cache_policy.specs.Inside.{exchange_in, IsDerived};
+    ghost use Rattle.http_cache_policy.specs.Inside.{IsDerived};
 
-    ghost view = { exchange_in };
+    ghost view = { λ p. exchange_in p.parts };
 
     ghost invariant = { IsDerived };
 }
@@ -86,78 +71,51 @@ pub(crate) fn request_with(
     })
 }
 
-/// The head of a request for a target, with copies of a method and of headers.
-pub(crate) fn copy_of_request(
-    method: &Method,
-    uri: Uri,
-    headers: &HeaderMap,
-) -> Result<request::Parts, AllocError>
-    ensures { IfOk result (λ copy. copy
-        ≡ record { method = method.now; uri = uri; version = HTTP_11; headers = headers.now }) }
-{
-    request_with(method, uri, copy_of_map(headers)?)
-}
-
-/// The head of a response with a status and a copy of headers.
-pub(crate) fn copy_of_response(
-    status: StatusCode,
-    headers: &HeaderMap,
-) -> Result<response::Parts, AllocError>
-    ensures { IfOk result (λ copy. copy
-        ≡ record { status = status; version = HTTP_11; headers = headers.now }) }
-{
-    Ok(response::Parts {
-        status,
-        version: Version::HTTP_11,
-        headers: copy_of_map(headers)?,
-    })
-}
-
-// What is read once of an exchange.
-#[derive(Clone, Copy)]
-struct Reading {
+// What is read once of the parts, so that the answers below take no memory.
+#[derive(Clone, Copy, Debug)]
+struct Found {
     request_forbids_storing: bool,
+    directives: StoredDirectives,
     storable: bool,
     received_age: u64,
     lifetime: Duration,
 }
 
-impl Reading {
-    // What is read of a request and a response with its directives.
-    fn of(
-        alloc: Global,
-        request: &request::Parts,
-        status: StatusCode,
-        headers: &HeaderMap,
-        directives: &StoredDirectives,
-        response_time: Timestamp,
-        options: &CacheOptions,
-    ) -> Result<Reading, AllocError>
-        ensures forbidden { IfOk result (λ read. read.request_forbids_storing
-            ≡ has (cache_control (headers_of request.now.headers)) (codes "no-store")) }
-        ensures storable { IfOk result (λ read. read.storable ≡ is_storable_by options.now.shared
-            request.now.method status (headers_of request.now.headers) (headers_of headers.now)
-            (cache_control (headers_of request.now.headers)) directives.now) }
-        ensures received { IfOk result (λ read.
-            read.received_age ≡ received_age_of (headers_of headers.now)) }
-        ensures lifetime { IfOk result (λ read. as_nanos read.lifetime
-            ≡ lifetime_of read.storable (headers_of headers.now) directives.now
-            (options_of options.now) response_time.nanosecond) }
+impl Found {
+    ghost use Rattle.http_cache_policy.specs.Inside.{IsFoundIn};
+
+    #[tactic(auto, unfolding(crate::specs::Storable::is_storable, crate::specs::Lifetime::lifetime))]
+    fn of(alloc: Global, parts: &StoredParts) -> Result<Found, AllocError>
+        ensures { IfOk result (λ found. IsFoundIn (exchange_in parts.now) found) }
     {
-        let forbidden = forbids_storing(&request.headers);
+        let headers = &parts.response_headers;
+        let shared = parts.options.shared;
+        let forbidden = forbids_storing(&parts.request_headers);
+        let directives = StoredDirectives::of(alloc, headers)?;
         let storable = is_storable(
-            options.shared,
-            request,
-            status,
+            shared,
+            &parts.method,
+            &parts.request_headers,
+            parts.status,
             headers,
             forbidden,
-            directives,
+            &directives,
         );
-        Ok(Reading {
+        let received = parts.response_time;
+        let lifetime = lifetime_of(
+            alloc,
+            storable,
+            headers,
+            &directives,
+            &parts.options,
+            received,
+        )?;
+        Ok(Found {
             request_forbids_storing: forbidden,
+            directives,
             storable,
             received_age: received_age(headers),
-            lifetime: lifetime_of(alloc, storable, headers, directives, options, response_time)?,
+            lifetime,
         })
     }
 }
@@ -206,132 +164,115 @@ impl CachePolicy {
         ensures settled { IfOk result (λ policy. kept_exchange policy ≡ policy) }
         ensures only_memory { IsOkUnless result CacheError.Memory }
     {
-        let uri = req.uri(alloc)?;
-        let request = copy_of_request(req.method(), uri, req.headers())?;
-        let response = copy_of_response(res.status(), res.headers())?;
-        CachePolicy::from_details(alloc, request, response, response_time, opts)
+        let parts = StoredParts {
+            target: req.uri(alloc)?,
+            method: req.method().clone()?,
+            status: res.status(),
+            request_headers: copy_of_map(req.headers())?,
+            response_headers: copy_of_map(res.headers())?,
+            options: opts,
+            response_time,
+        };
+        CachePolicy::from_details(alloc, parts)
     }
 
-    /// The policy of a request and a response that are given away.
+    /// The policy of parts that are given away.
     #[tactic(auto, unfolding(crate::specs::Kept::kept_exchange))]
     pub(crate) fn from_details(
         alloc: Global,
-        request: request::Parts,
-        response: response::Parts,
-        response_time: Timestamp,
-        options: CacheOptions,
+        mut parts: StoredParts,
     ) -> Result<CachePolicy, CacheError>
-        ensures value { IfOk result (λ policy. policy ≡ kept_exchange (exchange_of
-            (request_seen request) (response_seen response) (options_of options)
-            response_time.nanosecond)) }
+        ensures value { IfOk result (λ policy. policy ≡ kept_exchange (exchange_in parts)) }
         ensures only_memory { IsOkUnless result CacheError.Memory }
     {
-        let status = response.status;
-        let mut headers = response.headers;
-        let kept = keep(alloc, &mut headers, options.ignore_cargo_cult)?;
-        let directives = StoredDirectives::of(kept);
-        let reading = Reading::of(
-            alloc,
-            &request,
-            status,
-            &headers,
-            &directives,
-            response_time,
-            &options,
-        )?;
-        Ok(CachePolicy {
-            target: request.uri,
-            method: request.method,
-            status,
-            request_headers: request.headers,
-            response_headers: headers,
-            options,
-            response_time,
-            stored_directives: directives,
-            request_forbids_storing: reading.request_forbids_storing,
-            storable: reading.storable,
-            received_age: reading.received_age,
-            lifetime: reading.lifetime,
-        })
+        let ignores = parts.options.ignore_cargo_cult;
+        keep(alloc, &mut parts.response_headers, ignores)?;
+        let found = Found::of(alloc, &parts)?;
+        Ok(CachePolicy { parts, found })
     }
 
     /// The same policy, copied field by field. It is refused for want of memory alone.
-    pub fn try_clone(&self, alloc: Global) -> Result<CachePolicy, CacheError>
+    pub fn try_clone(&self, _alloc: Global) -> Result<CachePolicy, CacheError>
         ensures value { IfOk result (λ copy. copy ≡ self.now) }
         ensures only_memory { IsOkUnless result CacheError.Memory }
     {
+        let parts = &self.parts;
         Ok(CachePolicy {
-            target: copy_of_target(&self.target)?,
-            method: self.method.clone()?,
-            status: self.status,
-            request_headers: copy_of_map(&self.request_headers)?,
-            response_headers: copy_of_map(&self.response_headers)?,
-            options: self.options,
-            response_time: self.response_time,
-            stored_directives: self.stored_directives.try_clone(alloc)?,
-            request_forbids_storing: self.request_forbids_storing,
-            storable: self.storable,
-            received_age: self.received_age,
-            lifetime: self.lifetime,
+            parts: StoredParts {
+                target: copy_of_target(&parts.target)?,
+                method: parts.method.clone()?,
+                status: parts.status,
+                request_headers: copy_of_map(&parts.request_headers)?,
+                response_headers: copy_of_map(&parts.response_headers)?,
+                options: parts.options,
+                response_time: parts.response_time,
+            },
+            found: self.found,
         })
     }
 
-    /// The stored target. What the proof is told of the whole policy stands here, since `to_value`
-    /// can't see into it.
-    pub(crate) fn stored_target(&self) -> &Uri
-        ensures value { result.now ≡ self.now.target }
+    /// All that is stored.
+    pub(crate) fn parts(&self) -> &StoredParts
+        ensures value { exchange_in result.now ≡ self.now }
         ensures settled { kept_exchange self.now ≡ self.now }
     {
-        &self.target
+        &self.parts
+    }
+
+    /// The stored target.
+    pub(crate) fn stored_target(&self) -> &Uri
+        ensures { result.now ≡ self.now.target }
+    {
+        &self.parts.target
     }
 
     /// The stored method.
     pub(crate) fn stored_method(&self) -> &Method
         ensures { result.now ≡ self.now.method }
     {
-        &self.method
+        &self.parts.method
     }
 
     /// The stored status.
     pub(crate) fn stored_status(&self) -> StatusCode
         ensures { result ≡ self.now.status }
     {
-        self.status
+        self.parts.status
     }
 
     /// The options.
     pub(crate) fn stored_options(&self) -> CacheOptions
         ensures { options_of result ≡ self.now.options }
     {
-        self.options
+        self.parts.options
     }
 
     /// When the response came.
     pub(crate) fn stored_response_time(&self) -> Timestamp
         ensures { result.nanosecond ≡ self.now.response_time }
     {
-        self.response_time
+        self.parts.response_time
     }
 
     /// The headers of the stored request.
     pub(crate) fn request_headers(&self) -> &HeaderMap
         ensures { headers_of result.now ≡ self.now.request_headers }
     {
-        &self.request_headers
+        &self.parts.request_headers
     }
 
     /// The headers of the stored response.
     pub(crate) fn response_headers(&self) -> &HeaderMap
         ensures { headers_of result.now ≡ self.now.response_headers }
     {
-        &self.response_headers
+        &self.parts.response_headers
     }
 
     /// Whether the stored response says `must-revalidate`.
     pub(crate) fn has_must_revalidate(&self) -> bool
         ensures { result ≡ has (stored_directives self.now) (codes "must-revalidate") }
     {
-        self.stored_directives.has_must_revalidate()
+        self.found.directives.must_revalidate
     }
 
     /// Whether the stored response itself says when it expires.
@@ -340,9 +281,9 @@ impl CachePolicy {
             self.now.response_headers (stored_directives self.now) }
     {
         has_explicit_expiration(
-            self.options.shared,
-            &self.response_headers,
-            &self.stored_directives,
+            self.parts.options.shared,
+            &self.parts.response_headers,
+            &self.found.directives,
         )
     }
 
@@ -350,14 +291,14 @@ impl CachePolicy {
     pub(crate) fn lifetime(&self) -> Duration
         ensures { as_nanos result ≡ lifetime self.now }
     {
-        self.lifetime
+        self.found.lifetime
     }
 
     /// Whether the response may be stored (RFC 7234, section 3).
     pub fn is_storable(&self) -> bool
         ensures { result ≡ is_storable self.now }
     {
-        self.storable
+        self.found.storable
     }
 
     /// The age at a moment: the received Age and the time since then, which stops at the greatest
@@ -367,8 +308,8 @@ impl CachePolicy {
         ensures rises { (earlier : ℤ) → earlier ≤ℤ now.nanosecond
             → age_at self.now earlier ≤ as_nanos result }
     {
-        let received = Duration::from_secs(self.received_age);
-        received.saturating_add(elapsed_time(self.response_time, now))
+        let received = Duration::from_secs(self.found.received_age);
+        received.saturating_add(elapsed_time(self.parts.response_time, now))
     }
 
     /// How much of the lifetime is left at a moment, or zero (RFC 7234, section 4.2).
@@ -376,7 +317,7 @@ impl CachePolicy {
     pub fn time_to_live(&self, now: Timestamp) -> Duration
         ensures { as_nanos result ≡ time_to_live_at self.now now.nanosecond }
     {
-        self.lifetime.saturating_sub(self.age(now))
+        self.found.lifetime.saturating_sub(self.age(now))
     }
 
     /// Whether nothing is left of the lifetime at a moment (RFC 7234, section 4.2).
@@ -385,6 +326,6 @@ impl CachePolicy {
         ensures value { result ≡ is_stale_at self.now now.nanosecond }
         ensures nothing_left { IsTrue result ↔ (time_to_live_at self.now now.nanosecond ≡ 0) }
     {
-        self.lifetime.as_nanos() <= self.age(now).as_nanos()
+        self.found.lifetime.as_nanos() <= self.age(now).as_nanos()
     }
 }

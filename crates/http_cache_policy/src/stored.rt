@@ -22,17 +22,7 @@ impl CachePolicy {
             → kept_exchange e ≡ with_target self.now e.target) }
         ensures only_memory { IsOkUnless result CacheError.Memory }
     {
-        let value = value_of_parts(
-            alloc,
-            self.stored_target(),
-            self.stored_method(),
-            self.stored_status(),
-            self.request_headers(),
-            self.response_headers(),
-            &self.stored_options(),
-            self.stored_response_time(),
-        )?;
-        Ok(value)
+        Ok(value_of_parts(alloc, self.parts())?)
     }
 
     /// The policy of a stored value: what is kept of the exchange that it is of. `Malformed` comes
@@ -48,14 +38,7 @@ impl CachePolicy {
         ensures always_printable { result ≢ Err CacheError.DateNotPrintable }
     {
         let parts = parts_from_value(alloc, value)?;
-        let received = parts.response_time;
-        let policy = CachePolicy::from_details(
-            alloc,
-            parts.request,
-            parts.response,
-            received,
-            parts.options,
-        )?;
+        let policy = CachePolicy::from_details(alloc, parts)?;
         Ok(policy)
     }
 }

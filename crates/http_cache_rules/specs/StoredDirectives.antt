@@ -1,17 +1,19 @@
--- What is found once of the directives of a stored response.
-use Rattle.std.specs.Prelude.{◌≡◌, codes}
-use Rattle.http_cache_fields.specs.Directives.{has}
+-- What the rules ask of the directives of a stored response.
+use Rattle.std.specs.Prelude.{List, codes}
+use Rattle.http_cache_fields.specs.Directives.{Directive, has}
 use Rattle.http_cache_rules.specs.DeltaSeconds.{delta_seconds_under}
-use Rattle.http_cache_rules.specs.declared.stored_directives.StoredDirectives.TheInside.{Inside}
+use Rattle.http_cache_rules.specs.declared.stored_directives.StoredDirectives.{StoredDirectives}
 
--- a flag says whether the directive of its name is there, and the others what theirs says
-pub record IsFound (s : Inside) : Type 0 where
-  pub no_store : s.no_store ≡ has s.directives (codes "no-store")
-  pub no_cache : s.no_cache ≡ has s.directives (codes "no-cache")
-  pub private : s.private ≡ has s.directives (codes "private")
-  pub public : s.public ≡ has s.directives (codes "public")
-  pub must_revalidate : s.must_revalidate ≡ has s.directives (codes "must-revalidate")
-  pub proxy_revalidate : s.proxy_revalidate ≡ has s.directives (codes "proxy-revalidate")
-  pub immutable : s.immutable ≡ has s.directives (codes "immutable")
-  pub s_maxage : s.s_maxage ≡ delta_seconds_under s.directives (codes "s-maxage")
-  pub max_age : s.max_age ≡ delta_seconds_under s.directives (codes "max-age")
+-- of each directive whether it is there, or what it says
+abbrev pub stored_directives_of : List Directive → StoredDirectives
+stored_directives_of ds = record {
+  no_store = has ds (codes "no-store");
+  no_cache = has ds (codes "no-cache");
+  private = has ds (codes "private");
+  public = has ds (codes "public");
+  must_revalidate = has ds (codes "must-revalidate");
+  proxy_revalidate = has ds (codes "proxy-revalidate");
+  immutable = has ds (codes "immutable");
+  s_maxage = delta_seconds_under ds (codes "s-maxage");
+  max_age = delta_seconds_under ds (codes "max-age");
+}

@@ -1,43 +1,42 @@
-//! The directives of a stored response, with what the rules ask of them found once.
-ghost use Rattle.std.specs.Prelude.{◌≡◌, codes, IfOk};
-ghost use Rattle.http_cache_fields.specs.Directives.{has};
+//! What the rules ask of the directives of a stored response.
+ghost use Rattle.std.specs.Prelude.{◌≡◌, IfOk};
+ghost use Rattle.http_cache_fields.specs.Headers.{headers_of};
+ghost use Rattle.http_cache_fields.specs.Directives.{cache_control, with_conflict};
+ghost use Rattle.http_cache_fields.specs.Pragma.{with_no_cache, with_pragma};
 ghost use Rattle.http_cache_rules.specs.DeltaSeconds.{delta_seconds_under};
+ghost use Rattle.http_cache_rules.specs.StoredDirectives.{stored_directives_of};
 
 use crate::delta_seconds::DeltaSeconds;
-use http_cache_fields::directives::CacheControl;
+use http_cache_fields::pragma::pragma_stands_in;
+use http_cache_fields::reading::{FirstDirectives, Reading, read_cache_control};
+use http_header::HeaderMap;
 use std::alloc::{AllocError, Global};
-use std::marker::Model;
 
-/// Directives, and what storability and the lifetime ask of them, so that a rule looks up no name.
-#[derive(Debug, Drop)]
+/// What storability and the lifetime ask of the directives, found once.
+#[derive(Clone, Copy, Debug)]
 pub struct StoredDirectives {
-    directives: CacheControl,
-    no_store: bool,
-    no_cache: bool,
-    private: bool,
-    public: bool,
-    must_revalidate: bool,
-    proxy_revalidate: bool,
-    immutable: bool,
-    s_maxage: DeltaSeconds,
-    max_age: DeltaSeconds,
-}
-
-impl Model for StoredDirectives {
-    ghost use Rattle.std.specs.Prelude.{List};
-    ghost use Rattle.http_cache_fields.specs.Directives.{Directive};
-
-    ghost Value = { List Directive };
-
-    ghost view = { λ s. s.directives };
-
-    ghost use Rattle.http_cache_rules.specs.StoredDirectives.{IsFound};
-
-    ghost invariant = { IsFound };
+    /// Whether no-store is there.
+    pub no_store: bool,
+    /// Whether no-cache is there.
+    pub no_cache: bool,
+    /// Whether private is there.
+    pub private: bool,
+    /// Whether public is there.
+    pub public: bool,
+    /// Whether must-revalidate is there.
+    pub must_revalidate: bool,
+    /// Whether proxy-revalidate is there.
+    pub proxy_revalidate: bool,
+    /// Whether immutable is there.
+    pub immutable: bool,
+    /// What s-maxage says.
+    pub s_maxage: DeltaSeconds,
+    /// What max-age says.
+    pub max_age: DeltaSeconds,
 }
 
 // What the directive of a name says.
-fn delta_seconds_under(directives: &CacheControl, name: &str) -> DeltaSeconds
+fn delta_seconds_under(directives: &FirstDirectives<'_>, name: &str) -> DeltaSeconds
     ensures { result ≡ delta_seconds_under directives.now name.now }
 {
     match directives.get(name) {
@@ -46,117 +45,33 @@ fn delta_seconds_under(directives: &CacheControl, name: &str) -> DeltaSeconds
     }
 }
 
+// What directives say that were read, where a Pragma may say no-cache.
+fn found_in(read: &Reading<'_>, no_cache: bool) -> StoredDirectives
+    ensures { result ≡ stored_directives_of
+        (with_no_cache no_cache (with_conflict read.now.conflict read.now.first)) }
+{
+    let first = &read.first;
+    StoredDirectives {
+        no_store: first.contains_key("no-store"),
+        no_cache: no_cache || first.contains_key("no-cache"),
+        private: first.contains_key("private"),
+        public: first.contains_key("public"),
+        must_revalidate: read.conflict || first.contains_key("must-revalidate"),
+        proxy_revalidate: first.contains_key("proxy-revalidate"),
+        immutable: first.contains_key("immutable"),
+        s_maxage: delta_seconds_under(first, "s-maxage"),
+        max_age: delta_seconds_under(first, "max-age"),
+    }
+}
+
 impl StoredDirectives {
-    /// The directives, each of those that the rules ask for looked up once.
-    pub fn of(directives: CacheControl) -> StoredDirectives
-        ensures { result ≡ directives }
+    /// What the directives of a response say, those of a Pragma too that stands in for them.
+    #[tactic(auto, unfolding(http_cache_fields::specs::Pragma::with_pragma))]
+    pub fn of(alloc: Global, res: &HeaderMap) -> Result<StoredDirectives, AllocError>
+        ensures { IfOk result (λ found. found ≡ stored_directives_of
+            (with_pragma (headers_of res.now) (cache_control (headers_of res.now)))) }
     {
-        StoredDirectives {
-            no_store: directives.contains_key("no-store"),
-            no_cache: directives.contains_key("no-cache"),
-            private: directives.contains_key("private"),
-            public: directives.contains_key("public"),
-            must_revalidate: directives.contains_key("must-revalidate"),
-            proxy_revalidate: directives.contains_key("proxy-revalidate"),
-            immutable: directives.contains_key("immutable"),
-            s_maxage: delta_seconds_under(&directives, "s-maxage"),
-            max_age: delta_seconds_under(&directives, "max-age"),
-            directives,
-        }
-    }
-
-    /// A copy, for which nothing is looked up again.
-    pub fn try_clone(&self, alloc: Global) -> Result<StoredDirectives, AllocError>
-        ensures { IfOk result (λ copy. copy ≡ self.now) }
-    {
-        Ok(StoredDirectives {
-            directives: self.directives.try_clone(alloc)?,
-            no_store: self.no_store,
-            no_cache: self.no_cache,
-            private: self.private,
-            public: self.public,
-            must_revalidate: self.must_revalidate,
-            proxy_revalidate: self.proxy_revalidate,
-            immutable: self.immutable,
-            s_maxage: self.s_maxage,
-            max_age: self.max_age,
-        })
-    }
-
-    /// Whether no-store is there.
-    pub fn has_no_store(&self) -> bool
-        ensures { result ≡ has self.now (codes "no-store") }
-    {
-        self.no_store
-    }
-
-    /// Whether no-cache is there.
-    pub fn has_no_cache(&self) -> bool
-        ensures { result ≡ has self.now (codes "no-cache") }
-    {
-        self.no_cache
-    }
-
-    /// Whether private is there.
-    pub fn is_private(&self) -> bool
-        ensures { result ≡ has self.now (codes "private") }
-    {
-        self.private
-    }
-
-    /// Whether public is there.
-    pub fn is_public(&self) -> bool
-        ensures { result ≡ has self.now (codes "public") }
-    {
-        self.public
-    }
-
-    /// Whether must-revalidate is there.
-    pub fn has_must_revalidate(&self) -> bool
-        ensures { result ≡ has self.now (codes "must-revalidate") }
-    {
-        self.must_revalidate
-    }
-
-    /// Whether proxy-revalidate is there.
-    pub fn has_proxy_revalidate(&self) -> bool
-        ensures { result ≡ has self.now (codes "proxy-revalidate") }
-    {
-        self.proxy_revalidate
-    }
-
-    /// Whether immutable is there.
-    pub fn is_immutable(&self) -> bool
-        ensures { result ≡ has self.now (codes "immutable") }
-    {
-        self.immutable
-    }
-
-    /// What s-maxage says.
-    pub fn s_maxage(&self) -> DeltaSeconds
-        ensures { result ≡ delta_seconds_under self.now (codes "s-maxage") }
-    {
-        self.s_maxage
-    }
-
-    /// What max-age says.
-    pub fn max_age(&self) -> DeltaSeconds
-        ensures { result ≡ delta_seconds_under self.now (codes "max-age") }
-    {
-        self.max_age
-    }
-
-    /// Whether s-maxage is there.
-    pub fn has_s_maxage(&self) -> bool
-        ensures { result ≡ has self.now (codes "s-maxage") }
-    {
-        self.s_maxage().is_said()
-    }
-
-    /// Whether max-age is there.
-    pub fn has_max_age(&self) -> bool
-        ensures { result ≡ has self.now (codes "max-age") }
-    {
-        self.max_age().is_said()
+        let read = read_cache_control(alloc, res)?;
+        Ok(found_in(&read, pragma_stands_in(res)))
     }
 }

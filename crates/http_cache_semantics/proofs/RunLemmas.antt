@@ -17,7 +17,7 @@ use Rattle.http_cache_policy.specs.declared.before.BeforeRequest.TheVariants.{Fr
 use Rattle.http_cache_semantics.specs.declared.chain.Outcome.{Outcome}
 use Rattle.http_cache_semantics.specs.declared.chain.Outcome.TheVariants.{Asked, NotModified, Modified, Restarted}
 use Rattle.http_cache_semantics.proofs.FreshUniqueLemmas.{IsFreshHeaders-unique}
-use Rattle.http_cache_policy.proofs.ReadLemmas.{Reads-one_exchange}
+use Rattle.http_cache_stored.proofs.StoredLemmas.{IsStored-unique}
 
 response_seen-unique : (e : Exchange) (moment : ℤ) (p q : Parts) → IsFreshParts e moment p → IsFreshParts e moment q
     → response_seen p ≡ response_seen q
@@ -69,7 +69,7 @@ step-unique e (receives r s moment) (Modified q) (Modified t) f g h k =
     (ap replaces (response_seen-unique g moment q t (subst (λ (x : Exchange). IsFreshParts x moment q) same h.0.1) k.0.1), same)
 step-unique e restarts o p f g h k = (
   ap outcome_seen (h.0 ∙ sym k.0),
-  h.1.2 ∙ ap kept_exchange (Reads-one_exchange (writes e) h.1.0 k.1.0 h.1.1 k.1.1) ∙ sym k.1.2,
+  h.1.2 ∙ ap kept_exchange (IsStored-unique (writes e) h.1.0 k.1.0 h.1.1 k.1.1) ∙ sym k.1.2,
 )
 
 pub run-unique : (e : Exchange) (steps : List StepSeen) (os ps : List Outcome) (f g : Exchange)

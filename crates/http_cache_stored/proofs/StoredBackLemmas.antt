@@ -3,7 +3,8 @@ use Rattle.std.proofs.Common.{◌≡◌, ◌↔◌, Some, refl, sym, subst}
 use Rattle.http_uri.specs.Uri.{uri_text}
 use Rattle.http_cache_fields.specs.Headers.{Headers}
 use Rattle.http_cache_stored.specs.HeaderObject.{headers_data, IsHeaderObject}
-use Rattle.http_cache_stored.specs.Stored.{Stored, StoredForm, stored_form, stored_data, IsStoredOf, IsStored}
+use Rattle.http_cache_stored.specs.Exchange.{Exchange}
+use Rattle.http_cache_stored.specs.Stored.{StoredForm, stored_form, stored_data, IsStoredOf, IsStored}
 use Rattle.http_cache_stored.specs.ReadBack.{AreReadable, IsWritable, IsReadBack}
 use Rattle.http_cache_stored.proofs.FormBackLemmas.{options-back, moment-back}
 use Rattle.http_cache_stored.proofs.HeadersBackLemmas.{headers_back}
@@ -11,7 +12,7 @@ use Rattle.http_cache_stored.proofs.MemberLemmas.{IsHeaderObject-unique}
 use Rattle.http_cache_stored.proofs.SomeLemmas.{some_and, of_some}
 
 -- the members of what is written
-abbrev form_of : Stored → StoredForm
+abbrev form_of : Exchange → StoredForm
 form_of s = record {
   target = uri_text s.target;
   method = s.method;
@@ -22,11 +23,11 @@ form_of s = record {
   response_time = s.response_time;
 }
 
-form_back : (s : Stored) → IsWritable s → stored_form (stored_data s) ≡ Some (form_of s)
+form_back : (s : Exchange) → IsWritable s → stored_form (stored_data s) ≡ Some (form_of s)
 unfolding stored_form stored_data
 form_back s h = rw (options-back s.options h.options, moment-back s.response_time h.response_time) refl
 
-is_back : (s t : Stored) → IsWritable s → IsStoredOf (form_of s) t → IsReadBack s t
+is_back : (s t : Exchange) → IsWritable s → IsStoredOf (form_of s) t → IsReadBack s t
 is_back s t w h =
     let request = same_back s.request_headers t.request_headers w.request h.request in
     let response = same_back s.response_headers t.response_headers w.response h.response in
@@ -46,7 +47,7 @@ is_back s t w h =
     same_back : (g h : Headers) → AreReadable g → IsHeaderObject (headers_data g) h → h ≡ g
     same_back g h readable is = IsHeaderObject-unique (headers_data g) h g is (headers_back g readable)
 
-of_back : (s t : Stored) → IsWritable s → IsReadBack s t → IsStoredOf (form_of s) t
+of_back : (s t : Exchange) → IsWritable s → IsReadBack s t → IsStoredOf (form_of s) t
 of_back s t w h =
     subst (IsStoredOf (form_of s)) (sym h.same)
     (record {
@@ -62,7 +63,7 @@ of_back s t w h =
     })
 
 -- what is written stands for just what it reads back as
-pub stored-reads_back : (s t : Stored) → IsWritable s → IsStored (stored_data s) t ↔ IsReadBack s t
+pub stored-reads_back : (s t : Exchange) → IsWritable s → IsStored (stored_data s) t ↔ IsReadBack s t
 stored-reads_back s t w = (
   λ is. is_back s t w (of_some (stored_form (stored_data s)) (form_of s) (λ form. IsStoredOf form t) (sym
       (form_back s w)) is),

@@ -1,12 +1,13 @@
 -- A value is of one exchange at most.
 use Rattle.std.proofs.Common.{◌≡◌, sym, ◌∙◌}
 use Rattle.serde_json.specs.Data.{Data}
-use Rattle.http_cache_stored.specs.Stored.{Stored, StoredForm, stored_form, IsStoredOf, IsStored}
+use Rattle.http_cache_stored.specs.Exchange.{Exchange}
+use Rattle.http_cache_stored.specs.Stored.{StoredForm, stored_form, IsStoredOf, IsStored}
 use Rattle.http_cache_stored.proofs.SomeLemmas.{some_same}
 use Rattle.http_cache_stored.proofs.MemberLemmas.{IsHeaderObject-unique}
 use Rattle.http_cache_stored.proofs.TargetLemmas.{Spells-one_target}
 
-IsStoredOf-unique : (form : StoredForm) (s t : Stored) → IsStoredOf form s → IsStoredOf form t → s ≡ t
+IsStoredOf-unique : (form : StoredForm) (s t : Exchange) → IsStoredOf form s → IsStoredOf form t → s ≡ t
 IsStoredOf-unique form s t h k =
     let target = Spells-one_target form.target s.target t.target h.target k.target in
     let method = h.method ∙ sym k.method in
@@ -27,5 +28,5 @@ IsStoredOf-unique form s t h k =
       response_time = moment i;
     }
 
-pub IsStored-unique : (d : Data) (s t : Stored) → IsStored d s → IsStored d t → s ≡ t
+pub IsStored-unique : (d : Data) (s t : Exchange) → IsStored d s → IsStored d t → s ≡ t
 IsStored-unique d s t h k = some_same IsStoredOf IsStoredOf-unique (stored_form d) s t h k

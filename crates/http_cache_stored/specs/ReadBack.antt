@@ -14,7 +14,8 @@ use Rattle.jiff_core.specs.Timestamp.{IsTimestampNanos}
 use Rattle.http_cache_fields.specs.Headers.{Headers, value_count}
 use Rattle.http_cache_stored.specs.FormData.{AreInRange}
 use Rattle.http_cache_stored.specs.HeaderObject.{IsFilled}
-use Rattle.http_cache_stored.specs.Stored.{Stored, stored_data}
+use Rattle.http_cache_stored.specs.Exchange.{Exchange}
+use Rattle.http_cache_stored.specs.Stored.{stored_data}
 
 -- bytes that the library of headers takes as a value
 pub record IsReadableValue (v : List ℕ) : Type 0 where
@@ -34,20 +35,20 @@ pub record AreReadable (h : Headers) : Type 0 where
   pub values_fit : value_count h < 2 ^ 64
 
 -- what holds of all that is written
-pub record IsWritable (s : Stored) : Type 0 where
-  pub method : IsToken s.method
-  pub status : IsStatusCode s.status
-  pub request : AreReadable s.request_headers
-  pub response : AreReadable s.response_headers
-  pub options : AreInRange s.options
-  pub response_time : IsTimestampNanos s.response_time
+pub record IsWritable (e : Exchange) : Type 0 where
+  pub method : IsToken e.method
+  pub status : IsStatusCode e.status
+  pub request : AreReadable e.request_headers
+  pub response : AreReadable e.response_headers
+  pub options : AreInRange e.options
+  pub response_time : IsTimestampNanos e.response_time
 
 -- the value is the one that is written, of what can be
-pub record IsWrittenFor (d : Data) (s : Stored) : Type 0 where
-  pub is : d ≡ stored_data s
-  pub writable : IsWritable s
+pub record IsWrittenFor (d : Data) (e : Exchange) : Type 0 where
+  pub is : d ≡ stored_data e
+  pub writable : IsWritable e
 
 -- the same, but for the target, which is the one that the printed target spells
-pub record IsReadBack (s t : Stored) : Type 0 where
-  pub same : t ≡ record s { target = t.target }
-  pub target : Spells (uri_text s.target) t.target
+pub record IsReadBack (e f : Exchange) : Type 0 where
+  pub same : f ≡ record e { target = f.target }
+  pub target : Spells (uri_text e.target) f.target

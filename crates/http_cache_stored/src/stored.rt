@@ -3,9 +3,9 @@ ghost use Rattle.std.specs.Prelude.{◌≡◌, option_map, IfOk, IsErrOf};
 ghost use Rattle.serde_json.specs.View.{view};
 ghost use Rattle.serde_json.specs.Data.{string};
 ghost use Rattle.http_uri.specs.Uri.{uri_text};
-ghost use Rattle.http_cache_fields.specs.Headers.{headers_of};
 ghost use Rattle.http_cache_rules.specs.Options.{options_of};
-ghost use Rattle.http_cache_stored.specs.Stored.{Stored, stored_in, stored_form, IsStored};
+ghost use Rattle.http_cache_stored.specs.Exchange.{Exchange, exchange_in};
+ghost use Rattle.http_cache_stored.specs.Stored.{stored_form, IsStored};
 ghost use Rattle.http_cache_stored.specs.ReadBack.{IsWrittenFor};
 
 use crate::form::{
@@ -14,19 +14,25 @@ use crate::form::{
 use crate::headers::{headers_from_value, value_of_headers};
 use crate::refusal::Unread;
 use crate::texts::{method_from_text, status_from_number, target_from_text};
-use http::{HeaderMap, Method, StatusCode, Uri, Version, request, response};
+use http::{HeaderMap, Method, StatusCode, Uri};
 use http_cache_rules::options::CacheOptions;
 use jiff::Timestamp;
 use serde_json::{Value, json};
 use std::alloc::{AllocError, Global};
 
 /// A request, the response that came for it, and when it came.
-#[derive(Drop)]
+#[derive(Debug, Drop)]
 pub struct StoredParts {
-    /// The request.
-    pub request: request::Parts,
-    /// The response.
-    pub response: response::Parts,
+    /// The target of the request.
+    pub target: Uri,
+    /// Its method.
+    pub method: Method,
+    /// The status of the response.
+    pub status: StatusCode,
+    /// The headers of the request.
+    pub request_headers: HeaderMap,
+    /// The headers of the response.
+    pub response_headers: HeaderMap,
     /// How a cache is to behave.
     pub options: CacheOptions,
     /// When the response came.
@@ -72,9 +78,9 @@ fn stored_members(value: &Value) -> Option<StoredMembers<'_>>
 
 /// What a stored form says.
 pub fn parts_from_value(alloc: Global, value: &Value) -> Result<StoredParts, Unread>
-    ensures found { IfOk result (λ parts. IsStored (view value.now) (stored_in parts)) }
+    ensures found { IfOk result (λ parts. IsStored (view value.now) (exchange_in parts)) }
     ensures none { IsErrOf result Unread.Malformed
-        → (s : Stored) → IsStored (view value.now) s → ⊥ }
+        → (e : Exchange) → IsStored (view value.now) e → ⊥ }
 {
     let Some(members) = stored_members(value) else {
         return Err(Unread::Malformed);
@@ -82,22 +88,16 @@ pub fn parts_from_value(alloc: Global, value: &Value) -> Result<StoredParts, Unr
     let Some(status) = status_from_number(members.status) else {
         return Err(Unread::Malformed);
     };
-    let uri = target_from_text(alloc, members.target)?;
+    let target = target_from_text(alloc, members.target)?;
     let method = method_from_text(alloc, members.method)?;
     let request_headers = headers_from_value(alloc, members.request)?;
     let response_headers = headers_from_value(alloc, members.response)?;
     Ok(StoredParts {
-        request: request::Parts {
-            method,
-            uri,
-            version: Version::HTTP_11,
-            headers: request_headers,
-        },
-        response: response::Parts {
-            status,
-            version: Version::HTTP_11,
-            headers: response_headers,
-        },
+        target,
+        method,
+        status,
+        request_headers,
+        response_headers,
         options: members.options,
         response_time: members.response_time,
     })
@@ -112,38 +112,21 @@ fn text_of_target(alloc: Global, target: &Uri) -> Result<Value, AllocError>
 
 /// The value that is written for a request, its response, options and a moment.
 #[tactic(auto, unfolding(crate::specs::Stored::stored_data))]
-pub fn value_of_parts(
-    alloc: Global,
-    target: &Uri,
-    method: &Method,
-    status: StatusCode,
-    request_headers: &HeaderMap,
-    response_headers: &HeaderMap,
-    options: &CacheOptions,
-    response_time: Timestamp,
-) -> Result<Value, AllocError>
-    ensures { IfOk result (λ v. IsWrittenFor (view v) (record {
-      target = target.now;
-      method = method.now;
-      status = status;
-      request_headers = headers_of request_headers.now;
-      response_headers = headers_of response_headers.now;
-      options = options_of options.now;
-      response_time = response_time.nanosecond;
-    })) }
+pub fn value_of_parts(alloc: Global, parts: &StoredParts) -> Result<Value, AllocError>
+    ensures { IfOk result (λ v. IsWrittenFor (view v) (exchange_in parts.now)) }
 {
-    let opts = value_of_options(alloc, options)?;
-    let req = value_of_headers(alloc, request_headers)?;
-    let res = value_of_headers(alloc, response_headers)?;
-    let moment = value_of_moment(alloc, response_time)?;
-    let uri = text_of_target(alloc, target)?;
+    let opts = value_of_options(alloc, &parts.options)?;
+    let req = value_of_headers(alloc, &parts.request_headers)?;
+    let res = value_of_headers(alloc, &parts.response_headers)?;
+    let moment = value_of_moment(alloc, parts.response_time)?;
+    let uri = text_of_target(alloc, &parts.target)?;
     json!(in alloc; {
-        "method": method.as_str(),
+        "method": parts.method.as_str(),
         "opts": opts,
         "req": req,
         "res": res,
         "response_time": moment,
-        "status": status.as_u16(),
+        "status": parts.status.as_u16(),
         "uri": uri
     })
 }

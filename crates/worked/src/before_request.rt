@@ -1,6 +1,6 @@
 //! What a cache answers to a request.
 use crate::fixtures::{after, field, policy, request, text_of};
-use crate::scripts::{Exchange, ask, header_lines, stored, tells};
+use crate::scripts::{Exchange, ask, header_lines, receive, stored, tells};
 use http::{request, response};
 use http_cache_semantics::{BeforeRequest, CachePolicy};
 use std::alloc::Global;
@@ -148,6 +148,23 @@ fn tells_at(rt: &impl Abort, alloc: Global, nanos: &str, wanted: &str) -> Result
     let step = ask(alloc, "GET", "", nanos)?;
     let script = stored("Cache-Control: max-age=100").script(alloc, step.as_str())?;
     tells(rt, alloc, nanos, script.as_str(), wanted)
+}
+
+// What comes of a request at a moment that has no date.
+fn undated(rt: &impl Abort, alloc: Global, step: &str, wanted: &str) -> Result<(), Fail> {
+    let script = stored("Cache-Control: max-age=100").script(alloc, step)?;
+    tells(rt, alloc, step, script.as_str(), wanted)
+}
+
+#[test]
+fn answers_that_need_no_date(rt: HostRuntime) -> Result<(), Fail> {
+    let moment = "-3913056000000000001";
+    let step = ask(rt.alloc(), "GET", "Cache-Control: no-cache", moment)?;
+    let wanted = "  state storable true age 0 ttl 100000000000 stale false\nend\n";
+    undated(&rt, rt.alloc(), step.as_str(), "\nstale matches true\n")?;
+    undated(&rt, rt.alloc(), step.as_str(), wanted)?;
+    let step = receive(rt.alloc(), "304", "", moment)?;
+    undated(&rt, rt.alloc(), step.as_str(), "\nend date not printable\n")
 }
 
 #[test]

@@ -18,16 +18,23 @@ pub fn field(case: &str, place: usize) -> Result<&str, Fail> {
     Ok(case.split('|').nth(place).ok_or("no such field")?.trim())
 }
 
-/// A map of the headers of a field, appended in order.
+// A byte for each character, of which none is above 255.
+fn bytes(alloc: Global, text: &str) -> Result<Vec<u8>, Fail> {
+    let mut bytes = Vec::new(alloc);
+    for character in text.chars() {
+        bytes.push(u8::try_from(u32::from(character))?)?;
+    }
+    Ok(bytes)
+}
+
+/// A map of the headers of a field, appended in order, with a byte for each character of a value.
 pub fn headers(alloc: Global, text: &str) -> Result<HeaderMap, Fail> {
     let mut map = HeaderMap::new(alloc);
     for line in text.split('~') {
         if let Some((name, text)) = line.split_once(':') {
             let name = HeaderName::from_bytes(alloc, name.trim().as_bytes())?;
-            map.append(
-                name,
-                HeaderValue::from_bytes(alloc, text.trim().as_bytes())?,
-            )?;
+            let value = bytes(alloc, text.trim())?;
+            map.append(name, HeaderValue::from_bytes(alloc, &value)?)?;
         }
     }
     Ok(map)

@@ -64,6 +64,8 @@ fn full_cases() -> &'static str {
      24574||0|fresh age 0
      24575|Age: 1|0|end header map full
      24574|Age: 1 ~ Date: x|0|fresh age 1
+     24573|Cache-Control: max-age=10 ~ Age: 0 ~ Date: x|0|fresh age 0
+     24575|Cache-Control: max-age=10|0|end header map full
      24572|Last-Modified: Sat, 23 Sep 2023 00:00:00 GMT|86400000000001|fresh age 86400
      24573|Last-Modified: Sat, 23 Sep 2023 00:00:00 GMT|86400000000000|fresh age 86400
      24573|Last-Modified: Sat, 23 Sep 2023 00:00:00 GMT|86400000000001|end header map full

@@ -12,9 +12,13 @@ mod fixtures;
 #[cfg(test)]
 mod fresh_headers;
 #[cfg(test)]
+mod hostile_headers;
+#[cfg(test)]
 mod kept_headers;
 #[cfg(test)]
 mod lifetimes;
+#[cfg(test)]
+mod own_messages;
 #[cfg(test)]
 mod parse_cache_control;
 #[cfg(test)]

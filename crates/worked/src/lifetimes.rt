@@ -28,9 +28,7 @@ fn options(words: &str) -> Result<CacheOptions, Fail> {
 
 // When the response of a case came: so many milliseconds after 1970.
 fn received(case: &str) -> Result<Timestamp, Fail> {
-    Ok(Timestamp::from_millisecond(
-        field(case, 1)?.parse::<i64>()?,
-    )?)
+    Ok(Timestamp::from_millisecond(field(case, 1)?.parse::<i64>()?)?)
 }
 
 fn policy(alloc: Global, case: &str) -> Result<CachePolicy, Fail> {
@@ -92,6 +90,11 @@ fn by_dates() -> &'static str {
      |1704067200000|Last-Modified: Mon, 01 Jan 2024 00:01:40 GMT|0
      |1704067200000|Last-Modified: Wed, 31 Dec 1969 23:59:50 GMT|170406720000
      |-5000|Last-Modified: Wed, 31 Dec 1969 23:59:00 GMT|0
+     |1704067200000|Last-Modified: Tue, 02 Jan 2024 00:00:00 GMT|0
+     |1704067200000|Cache-Control: immutable~Last-Modified: Tue, 02 Jan 2024 00:00:00 GMT|86400000
+     |1704067200000|Cache-Control: max-age=ÿ~Pragma: no-cache~Last-Modified: Sat, 23 Sep 2023 00:00:00 GMT|864000000
+     |1704067200000|Cache-Control: max-age=ÿ~Cache-Control: max-age=5~Pragma: no-cache~Last-Modified: Sat, 23 Sep 2023 00:00:00 GMT|5000
+     |1704067200000|Cache-Control: immutable~Expires: ÿ|86400000
      |1704067200000|Expires: é~Last-Modified: Sat, 23 Sep 2023 00:00:00 GMT|864000000
      |1704067200000|Date: Tue, 01 Jan 2024 00:00:10 GMT~Expires: Mon, 01 Jan 2024 00:01:40 GMT|100000
      |1704067200000|Date: Mon, 01 Jan 2024 00:00:10 GMT~Expires: Mon, 01 Jan 2024 00:01:40 GMT|90000

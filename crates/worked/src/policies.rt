@@ -174,6 +174,8 @@ fn cases() -> &'static str {
      own|GET||200|Cache-Control: proxy-revalidate, max-age=10|true|10
      shared|POST||200||false|0
      shared|POST||200|Cache-Control: max-age=10|true|10
+     shared|POST||200|Expires: ÿ|true|0
+     shared|POST||200|Cache-Control: immutable ~ Expires: ÿ|true|86400
      shared|GET||206||false|0
      shared|GET||206|Cache-Control: max-age=10|false|0
      shared|GET||302||false|0
@@ -244,6 +246,9 @@ fn ages() -> &'static str {
      Age: 40 ~ Cache-Control: max-age=100|59999999999|age 99999999999 ttl 1 stale false
      Age: 40 ~ Cache-Control: max-age=100|60000000000|age 100000000000 ttl 0 stale true
      Age: x|0|age 0 ttl 0 stale true
+     Age: +5 ~ Cache-Control: max-age=100|0|age 5000000000 ttl 95000000000 stale false
+     Age: x ~ Age: 5 ~ Cache-Control: max-age=100|0|age 0 ttl 100000000000 stale false
+     Cache-Control: max-age=10|-3600000000000|age 0 ttl 10000000000 stale false
      |0|age 0 ttl 0 stale true
      Age: 18446744073709551615|1000000000|age 18446744073709551615999999999 ttl 0 stale true
      Age: 18446744073709551615|2000000000|age 18446744073709551615999999999 ttl 0 stale true"
@@ -255,6 +260,40 @@ fn has_age(rt: &impl Abort, alloc: Global, case: &str) -> Result<(), Fail> {
     let state = field(case, 2)?;
     let wanted = format!(in alloc; "\n  state storable true {state}\nend\n")?;
     tells(rt, alloc, case, script.as_str(), wanted.as_str())
+}
+
+// A state at the start, of headers in whose script a text is another.
+fn has_state(
+    rt: &impl Abort,
+    alloc: Global,
+    told: &str,
+    nanos: &str,
+    other: (&str, &str),
+    state: &str,
+) -> Result<(), Fail> {
+    let step = ask(alloc, "GET", "", nanos)?;
+    let script = stored(told).script(alloc, step.as_str())?;
+    let script = script.as_str().replace(alloc, other.0, other.1)?;
+    let wanted = format!(in alloc; "\n  state storable true {state}\nend\n")?;
+    tells(rt, alloc, told, script.as_str(), wanted.as_str())
+}
+
+#[test]
+fn blanks_in_front_of_an_age(rt: HostRuntime) -> Result<(), Fail> {
+    let told = "Age: _5 ~ Cache-Control: max-age=100";
+    let state = "age 0 ttl 100000000000 stale false";
+    has_state(&rt, rt.alloc(), told, "0", ("_5", " 5"), state)
+}
+
+#[test]
+fn the_greatest_least_time_to_live(rt: HostRuntime) -> Result<(), Fail> {
+    let told = "Age: 18446744073709551615 ~ Cache-Control: immutable";
+    let greatest = ("[86400,0]", "[18446744073709551615,999999999]");
+    let first = "age 18446744073709551615000000000 ttl 999999999 stale false";
+    has_state(&rt, rt.alloc(), told, "0", greatest, first)?;
+    let last = "age 18446744073709551615999999999 ttl 0 stale true";
+    has_state(&rt, rt.alloc(), told, "999999999", greatest, last)?;
+    has_state(&rt, rt.alloc(), told, "2000000000", greatest, last)
 }
 
 #[test]

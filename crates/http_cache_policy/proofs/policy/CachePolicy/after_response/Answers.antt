@@ -9,7 +9,7 @@ use Rattle.http_cache_policy.specs.Fresh.{HasOneAgeAndDate, RefusesFreshHeaders,
 use Rattle.http_cache_policy.specs.Update.{selects, next_where, next_exchange}
 use Rattle.http_cache_policy.specs.Answer.{is_not_modified, policy_in, parts_in}
 use Rattle.http_cache_policy.proofs.FreshLemmas.{one_age_and_date}
-use Rattle.http_cache_policy.proofs.NextLemmas.{next-made, next-status, next-adds_none, next-body}
+use Rattle.http_cache_policy.proofs.NextLemmas.{next-status, next-adds_none, next-body}
 use Rattle.http_cache_policy.proofs.policy.CachePolicy.after_response.Given as given
 use Rattle.http_cache_policy.proofs.policy.CachePolicy.after_response.Goals as goal
 
@@ -39,9 +39,7 @@ module _ (g : given.Over) (c : goal.After-answer_with g) where
       ∙ (λ i. is_selected (c.response_headers.ensures i) (c.status.ensures i) (c.headers.ensures i))
 
   by_choice : c.in_ok-policy.policy ≡ next_where chosen e request response now
-  by_choice =
-      c.in_ok-policy.ensures.value
-      ∙ next-made chosen e request response now _ c.in_ok-stored.ensures
+  by_choice = c.in_ok-policy.ensures.value
 
   policy-is : c.in_ok-policy.policy ≡ next_exchange e request response now
   policy-is = by_choice ∙ ap (λ b. next_where b e request response now) chosen-is

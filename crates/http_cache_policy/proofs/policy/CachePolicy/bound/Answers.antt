@@ -1,4 +1,4 @@
-use Rattle.std.proofs.Common.{ap, ◌∙◌}
+use Rattle.std.proofs.Common.{◌∙◌}
 use Rattle.http_cache_rules.specs.Asks.{asked_directives}
 use Rattle.http_cache_policy.specs.Bound.{lesser, bound}
 use Rattle.http_cache_policy.proofs.policy.CachePolicy.bound.Goals as goal

@@ -1,4 +1,4 @@
-use Rattle.std.proofs.Common.{◌≡◌, true, false, not, ◌&&◌, ◌||◌, rules, sym, ap, ◌∙◌}
+use Rattle.std.proofs.Common.{◌≡◌, true, not, ◌&&◌, rules, sym, ap, ◌∙◌}
 use Rattle.http_cache_fields.specs.Headers.{headers_of}
 use Rattle.http_cache_rules.specs.Asks.{asks_of, asked_directives, has_no_cache}
 use Rattle.http_cache_policy.specs.Age.{age_at}
