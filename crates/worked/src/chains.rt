@@ -1,5 +1,5 @@
 //! Chains of caches.
-use crate::fixtures::{after, field, request, response};
+use cases::fixtures::{after, field, request, response};
 use http::{request, response};
 use http_cache_semantics::chain::chain;
 use http_cache_semantics::{CacheOptions, CachePolicy};

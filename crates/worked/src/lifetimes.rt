@@ -1,5 +1,5 @@
 //! The lifetimes of responses: the time to live when they come without an age.
-use crate::fixtures::{field, request, response};
+use cases::fixtures::{field, request, response};
 use http_cache_semantics::policy::Fraction;
 use http_cache_semantics::{CacheOptions, CachePolicy};
 use jiff::Timestamp;

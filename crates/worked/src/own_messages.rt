@@ -1,5 +1,5 @@
 //! Requests and responses of one's own.
-use crate::fixtures::{after, policy, request, response};
+use cases::fixtures::{after, policy, request, response};
 use http::{HeaderMap, Method, StatusCode, Uri, Version, request};
 use http_cache_semantics::chain::chain;
 use http_cache_semantics::{

@@ -1,5 +1,5 @@
 //! What is refused, and in which words.
-use crate::fixtures::{after, policy, request, response};
+use cases::fixtures::{after, policy, request, response};
 use http::{HeaderMap, Method, Uri, request, response};
 use http_cache_semantics::{CacheError, CacheOptions, CachePolicy, RequestLike};
 use std::alloc::Global;

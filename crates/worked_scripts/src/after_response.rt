@@ -1,6 +1,7 @@
 //! What is stored after the origin has answered.
-use crate::fixtures::field;
-use crate::scripts::{Exchange, header_lines, receive, stored, tells};
+use crate::answers::{comes_to, tells};
+use cases::fixtures::field;
+use cases::scripts::{Exchange, header_lines, receive, stored, with_further};
 use std::alloc::Global;
 use std::process::Abort;
 use std::test::Fail;
@@ -58,6 +59,36 @@ fn holds(rt: &impl Abort, alloc: Global, case: &str) -> Result<(), Fail> {
 fn policies_after_answers(rt: HostRuntime) -> Result<(), Fail> {
     for case in cases().lines() {
         holds(&rt, rt.alloc(), case)?;
+    }
+    Ok(())
+}
+
+// How many headers the stored response has, the status of the new one, how many further headers it
+// has, its other ones, and what comes of it.
+fn full_cases() -> &'static str {
+    "0|200|24576||end header map full
+     0|200|24575||end header map full
+     0|200|24574||modified status 200
+     0|200|24575|Age: 1|end header map full
+     0|200|24574|Age: 1 ~ Date: x|modified status 200
+     24576|304|0||end header map full
+     24575|304|0||end header map full
+     24574|304|0||not-modified status 200
+     24574|304|24576||not-modified status 200"
+}
+
+fn full_script(alloc: Global, case: &str) -> Result<String, Fail> {
+    let told = with_further(alloc, "", field(case, 0)?)?;
+    let lines = with_further(alloc, field(case, 3)?, field(case, 2)?)?;
+    let step = receive(alloc, field(case, 1)?, lines.as_str(), "0")?;
+    stored(told.as_str()).script(alloc, step.as_str())
+}
+
+#[test]
+fn full_responses(rt: HostRuntime) -> Result<(), Fail> {
+    for case in full_cases().lines() {
+        let script = full_script(rt.alloc(), case)?;
+        comes_to(&rt, rt.alloc(), case, script.as_str(), field(case, 4)?)?;
     }
     Ok(())
 }

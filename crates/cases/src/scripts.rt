@@ -1,14 +1,11 @@
-//! Cases as scripts, whose full answers are told as text.
+//! Cases as scripts.
 //!
 //! A table is a text with one case a line and `|` between its fields. Headers are written
-//! `Name: value`, with `~` between them. A test holds texts alone, which are cheap to prove.
+//! `Name: value`, with `~` between them.
 use crate::fixtures::START;
-use cache_replay::replay::replay;
-use cache_script::script_from_bytes;
 use hex::encode;
 use std::alloc::Global;
 use std::fmt::Write;
-use std::process::Abort;
 use std::test::Fail;
 
 /// A stored exchange, by fields of a case.
@@ -112,30 +109,11 @@ pub fn header_lines(alloc: Global, lines: &str) -> Result<String, Fail> {
     Ok(text)
 }
 
-// The full answer to a script, and how it ended.
-fn answer(alloc: Global, script: &str) -> Result<String, Fail> {
-    let mut text = String::new(alloc);
-    let end = replay(
-        alloc,
-        &mut text,
-        script_from_bytes(alloc, script.as_bytes()),
-    );
-    writeln!(text, "{end}")?;
+/// Headers, and so many further ones.
+pub fn with_further(alloc: Global, lines: &str, count: &str) -> Result<String, Fail> {
+    let mut text = String::from_str(alloc, lines)?;
+    for i in 0..count.parse::<u32>()? {
+        write!(text, " ~ x{i}: 1")?;
+    }
     Ok(text)
-}
-
-/// Asserts that a text stands in the full answer to a script.
-pub fn tells(
-    rt: &impl Abort,
-    alloc: Global,
-    case: &str,
-    script: &str,
-    wanted: &str,
-) -> Result<(), Fail> {
-    let answer = answer(alloc, script)?;
-    assert!(rt;
-        answer.as_str().contains(wanted),
-        "at {case}\nwanted {wanted}\ngot {answer}"
-    );
-    Ok(())
 }

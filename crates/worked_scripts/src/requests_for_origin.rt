@@ -1,8 +1,8 @@
 //! What goes to the origin where the stored response may not be used.
-use crate::fixtures::field;
-use crate::scripts::{Exchange, ask, header_lines, stored, tells};
+use crate::answers::{comes_to, tells};
+use cases::fixtures::field;
+use cases::scripts::{Exchange, ask, header_lines, stored, with_further};
 use std::alloc::Global;
-use std::fmt::Write;
 use std::process::Abort;
 use std::test::Fail;
 
@@ -84,25 +84,16 @@ fn full_cases() -> &'static str {
 }
 
 fn full_script(alloc: Global, case: &str) -> Result<String, Fail> {
-    let mut lines = String::new(alloc);
-    for i in 0..field(case, 0)?.parse::<u32>()? {
-        write!(lines, " ~ x{i}: 1")?;
-    }
+    let lines = with_further(alloc, "", field(case, 0)?)?;
     let step = ask(alloc, "GET", lines.as_str(), "0")?;
     stored(field(case, 1)?).script(alloc, step.as_str())
-}
-
-fn comes_of(rt: &impl Abort, alloc: Global, case: &str) -> Result<(), Fail> {
-    let script = full_script(alloc, case)?;
-    let outcome = field(case, 2)?;
-    let wanted = format!(in alloc; "\n{outcome}\n")?;
-    tells(rt, alloc, case, script.as_str(), wanted.as_str())
 }
 
 #[test]
 fn full_requests(rt: HostRuntime) -> Result<(), Fail> {
     for case in full_cases().lines() {
-        comes_of(&rt, rt.alloc(), case)?;
+        let script = full_script(rt.alloc(), case)?;
+        comes_to(&rt, rt.alloc(), case, script.as_str(), field(case, 2)?)?;
     }
     Ok(())
 }

@@ -3,8 +3,9 @@
 //! The table has a row for each header that is read and each kind of value, and a test that none is
 //! missing. A header with `asked` behind it is one of a request, and with `of a 304` one by which a
 //! response is told.
-use crate::fixtures::field;
-use crate::scripts::{Exchange, ask, header_lines, receive, stored, tells};
+use crate::answers::tells;
+use cases::fixtures::field;
+use cases::scripts::{Exchange, ask, header_lines, receive, stored};
 use std::alloc::Global;
 use std::process::Abort;
 use std::test::Fail;

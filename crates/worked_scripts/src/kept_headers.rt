@@ -1,6 +1,7 @@
 //! What a policy keeps of responses: cargo cult, Pragma, and lifetimes by dates.
-use crate::fixtures::field;
-use crate::scripts::{Exchange, ask, header_lines, stored, tells};
+use crate::answers::tells;
+use cases::fixtures::field;
+use cases::scripts::{Exchange, ask, header_lines, stored};
 use std::alloc::Global;
 use std::process::Abort;
 use std::test::Fail;

@@ -1,5 +1,5 @@
 //! The stored form of a policy, as text.
-use crate::fixtures::{after, field, policy};
+use cases::fixtures::{after, field, policy};
 use http_cache_semantics::CachePolicy;
 use serde_json::Value;
 use std::alloc::Global;

@@ -1,7 +1,7 @@
 //! Whole runs by `replay`, told as text.
-use crate::fixtures::field;
-use crate::scripts::{ask, receive, stored};
 use cache_script::{Script, ScriptStep, script_from_bytes};
+use cases::fixtures::field;
+use cases::scripts::{ask, receive, stored};
 use http_cache_semantics::chain::{Outcome, replay};
 use http_cache_semantics::directives::GetHeaderStr;
 use http_cache_semantics::{BeforeRequest, CachePolicy};

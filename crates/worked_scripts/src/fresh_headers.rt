@@ -1,6 +1,7 @@
 //! What is handed on of a stored response.
-use crate::fixtures::field;
-use crate::scripts::{ask, header_lines, stored, tells};
+use crate::answers::{comes_to, tells};
+use cases::fixtures::field;
+use cases::scripts::{ask, header_lines, stored, with_further};
 use std::alloc::Global;
 use std::fmt::Write;
 use std::process::Abort;
@@ -72,33 +73,17 @@ fn full_cases() -> &'static str {
      24572|Last-Modified: Sat, 23 Sep 2023 00:00:00 GMT ~ Warning: 2|86400000000001|fresh age 86400"
 }
 
-// The stored headers of a case.
-fn full_headers(alloc: Global, case: &str) -> Result<String, Fail> {
-    let mut lines = String::new(alloc);
-    lines.push_str(field(case, 1)?)?;
-    for i in 0..field(case, 0)?.parse::<u32>()? {
-        write!(lines, " ~ x{i}: 1")?;
-    }
-    Ok(lines)
-}
-
 fn full_script(alloc: Global, case: &str) -> Result<String, Fail> {
     let step = ask(alloc, "GET", "Cache-Control: max-stale", field(case, 2)?)?;
-    let lines = full_headers(alloc, case)?;
+    let lines = with_further(alloc, field(case, 1)?, field(case, 0)?)?;
     stored(lines.as_str()).script(alloc, step.as_str())
-}
-
-fn comes_of(rt: &impl Abort, alloc: Global, case: &str) -> Result<(), Fail> {
-    let script = full_script(alloc, case)?;
-    let outcome = field(case, 3)?;
-    let wanted = format!(in alloc; "\n{outcome}\n")?;
-    tells(rt, alloc, case, script.as_str(), wanted.as_str())
 }
 
 #[test]
 fn full_stored_headers(rt: HostRuntime) -> Result<(), Fail> {
     for case in full_cases().lines() {
-        comes_of(&rt, rt.alloc(), case)?;
+        let script = full_script(rt.alloc(), case)?;
+        comes_to(&rt, rt.alloc(), case, script.as_str(), field(case, 3)?)?;
     }
     Ok(())
 }

@@ -1,0 +1,39 @@
+"""Runs built programs with a library in front of them that refuses one of their requests, or tells of each."""
+import subprocess
+import tempfile
+from pathlib import Path
+
+ROOT = Path(__file__).resolve().parent.parent
+
+
+def built(name):
+    """The proved program of a crate, built where it wasn't yet."""
+    subprocess.run([ROOT / "bin/program", name], stdin=subprocess.DEVNULL, capture_output=True)
+    sources = subprocess.run([ROOT / "bin/sources"], capture_output=True, text=True, check=True).stdout.strip()
+    return str(ROOT / "crates" / name / "out/proved" / sources)
+
+
+def library_in(folder):
+    """The library, compiled into a folder."""
+    library = f"{folder}/refuse.so"
+    subprocess.run(["cc", "-O2", "-shared", "-fPIC", "-o", library, ROOT / ".ci/refuse.c"], check=True)
+    return library
+
+
+def ended(command, library, given="", **told):
+    """The status, output and error of a program with the library in front of it."""
+    environment = {"LD_PRELOAD": library, **told}
+    run = subprocess.run(command, input=given, capture_output=True, text=True, timeout=60, env=environment)
+    return run.returncode, run.stdout, run.stderr
+
+
+def requests(command, library, given=""):
+    """The output of a program that meets no refusal, and its requests in order, a line each."""
+    with tempfile.TemporaryFile("w+") as log:
+        number = log.fileno()
+        environment = {"LD_PRELOAD": library, "REFUSE_LOG": str(number)}
+        run = subprocess.run(
+            command, input=given, capture_output=True, text=True, timeout=60, pass_fds=[number], env=environment
+        )
+        log.seek(0)
+        return run.stdout, log.read().splitlines()

@@ -1,0 +1,158 @@
+//! What the answers have to be, worked out by hand. Nothing here takes memory.
+use http::{HeaderMap, request, response};
+use http_cache_semantics::chain::Outcome;
+use http_cache_semantics::directives::{CacheControl, GetHeaderStr};
+use http_cache_semantics::{AfterResponse, BeforeRequest, CachePolicy};
+use jiff::Timestamp;
+use std::time::Duration;
+
+/// What is left of the stored headers in each fresh answer, beside `age`, `date` and `x`.
+const LASTING: [(&str, &str); 5] = [
+    ("cache-control", "max-age=10, a=\"b c\", public"),
+    ("etag", "\"c\""),
+    ("last-modified", "Sat, 23 Sep 2023 00:00:00 GMT"),
+    ("vary", "Accept"),
+    ("warning", "214 - \"x\""),
+];
+
+/// The age, the date and the header `x` of the answer after 5.5 seconds.
+pub const FIVE_SECONDS: (&str, &str, &str) = ("5", "Mon, 01 Jan 2024 00:00:05 +0000", "2");
+
+// After the 304, and nine seconds later.
+const TEN_SECONDS: (&str, &str, &str) = ("0", "Mon, 01 Jan 2024 00:00:10 +0000", "3");
+
+const NINETEEN_SECONDS: (&str, &str, &str) = ("9", "Mon, 01 Jan 2024 00:00:19 +0000", "3");
+
+/// The headers for the origin where the stored response is to be validated.
+pub const VALIDATED: [(&str, &str); 3] = [
+    ("accept", "a"),
+    ("if-modified-since", "Sat, 23 Sep 2023 00:00:00 GMT"),
+    ("if-none-match", "\"z\", \"c\""),
+];
+
+/// Where it may not be stored.
+pub const PLAIN: [(&str, &str); 1] = [("accept", "a")];
+
+/// Where the request doesn't match: all of its own.
+pub const UNMATCHED: [(&str, &str); 2] = [("accept", "b"), ("te", "x")];
+
+fn has(headers: &HeaderMap, name: &str, value: &str) -> bool {
+    headers.get_str(name).is_some_and(|text| text == value)
+}
+
+fn has_all(headers: &HeaderMap, wanted: &[(&str, &str)]) -> bool {
+    wanted.iter().all(|(name, value)| has(headers, name, value))
+}
+
+// The status and the headers of a fresh answer, by those that change.
+fn is_kept(parts: &response::Parts, changes: (&str, &str, &str)) -> bool {
+    let (age, date, x) = changes;
+    let headers = &parts.headers;
+    parts.status.as_u16() == 200
+        && headers.len() == 8
+        && has_all(headers, &LASTING)
+        && has_all(headers, &[("age", age), ("date", date), ("x", x)])
+}
+
+/// Fresh, with these headers that change.
+pub fn is_fresh(answer: &BeforeRequest, changes: (&str, &str, &str)) -> bool {
+    match answer {
+        BeforeRequest::Fresh(parts) => is_kept(parts, changes),
+        BeforeRequest::Stale { .. } => false,
+    }
+}
+
+fn asks(request: &request::Parts, wanted: &[(&str, &str)]) -> bool {
+    request.method.as_str() == "GET"
+        && request.uri.path() == "/a"
+        && request.headers.len() == wanted.len()
+        && has_all(&request.headers, wanted)
+}
+
+/// Stale, with these headers for the origin.
+pub fn is_stale(answer: &BeforeRequest, does_match: bool, wanted: &[(&str, &str)]) -> bool {
+    match answer {
+        BeforeRequest::Fresh(_) => false,
+        BeforeRequest::Stale { request, matches } => {
+            *matches == does_match && asks(request, wanted)
+        }
+    }
+}
+
+// A response of status 500 that came after 20 seconds.
+fn is_modified(parts: &response::Parts) -> bool {
+    let wanted = [
+        ("age", "0"),
+        ("cache-control", "max-age=3"),
+        ("date", "Mon, 01 Jan 2024 00:00:20 +0000"),
+        ("x", "4"),
+    ];
+    parts.status.as_u16() == 500 && parts.headers.len() == 4 && has_all(&parts.headers, &wanted)
+}
+
+/// A policy of which so many nanoseconds have passed and are left.
+pub fn is_at(policy: &CachePolicy, now: Timestamp, age: u64, left: u64) -> bool {
+    policy.is_storable()
+        && policy.age(now) == Duration::from_nanos(age)
+        && policy.time_to_live(now) == Duration::from_nanos(left)
+}
+
+/// A policy that may not be stored, of which so many nanoseconds have passed.
+pub fn is_unstorable_at(policy: &CachePolicy, now: Timestamp, age: u64) -> bool {
+    !policy.is_storable()
+        && policy.age(now) == Duration::from_nanos(age)
+        && policy.time_to_live(now) == Duration::ZERO
+}
+
+/// The policy that comes with what isn't modified.
+pub fn renews(answer: &AfterResponse, now: Timestamp) -> bool {
+    match answer {
+        AfterResponse::NotModified(policy, parts) => {
+            is_at(policy, now, 0, 10_000_000_000) && is_kept(parts, TEN_SECONDS)
+        }
+        AfterResponse::Modified(..) => false,
+    }
+}
+
+/// The policy that comes with what is modified.
+pub fn replaces(answer: &AfterResponse, now: Timestamp) -> bool {
+    match answer {
+        AfterResponse::NotModified(..) => false,
+        AfterResponse::Modified(policy, parts) => {
+            is_unstorable_at(policy, now, 0) && is_modified(parts)
+        }
+    }
+}
+
+/// The directives of the response, with those of cargo cult.
+pub fn are_directives(read: &CacheControl) -> bool {
+    read.len() == 5
+        && read.text("max-age") == Some("10")
+        && read.text("pre-check") == Some("1")
+        && read.text("post-check") == Some("2")
+        && read.text("a") == Some("b c")
+        && read.get("public") == Some(None)
+}
+
+/// What the steps come to, from the policy of the exchange on.
+pub fn are_outcomes(outcomes: &[Outcome]) -> bool {
+    match outcomes {
+        [
+            Outcome::Asked(first),
+            Outcome::Restarted,
+            Outcome::Asked(second),
+            Outcome::NotModified(renewed),
+            Outcome::Asked(third),
+            Outcome::Modified(last),
+            Outcome::Asked(fourth),
+        ] => {
+            is_fresh(first, FIVE_SECONDS)
+                && is_stale(second, true, &VALIDATED)
+                && is_kept(renewed, TEN_SECONDS)
+                && is_fresh(third, NINETEEN_SECONDS)
+                && is_modified(last)
+                && is_stale(fourth, true, &[("accept", "b")])
+        }
+        _ => false,
+    }
+}

@@ -1,0 +1,46 @@
+//! The calls.
+
+/// A call that may take memory.
+#[derive(Clone, Copy, Debug)]
+pub enum Call {
+    New,
+    NewOptions,
+    TryClone,
+    Parse,
+    Format,
+    /// `before_request`, with an answer that is fresh.
+    Fresh,
+    /// `before_request`, where the stored response is to be validated.
+    Validated,
+    /// `before_request`, where the request doesn't match.
+    Unmatched,
+    /// `before_request`, where the response may not be stored.
+    Unstorable,
+    NotModified,
+    Modified,
+    ToValue,
+    FromValue,
+    /// Three caches behind the first one.
+    Chain,
+    /// Steps of each kind.
+    Replay,
+}
+
+/// Each call once.
+pub const CALLS: [Call; 15] = [
+    Call::New,
+    Call::NewOptions,
+    Call::TryClone,
+    Call::Parse,
+    Call::Format,
+    Call::Fresh,
+    Call::Validated,
+    Call::Unmatched,
+    Call::Unstorable,
+    Call::NotModified,
+    Call::Modified,
+    Call::ToValue,
+    Call::FromValue,
+    Call::Chain,
+    Call::Replay,
+];

@@ -1,0 +1,234 @@
+//! The exchange on which the calls are made.
+use crate::answers::{
+    FIVE_SECONDS, PLAIN, UNMATCHED, VALIDATED, are_directives, are_outcomes, is_at, is_fresh,
+    is_stale, is_unstorable_at, renews, replaces,
+};
+use crate::call::Call;
+use cache_script::{Script, Step, Unread, script_from_bytes};
+use http_cache_semantics::chain::{chain, replay};
+use http_cache_semantics::directives::{CacheControl, format_cache_control, parse_cache_control};
+use http_cache_semantics::{AfterResponse, BeforeRequest, CacheError, CachePolicy};
+use jiff::Timestamp;
+use serde_json::Value;
+use std::alloc::Global;
+
+const SCRIPT: &str =
+    r#"{"options":{"shared":true,"cache_heuristic":[1,10],"immutable_min_time_to_live":[86400,0],"ignore_cargo_cult":true},"received":[1704067200,0],"request":{"uri":"/a","method":"GET","headers":[["Accept","a"]]},"response":{"status":200,"headers":[["Cache-Control","max-age=10, pre-check=1, post-check=2, a=\"b c\", public"],["Connection","X-Gone"],["ETag","\"c\""],["Last-Modified","Sat, 23 Sep 2023 00:00:00 GMT"],["Vary","Accept"],["Warning","110 - \"s\", 214 - \"x\""],["X","1"],["X","2"],["X-Gone","1"]]},"steps":[{"ask":{"uri":"/a","method":"GET","headers":[["Accept","a"]]},"at":[1704067205,500000000]},"restart",{"ask":{"uri":"/a","method":"GET","headers":[["Accept","a"],["If-None-Match","\"z\""],["If-Range","y"],["TE","x"]]},"at":[1704067210,0]},{"receive":{"uri":"/a","method":"GET","headers":[["Accept","a"]]},"response":{"status":304,"headers":[["ETag","\"c\""],["X","3"]]},"at":[1704067210,0]},{"ask":{"uri":"/a","method":"GET","headers":[["Accept","a"]]},"at":[1704067219,0]},{"receive":{"uri":"/a","method":"GET","headers":[["Accept","a"]]},"response":{"status":500,"headers":[["Cache-Control","max-age=3"],["X","4"]]},"at":[1704067220,0]},{"ask":{"uri":"/a","method":"GET","headers":[["Accept","b"],["TE","x"]]},"at":[1704067205,0]}]}"#;
+
+/// The stored form of its policy.
+const FORM: &str =
+    r#"{"method":"GET","opts":{"cache_heuristic":[1,10],"ignore_cargo_cult":true,"immutable_min_time_to_live":[86400,0],"shared":true},"req":{"accept":["61"]},"res":{"cache-control":["6d61782d6167653d31302c20613d22622063222c207075626c6963"],"connection":["582d476f6e65"],"etag":["226322"],"last-modified":["5361742c2032332053657020323032332030303a30303a303020474d54"],"vary":["416363657074"],"warning":["313130202d202273222c20323134202d20227822"],"x":["31","32"],"x-gone":["31"]},"response_time":[1704067200,0],"status":200,"uri":"/a"}"#;
+
+/// "private" and "public", as the stored form has them.
+const WORDS: (&str, &str) = ("70726976617465", "7075626c6963");
+
+/// An exchange with a policy of it.
+#[derive(Drop)]
+pub struct Case {
+    script: Script,
+    policy: CachePolicy,
+}
+
+fn script_of(alloc: Global, text: &str) -> Result<Script, CacheError> {
+    match script_from_bytes(alloc, text.as_bytes()) {
+        Ok(script) => Ok(script),
+        Err(Unread::Memory) => Err(CacheError::Memory),
+        Err(Unread::NoScript) => Err(CacheError::Malformed),
+    }
+}
+
+// The script's text; where the response may not be stored, it is private.
+fn text_for(alloc: Global, call: Call) -> Result<String, CacheError> {
+    match call {
+        Call::Unstorable => Ok(SCRIPT.replace(alloc, "public", "private")?),
+        _ => Ok(String::from_str(alloc, SCRIPT)?),
+    }
+}
+
+fn policy_of(alloc: Global, script: &Script) -> Result<CachePolicy, CacheError> {
+    CachePolicy::new_options(
+        alloc,
+        &script.request,
+        &script.response,
+        script.received,
+        script.options,
+    )
+}
+
+fn case_of(alloc: Global, script: Script) -> Result<Case, CacheError> {
+    let policy = policy_of(alloc, &script)?;
+    Ok(Case { script, policy })
+}
+
+// The moment so many nanoseconds after the response.
+fn after(nanos: i128) -> Result<Timestamp, CacheError> {
+    let nanos = 1_704_067_200_000_000_000i128.saturating_add(nanos);
+    Timestamp::from_nanosecond(nanos).map_err(|_| CacheError::Malformed)
+}
+
+// A policy of the exchange lasts ten seconds.
+fn is_right_policy(policy: &CachePolicy) -> Result<bool, CacheError> {
+    let now = after(5_500_000_000)?;
+    Ok(is_at(policy, now, 5_500_000_000, 4_500_000_000))
+}
+
+fn is_right_line(alloc: Global, read: &CacheControl) -> Result<bool, CacheError> {
+    let line = format_cache_control(alloc, read)?;
+    Ok(line.as_str() == "max-age=10, pre-check=1, post-check=2, a=\"b c\", public")
+}
+
+fn is_right_form(alloc: Global, value: &Value) -> Result<bool, CacheError> {
+    let text = value.to_string(alloc)?;
+    let text = text.as_str().replace(alloc, WORDS.0, WORDS.1)?;
+    Ok(text.as_str() == FORM)
+}
+
+fn form(alloc: Global) -> Result<Value, CacheError> {
+    Value::from_str(alloc, FORM).map_err(|e| {
+        if e.is_memory() {
+            CacheError::Memory
+        } else {
+            CacheError::Malformed
+        }
+    })
+}
+
+fn is_right_reading(alloc: Global, value: &Value) -> Result<bool, CacheError> {
+    is_right_policy(&CachePolicy::from_value(alloc, value)?)
+}
+
+impl Case {
+    /// The exchange for a call, and its policy.
+    pub fn new(alloc: Global, call: Call) -> Result<Case, CacheError> {
+        let text = text_for(alloc, call)?;
+        case_of(alloc, script_of(alloc, text.as_str())?)
+    }
+
+    /// Whether the policy has the age and the time to live that it has to have.
+    pub fn is_unchanged(&self, call: Call) -> Result<bool, CacheError> {
+        let now = after(5_500_000_000)?;
+        match call {
+            Call::Unstorable => Ok(is_unstorable_at(&self.policy, now, 5_500_000_000)),
+            _ => is_right_policy(&self.policy),
+        }
+    }
+
+    /// Whether the policy's stored form is the one that it has to be.
+    pub fn is_written_so(&self, alloc: Global) -> Result<bool, CacheError> {
+        is_right_form(alloc, &self.policy.to_value(alloc)?)
+    }
+
+    /// Makes a call, and tells whether its answer is the right one.
+    pub fn is_right(&self, alloc: Global, call: Call) -> Result<bool, CacheError> {
+        match call {
+            Call::New | Call::NewOptions | Call::TryClone | Call::FromValue => {
+                self.makes_policy(alloc, call)
+            }
+            Call::Parse | Call::Format => self.reads_directives(alloc, call),
+            Call::Fresh | Call::Validated | Call::Unmatched | Call::Unstorable => {
+                self.answers(alloc, call)
+            }
+            Call::NotModified => self.renews(alloc),
+            Call::Modified => self.replaces(alloc),
+            Call::ToValue => self.is_written_so(alloc),
+            Call::Chain => self.is_handed_on(alloc),
+            Call::Replay => Ok(are_outcomes(replay(
+                alloc,
+                &self.policy,
+                self.script.steps.as_slice(),
+            )?.as_slice())),
+        }
+    }
+
+    fn makes_policy(&self, alloc: Global, call: Call) -> Result<bool, CacheError> {
+        let script = &self.script;
+        match call {
+            Call::New => is_right_policy(&CachePolicy::new(
+                alloc,
+                &script.request,
+                &script.response,
+                script.received,
+            )?),
+            Call::TryClone => is_right_policy(&self.policy.try_clone(alloc)?),
+            Call::FromValue => is_right_reading(alloc, &form(alloc)?),
+            _ => is_right_policy(&policy_of(alloc, script)?),
+        }
+    }
+
+    fn reads_directives(&self, alloc: Global, call: Call) -> Result<bool, CacheError> {
+        let values = self.script.response.headers.get_all("cache-control");
+        let read = parse_cache_control(alloc, values)?;
+        match call {
+            Call::Format => is_right_line(alloc, &read),
+            _ => Ok(are_directives(&read)),
+        }
+    }
+
+    fn answer_at(&self, alloc: Global, place: usize) -> Result<BeforeRequest, CacheError> {
+        match self.script.steps.get(place) {
+            Some(Step::Ask { request, moment }) => {
+                self.policy.before_request(alloc, request, *moment)
+            }
+            _ => Err(CacheError::Malformed),
+        }
+    }
+
+    fn answers(&self, alloc: Global, call: Call) -> Result<bool, CacheError> {
+        match call {
+            Call::Fresh => Ok(is_fresh(&self.answer_at(alloc, 0)?, FIVE_SECONDS)),
+            Call::Validated => Ok(is_stale(&self.answer_at(alloc, 2)?, true, &VALIDATED)),
+            Call::Unstorable => Ok(is_stale(&self.answer_at(alloc, 2)?, true, &PLAIN)),
+            _ => Ok(is_stale(&self.answer_at(alloc, 6)?, false, &UNMATCHED)),
+        }
+    }
+
+    fn update_at(&self, alloc: Global, place: usize) -> Result<AfterResponse, CacheError> {
+        match self.script.steps.get(place) {
+            Some(
+                Step::Receive {
+                    request,
+                    response,
+                    moment,
+                },
+            ) => self
+                .policy
+                .after_response(alloc, request, response, *moment),
+            _ => Err(CacheError::Malformed),
+        }
+    }
+
+    fn renews(&self, alloc: Global) -> Result<bool, CacheError> {
+        let now = after(10_000_000_000)?;
+        Ok(renews(&self.update_at(alloc, 3)?, now))
+    }
+
+    fn replaces(&self, alloc: Global) -> Result<bool, CacheError> {
+        let now = after(20_000_000_000)?;
+        Ok(replaces(&self.update_at(alloc, 5)?, now))
+    }
+
+    // The fourth cache got an age of 3 seconds at 3.7 s.
+    fn is_handed_on(&self, alloc: Global) -> Result<bool, CacheError> {
+        let script = &self.script;
+        let moments = [
+            after(1_500_000_000)?,
+            after(2_500_000_000)?,
+            after(3_700_000_000)?,
+        ];
+        let now = after(5_000_000_000)?;
+        let caches = chain(
+            alloc,
+            &script.request,
+            &script.response,
+            script.options,
+            script.received,
+            &moments,
+        )?;
+        Ok(
+            caches.len() == 4
+                && caches
+                    .get(3)
+                    .is_some_and(|last| is_at(last, now, 4_300_000_000, 5_700_000_000)),
+        )
+    }
+}

@@ -1,0 +1,96 @@
+//! Makes each call of the library that may take memory, or the one whose place it is given, and names
+//! it. One that is refused is made again, once it is seen that nothing has changed.
+//!
+//! It is for runs with one request for memory refused. Without that, no call is refused.
+#![tactic(auto)]
+
+use growths::{CALLS, Call, Case};
+use http_cache_semantics::CacheError;
+use std::alloc::Global;
+use std::process::ExitCode;
+use std::{env, io};
+
+// How a call went: at once, or after a refusal.
+#[derive(Clone, Copy)]
+enum End {
+    Answered,
+    Refused,
+    // The exchange couldn't be made, so there was no call.
+    Unmade,
+    Wrong,
+}
+
+impl End {
+    fn status(self) -> u8 {
+        match self {
+            End::Answered => 0,
+            End::Wrong => 1,
+            End::Refused => 3,
+            End::Unmade => 4,
+        }
+    }
+}
+
+fn is_as_before(alloc: Global, case: &Case, call: Call) -> Result<bool, CacheError> {
+    Ok(case.is_unchanged(call)? && case.is_written_so(alloc)? && case.is_right(alloc, call)?)
+}
+
+// After a refusal for want of memory: the policy is as it was, and the call is right.
+fn again(alloc: Global, case: &Case, call: Call, e: CacheError) -> End {
+    match (e, is_as_before(alloc, case, call)) {
+        (CacheError::Memory, Ok(true)) => End::Refused,
+        _ => End::Wrong,
+    }
+}
+
+fn made(alloc: Global, case: &Case, call: Call) -> End {
+    match case.is_right(alloc, call) {
+        Ok(true) => End::Answered,
+        Ok(false) => End::Wrong,
+        Err(e) => again(alloc, case, call, e),
+    }
+}
+
+// The exchange is made, the call named, and made.
+fn end_of(rt: &HostRuntime, call: Call) -> End {
+    match Case::new(rt.alloc(), call) {
+        Ok(case) => {
+            let _ = println!(rt; "{call:?}");
+            made(rt.alloc(), &case, call)
+        }
+        Err(CacheError::Memory) => End::Unmade,
+        Err(_) => End::Wrong,
+    }
+}
+
+// At most one request is refused, so at most one call ends otherwise than at once.
+fn end_of_all(rt: &HostRuntime) -> End {
+    for call in CALLS {
+        let end = end_of(rt, call);
+        if end.status() != 0 {
+            return end;
+        }
+    }
+    End::Answered
+}
+
+// The word behind the program's name, as a number.
+fn place(rt: &HostRuntime) -> io::Result<Option<usize>> {
+    let mut words = env::args(rt)?;
+    let _program = words.next();
+    Ok(words.next().and_then(|word| word.as_str().parse().ok()))
+}
+
+fn run(rt: &HostRuntime) -> End {
+    match place(rt) {
+        Ok(None) => end_of_all(rt),
+        Ok(Some(place)) => CALLS
+            .get(place)
+            .map_or(End::Wrong, |call| end_of(rt, *call)),
+        Err(_) => End::Unmade,
+    }
+}
+
+fn main(rt: HostRuntime) -> ExitCode {
+    ExitCode::from(run(&rt).status())
+}
