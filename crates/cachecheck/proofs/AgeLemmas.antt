@@ -1,12 +1,11 @@
 -- Each stored response that a run uses has an age.
-use Rattle.std.proofs.Common.{◌≡◌, ℕ, ℤ, ◌<◌, ◌/◌, ◌^◌, List, [], ◌∷◌, map, Some, is_some, slice_get, option_and_then, codes, sym, ap, ◌∙◌, subst, arith}
+use Rattle.std.proofs.Common.{◌≡◌, ℤ, ◌<◌, ◌/◌, ◌^◌, List, [], ◌∷◌, map, Some, is_some, slice_get, option_and_then, codes, sym, ap, ◌∙◌, subst, arith}
 use Rattle.std.specs.List.{AllByRecursion}
-use Rattle.http.specs.declared.response.Parts.{Parts}
 use Rattle.http_cache_semantics.specs.Headers.{Headers, headers_of, first_text}
 use Rattle.http_cache_semantics.specs.Text.{text_of}
 use Rattle.http_cache_semantics.specs.Exchange.{Exchange}
 use Rattle.http_cache_semantics.specs.Age.{age_at}
-use Rattle.http_cache_semantics.specs.Fresh.{IsFreshParts, HasOneAgeAndDate, age_text}
+use Rattle.http_cache_semantics.specs.Fresh.{HasOneAgeAndDate, age_text}
 use Rattle.http_cache_semantics.specs.Steps.{StepSeen, asks, receives, restarts, outcome_seen}
 use Rattle.http_cache_semantics.specs.Run.{IsStepOf, IsRun}
 use Rattle.http_cache_policy.specs.declared.before.BeforeRequest.TheVariants.{Fresh, Stale}

@@ -1,4 +1,4 @@
-use Rattle.std.proofs.Common.{rules, string_bytes, arith}
+use Rattle.std.proofs.Common.{string_bytes, arith}
 use Rattle.cachecheck.proofs.JoinLemmas.{age_at_place, one_more}
 use Rattle.cachecheck.proofs.lines.lines_of.Goals as goal
 
