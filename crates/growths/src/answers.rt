@@ -30,6 +30,13 @@ pub const VALIDATED: [(&str, &str); 3] = [
     ("if-none-match", "\"z\", \"c\""),
 ];
 
+/// Where a HEAD doesn't match it.
+pub const UNMATCHED_HEAD: [(&str, &str); 3] = [
+    ("accept", "b"),
+    ("if-modified-since", "Sat, 23 Sep 2023 00:00:00 GMT"),
+    ("if-none-match", "\"c\""),
+];
+
 /// Where it may not be stored.
 pub const PLAIN: [(&str, &str); 1] = [("accept", "a")];
 
@@ -145,6 +152,7 @@ pub fn are_outcomes(outcomes: &[Outcome]) -> bool {
             Outcome::Asked(third),
             Outcome::Modified(last),
             Outcome::Asked(fourth),
+            Outcome::Asked(fifth),
         ] => {
             is_fresh(first, FIVE_SECONDS)
                 && is_stale(second, true, &VALIDATED)
@@ -152,6 +160,51 @@ pub fn are_outcomes(outcomes: &[Outcome]) -> bool {
                 && is_fresh(third, NINETEEN_SECONDS)
                 && is_modified(last)
                 && is_stale(fourth, true, &[("accept", "b")])
+                && is_stale(fifth, false, &[("accept", "b")])
+        }
+        _ => false,
+    }
+}
+
+// A response with these headers and no others.
+fn is_answered(parts: &response::Parts, status: u16, wanted: &[(&str, &str)]) -> bool {
+    parts.status.as_u16() == status
+        && parts.headers.len() == wanted.len()
+        && has_all(&parts.headers, wanted)
+}
+
+// The stored response of the example, with its age and its date.
+fn is_example(parts: &response::Parts, age: &str, date: &str) -> bool {
+    let wanted = [("age", age), ("cache-control", "max-age=10"), ("date", date)];
+    is_answered(parts, 200, &wanted)
+}
+
+fn is_fresh_example(answer: &BeforeRequest, age: &str, date: &str) -> bool {
+    match answer {
+        BeforeRequest::Fresh(parts) => is_example(parts, age, date),
+        BeforeRequest::Stale { .. } => false,
+    }
+}
+
+/// What the steps of the longest example come to.
+pub fn are_outcomes_of_example(outcomes: &[Outcome]) -> bool {
+    match outcomes {
+        [
+            Outcome::Asked(first),
+            Outcome::Restarted,
+            Outcome::Asked(second),
+            Outcome::NotModified(renewed),
+            Outcome::Asked(third),
+            Outcome::Modified(last),
+        ] => {
+            is_fresh_example(first, "5", "Mon, 01 Jan 2024 00:00:05 +0000")
+                && is_stale(second, true, &[])
+                && is_example(renewed, "0", "Mon, 01 Jan 2024 00:00:10 +0000")
+                && is_fresh_example(third, "9", "Mon, 01 Jan 2024 00:00:19 +0000")
+                && is_answered(last, 500, &[
+                    ("age", "0"),
+                    ("date", "Mon, 01 Jan 2024 00:00:20 +0000"),
+                ])
         }
         _ => false,
     }

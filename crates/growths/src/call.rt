@@ -14,6 +14,8 @@ pub enum Call {
     Validated,
     /// `before_request`, where the request doesn't match.
     Unmatched,
+    /// The same for a HEAD, whose request validates.
+    UnmatchedHead,
     /// `before_request`, where the response may not be stored.
     Unstorable,
     NotModified,
@@ -24,10 +26,12 @@ pub enum Call {
     Chain,
     /// Steps of each kind.
     Replay,
+    /// The steps of the longest example.
+    ReplayExample,
 }
 
 /// Each call once.
-pub const CALLS: [Call; 15] = [
+pub const CALLS: [Call; 17] = [
     Call::New,
     Call::NewOptions,
     Call::TryClone,
@@ -36,6 +40,7 @@ pub const CALLS: [Call; 15] = [
     Call::Fresh,
     Call::Validated,
     Call::Unmatched,
+    Call::UnmatchedHead,
     Call::Unstorable,
     Call::NotModified,
     Call::Modified,
@@ -43,4 +48,5 @@ pub const CALLS: [Call; 15] = [
     Call::FromValue,
     Call::Chain,
     Call::Replay,
+    Call::ReplayExample,
 ];

@@ -1,7 +1,7 @@
 //! The exchange on which the calls are made.
 use crate::answers::{
-    FIVE_SECONDS, PLAIN, UNMATCHED, VALIDATED, are_directives, are_outcomes, is_at, is_fresh,
-    is_stale, is_unstorable_at, renews, replaces,
+    FIVE_SECONDS, PLAIN, UNMATCHED, UNMATCHED_HEAD, VALIDATED, are_directives, are_outcomes,
+    are_outcomes_of_example, is_at, is_fresh, is_stale, is_unstorable_at, renews, replaces,
 };
 use crate::call::Call;
 use cache_script::{Script, Step, Unread, script_from_bytes};
@@ -13,9 +13,17 @@ use serde_json::Value;
 use std::alloc::Global;
 
 const SCRIPT: &str =
-    r#"{"options":{"shared":true,"cache_heuristic":[1,10],"immutable_min_time_to_live":[86400,0],"ignore_cargo_cult":true},"received":[1704067200,0],"request":{"uri":"/a","method":"GET","headers":[["Accept","a"]]},"response":{"status":200,"headers":[["Cache-Control","max-age=10, pre-check=1, post-check=2, a=\"b c\", public"],["Connection","X-Gone"],["ETag","\"c\""],["Last-Modified","Sat, 23 Sep 2023 00:00:00 GMT"],["Vary","Accept"],["Warning","110 - \"s\", 214 - \"x\""],["X","1"],["X","2"],["X-Gone","1"]]},"steps":[{"ask":{"uri":"/a","method":"GET","headers":[["Accept","a"]]},"at":[1704067205,500000000]},"restart",{"ask":{"uri":"/a","method":"GET","headers":[["Accept","a"],["If-None-Match","\"z\""],["If-Range","y"],["TE","x"]]},"at":[1704067210,0]},{"receive":{"uri":"/a","method":"GET","headers":[["Accept","a"]]},"response":{"status":304,"headers":[["ETag","\"c\""],["X","3"]]},"at":[1704067210,0]},{"ask":{"uri":"/a","method":"GET","headers":[["Accept","a"]]},"at":[1704067219,0]},{"receive":{"uri":"/a","method":"GET","headers":[["Accept","a"]]},"response":{"status":500,"headers":[["Cache-Control","max-age=3"],["X","4"]]},"at":[1704067220,0]},{"ask":{"uri":"/a","method":"GET","headers":[["Accept","b"],["TE","x"]]},"at":[1704067205,0]}]}"#;
+    r#"{"options":{"shared":true,"cache_heuristic":[1,10],"immutable_min_time_to_live":[86400,0],"ignore_cargo_cult":true},"received":[1704067200,0],"request":{"uri":"/a","method":"GET","headers":[["Accept","a"]]},"response":{"status":200,"headers":[["Cache-Control","max-age=10, pre-check=1, post-check=2, a=\"b c\", public"],["Connection","X-Gone"],["ETag","\"c\""],["Last-Modified","Sat, 23 Sep 2023 00:00:00 GMT"],["Vary","Accept"],["Warning","110 - \"s\", 214 - \"x\""],["X","1"],["X","2"],["X-Gone","1"]]},"steps":[{"ask":{"uri":"/a","method":"GET","headers":[["Accept","a"]]},"at":[1704067205,500000000]},"restart",{"ask":{"uri":"/a","method":"GET","headers":[["Accept","a"],["If-None-Match","\"z\""],["If-Range","y"],["TE","x"]]},"at":[1704067210,0]},{"receive":{"uri":"/a","method":"GET","headers":[["Accept","a"]]},"response":{"status":304,"headers":[["ETag","\"c\""],["X","3"]]},"at":[1704067210,0]},{"ask":{"uri":"/a","method":"GET","headers":[["Accept","a"]]},"at":[1704067219,0]},{"receive":{"uri":"/a","method":"GET","headers":[["Accept","a"]]},"response":{"status":500,"headers":[["Cache-Control","max-age=3"],["X","4"]]},"at":[1704067220,0]},{"ask":{"uri":"/a","method":"GET","headers":[["Accept","b"],["TE","x"]]},"at":[1704067205,0]},{"ask":{"uri":"/a","method":"HEAD","headers":[["Accept","b"],["TE","x"]]},"at":[1704067205,0]}]}"#;
+
+/// The longest example.
+const EXAMPLE: &str =
+    r#"{"options":{"shared":true,"cache_heuristic":[1,10],"immutable_min_time_to_live":[86400,0],"ignore_cargo_cult":false},"received":[1704067200,0],"request":{"uri":"/a","method":"GET","headers":[]},"response":{"status":200,"headers":[["Cache-Control","max-age=10"]]},"steps":[{"ask":{"uri":"/a","method":"GET","headers":[]},"at":[1704067205,500000000]},"restart",{"ask":{"uri":"/a","method":"GET","headers":[]},"at":[1704067210,0]},{"receive":{"uri":"/a","method":"GET","headers":[]},"response":{"status":304,"headers":[]},"at":[1704067210,0]},{"ask":{"uri":"/a","method":"GET","headers":[]},"at":[1704067219,0]},{"receive":{"uri":"/b","method":"GET","headers":[]},"response":{"status":500,"headers":[]},"at":[1704067220,0]}]}"#;
 
 /// The stored form of its policy.
+const EXAMPLE_FORM: &str =
+    r#"{"method":"GET","opts":{"cache_heuristic":[1,10],"ignore_cargo_cult":false,"immutable_min_time_to_live":[86400,0],"shared":true},"req":{},"res":{"cache-control":["6d61782d6167653d3130"]},"response_time":[1704067200,0],"status":200,"uri":"/a"}"#;
+
+/// The stored form of the first one's policy.
 const FORM: &str =
     r#"{"method":"GET","opts":{"cache_heuristic":[1,10],"ignore_cargo_cult":true,"immutable_min_time_to_live":[86400,0],"shared":true},"req":{"accept":["61"]},"res":{"cache-control":["6d61782d6167653d31302c20613d22622063222c207075626c6963"],"connection":["582d476f6e65"],"etag":["226322"],"last-modified":["5361742c2032332053657020323032332030303a30303a303020474d54"],"vary":["416363657074"],"warning":["313130202d202273222c20323134202d20227822"],"x":["31","32"],"x-gone":["31"]},"response_time":[1704067200,0],"status":200,"uri":"/a"}"#;
 
@@ -41,6 +49,7 @@ fn script_of(alloc: Global, text: &str) -> Result<Script, CacheError> {
 fn text_for(alloc: Global, call: Call) -> Result<String, CacheError> {
     match call {
         Call::Unstorable => Ok(SCRIPT.replace(alloc, "public", "private")?),
+        Call::ReplayExample => Ok(String::from_str(alloc, EXAMPLE)?),
         _ => Ok(String::from_str(alloc, SCRIPT)?),
     }
 }
@@ -60,8 +69,8 @@ fn case_of(alloc: Global, script: Script) -> Result<Case, CacheError> {
     Ok(Case { script, policy })
 }
 
-// The moment so many nanoseconds after the response.
-fn after(nanos: i128) -> Result<Timestamp, CacheError> {
+/// The moment so many nanoseconds after the response.
+pub(crate) fn after(nanos: i128) -> Result<Timestamp, CacheError> {
     let nanos = 1_704_067_200_000_000_000i128.saturating_add(nanos);
     Timestamp::from_nanosecond(nanos).map_err(|_| CacheError::Malformed)
 }
@@ -80,10 +89,11 @@ fn is_right_line(alloc: Global, read: &CacheControl) -> Result<bool, CacheError>
 fn is_right_form(alloc: Global, value: &Value) -> Result<bool, CacheError> {
     let text = value.to_string(alloc)?;
     let text = text.as_str().replace(alloc, WORDS.0, WORDS.1)?;
-    Ok(text.as_str() == FORM)
+    Ok(text.as_str() == FORM || text.as_str() == EXAMPLE_FORM)
 }
 
-fn form(alloc: Global) -> Result<Value, CacheError> {
+/// The stored form of the policy.
+pub(crate) fn form(alloc: Global) -> Result<Value, CacheError> {
     Value::from_str(alloc, FORM).map_err(|e| {
         if e.is_memory() {
             CacheError::Memory
@@ -102,6 +112,24 @@ impl Case {
     pub fn new(alloc: Global, call: Call) -> Result<Case, CacheError> {
         let text = text_for(alloc, call)?;
         case_of(alloc, script_of(alloc, text.as_str())?)
+    }
+
+    /// The exchange, with a response that varies by a name of 200 letters too.
+    pub(crate) fn varied(alloc: Global) -> Result<Case, CacheError> {
+        let name = "n".repeat(alloc, 200)?;
+        let names = format!(in alloc; "\"Vary\",\"Accept, {name}\"")?;
+        let text = SCRIPT.replace(alloc, "\"Vary\",\"Accept\"", names.as_str())?;
+        case_of(alloc, script_of(alloc, text.as_str())?)
+    }
+
+    /// The script of the exchange.
+    pub(crate) fn script(&self) -> &Script {
+        &self.script
+    }
+
+    /// The policy of the exchange.
+    pub(crate) fn policy(&self) -> &CachePolicy {
+        &self.policy
     }
 
     /// Whether the policy has the age and the time to live that it has to have.
@@ -125,18 +153,24 @@ impl Case {
                 self.makes_policy(alloc, call)
             }
             Call::Parse | Call::Format => self.reads_directives(alloc, call),
-            Call::Fresh | Call::Validated | Call::Unmatched | Call::Unstorable => {
-                self.answers(alloc, call)
-            }
+            Call::Fresh
+            | Call::Validated
+            | Call::Unmatched
+            | Call::UnmatchedHead
+            | Call::Unstorable => self.answers(alloc, call),
             Call::NotModified => self.renews(alloc),
             Call::Modified => self.replaces(alloc),
             Call::ToValue => self.is_written_so(alloc),
             Call::Chain => self.is_handed_on(alloc),
-            Call::Replay => Ok(are_outcomes(replay(
-                alloc,
-                &self.policy,
-                self.script.steps.as_slice(),
-            )?.as_slice())),
+            Call::Replay | Call::ReplayExample => self.runs(alloc, call),
+        }
+    }
+
+    fn runs(&self, alloc: Global, call: Call) -> Result<bool, CacheError> {
+        let outcomes = replay(alloc, &self.policy, self.script.steps.as_slice())?;
+        match call {
+            Call::ReplayExample => Ok(are_outcomes_of_example(outcomes.as_slice())),
+            _ => Ok(are_outcomes(outcomes.as_slice())),
         }
     }
 
@@ -164,7 +198,8 @@ impl Case {
         }
     }
 
-    fn answer_at(&self, alloc: Global, place: usize) -> Result<BeforeRequest, CacheError> {
+    /// What the policy answers to the request of a step.
+    pub(crate) fn answer_at(&self, alloc: Global, place: usize) -> Result<BeforeRequest, CacheError> {
         match self.script.steps.get(place) {
             Some(Step::Ask { request, moment }) => {
                 self.policy.before_request(alloc, request, *moment)
@@ -178,6 +213,9 @@ impl Case {
             Call::Fresh => Ok(is_fresh(&self.answer_at(alloc, 0)?, FIVE_SECONDS)),
             Call::Validated => Ok(is_stale(&self.answer_at(alloc, 2)?, true, &VALIDATED)),
             Call::Unstorable => Ok(is_stale(&self.answer_at(alloc, 2)?, true, &PLAIN)),
+            Call::UnmatchedHead => {
+                Ok(is_stale(&self.answer_at(alloc, 7)?, false, &UNMATCHED_HEAD))
+            }
             _ => Ok(is_stale(&self.answer_at(alloc, 6)?, false, &UNMATCHED)),
         }
     }

@@ -22,7 +22,8 @@ use std::alloc::{AllocError, Global};
 pub enum AfterResponse {
     /// The stored body still holds, under these headers.
     NotModified(CachePolicy, response::Parts),
-    /// The body is that of the new response.
+    /// The body is that of the new response. It may be one that can't be stored: `is_storable` of
+    /// the policy says so.
     Modified(CachePolicy, response::Parts),
 }
 
@@ -53,7 +54,8 @@ fn answer_with(
 impl CachePolicy {
     /// The policy after a response came for a request, and its headers as they go to the client
     /// (RFC 7234, section 4.3.4). `NotModified` comes exactly where the response is a 304 that the
-    /// validators tell to be of the stored response.
+    /// validators tell to be of the stored response. It is for a request that matched: the response
+    /// to another one makes a policy of its own.
     ///
     /// `HeaderMapFull` comes where `warning`, `age` or `date` has to be added to headers that are
     /// full, and `DateNotPrintable` where the moment is earlier than 1900.

@@ -1,5 +1,5 @@
 -- How a chain of caches is built, one cache at a time.
-use Rattle.std.proofs.Common.{◌≡◌, ◌<◌, ◌≤◌, ◌+◌, ◌-◌, ℕ, ℤ, true, false, List, [], ◌∷◌, ◌++◌, map, drop, Some, slice_get, get_or, suc, length, refl, sym, ap, subst, ◌∙◌, inl, inr, append_assoc, arith, length-append, length-drop, drop-cons}
+use Rattle.std.proofs.Common.{◌≡◌, ◌<◌, ◌≤◌, ◌+◌, ◌-◌, ℕ, ℤ, true, false, List, [], ◌∷◌, ◌++◌, map, drop, Some, slice_get, get_or, suc, length, refl, sym, ap, subst, ◌∙◌, inl, inr, true≢false, append_assoc, arith, length-append, length-drop, drop-cons}
 use Rattle.std.proofs.lemmas.List.{drop-map, nil_from_length, length-map}
 use Rattle.std.proofs.Math.Seq.{get_or-append_seam}
 use Rattle.jiff.specs.declared.timestamp.Timestamp.{Timestamp}
@@ -11,6 +11,7 @@ use Rattle.http_cache_policy.specs.Verdict.{is_fresh_for}
 use Rattle.http_cache_policy.specs.Refused.{RefusesAnswer, HasUndatedAnswer}
 use Rattle.http_cache_semantics.specs.Chain.{first_kept, IsHandedOn, Follow, IsChain, IsFor, Meets, nanoseconds}
 use Rattle.http_cache_semantics.specs.ChainLaws.{IsAt, ForEach, NeverGoDown, HasReceived, IsAgedLike, IsExplicit, SaysLike, ExpiresLike}
+use Rattle.http_cache_semantics.proofs.ChainUniqueLemmas.{handed_on-unique}
 use Rattle.http_cache_semantics.proofs.ChainAgeLemmas.{received-along_chain, ages-along_chain}
 use Rattle.http_cache_semantics.proofs.ChainLifeLemmas.{says-along_chain, expires-along_chain}
 
@@ -40,6 +41,8 @@ pub record HasReached (request : RequestSeen) (first : Exchange) (moments rest :
   pub goes_on : (behind : List Exchange) → Follow request last rest behind → IsChain request first moments (reached ++ behind)
   pub refused : Meets RefusesAnswer request last rest → Meets RefusesAnswer request first moments
   pub undated : Meets HasUndatedAnswer request last rest → Meets HasUndatedAnswer request first moments
+  pub refused_later : Meets RefusesAnswer request first moments → Meets RefusesAnswer request last rest
+  pub undated_later : Meets HasUndatedAnswer request first moments → Meets HasUndatedAnswer request last rest
 
 no_more : (reached : List Exchange) → reached ++ [] ≡ reached
 no_more [] = refl
@@ -56,6 +59,8 @@ module _ (request : RequestSeen) (first : Exchange) (moments : List ℤ) where
     goes_on = λ behind follow. record { behind = behind; are = refl; follow = follow };
     refused = λ met. met;
     undated = λ met. met;
+    refused_later = λ met. met;
+    undated_later = λ met. met;
   }
 
   -- there is one, and it is the last
@@ -115,6 +120,19 @@ drop-nanoseconds_past : (moments : List Timestamp) (place : ℕ) → length mome
 drop-nanoseconds_past moments place past =
     nil_from_length (drop place (nanoseconds moments)) (omega (arith, length-drop place (nanoseconds moments), length-map moments (λ (t : Timestamp). t.nanosecond)))
 
+-- a refusal behind a cache that hands its answer on without one is that of a cache behind it
+later : (P : Exchange → RequestSeen → ℤ → Type 0) (request : RequestSeen) (e : Exchange) (now : ℤ) (moments : List ℤ) (next : Exchange)
+    → ¬ (P e request now) → IsHandedOn e now next → Meets P request e (now ∷ moments) → Meets P request next moments
+later P request e now moments next none handed (inl here) = absurd (none here)
+later P request e now moments next none handed (inr (other, met, on, more)) =
+    subst (λ (x : Exchange). Meets P request x moments) (handed_on-unique e now other next on handed) more
+
+-- a cache that has no fresh answer is the last that can refuse one
+nowhere : (P : Exchange → RequestSeen → ℤ → Type 0) (request : RequestSeen) (e : Exchange) (now : ℤ) (moments : List ℤ)
+    → ¬ (P e request now) → is_fresh_for e request now ≡ false → ¬ (Meets P request e (now ∷ moments))
+nowhere P request e now moments none stale (inl here) = none here
+nowhere P request e now moments none stale (inr (next, met, on, more)) = true≢false (sym met ∙ stale)
+
 -- ---- a turn: the request asks the last cache, which keeps e, at a moment m
 
 module _ (request : RequestSeen) (first : Exchange) (moments : List Timestamp) (place : ℕ) (m : Timestamp)
@@ -141,15 +159,31 @@ module _ (request : RequestSeen) (first : Exchange) (moments : List Timestamp) (
   turn-undated cause = before.undated (inl (subst (λ (x : Exchange). HasUndatedAnswer x request now) last-is cause))
 
   -- or have no fresh answer
+  stale-last : is_fresh_for e request now ≡ false → is_fresh_for before.last request now ≡ false
+  stale-last stale = subst (λ (x : Exchange). is_fresh_for x request now ≡ false) last-is stale
+
   pub turn-stops : is_fresh_for e request now ≡ false → IsChain request first (nanoseconds moments) reached
-  turn-stops stale =
-      whole request first (nanoseconds moments) (now ∷ rest) reached before
-      (subst (λ (x : Exchange). is_fresh_for x request now ≡ false) last-is stale)
+  turn-stops stale = whole request first (nanoseconds moments) (now ∷ rest) reached before (stale-last stale)
+
+  has_room : ¬ (RefusesAnswer e request now) → ¬ (RefusesAnswer before.last request now)
+  has_room none = subst (λ (x : Exchange). ¬ (RefusesAnswer x request now)) last-is none
+
+  has_date : ¬ (HasUndatedAnswer e request now) → ¬ (HasUndatedAnswer before.last request now)
+  has_date none = subst (λ (x : Exchange). ¬ (HasUndatedAnswer x request now)) last-is none
+
+  pub turn-stops_unrefused : is_fresh_for e request now ≡ false → ¬ (RefusesAnswer e request now) → ¬ (Meets RefusesAnswer request first (nanoseconds moments))
+  turn-stops_unrefused stale none = λ met.
+      nowhere RefusesAnswer request before.last now rest (has_room none) (stale-last stale) (before.refused_later met)
+
+  pub turn-stops_dated : is_fresh_for e request now ≡ false → ¬ (HasUndatedAnswer e request now) → ¬ (Meets HasUndatedAnswer request first (nanoseconds moments))
+  turn-stops_dated stale none = λ met.
+      nowhere HasUndatedAnswer request before.last now rest (has_date none) (stale-last stale) (before.undated_later met)
 
   -- or hand its answer on
   pub turn-next : (next : Exchange) → is_fresh_for e request now ≡ true → IsHandedOn e now next
+      → ¬ (RefusesAnswer e request now) → ¬ (HasUndatedAnswer e request now)
       → HasReached request first (nanoseconds moments) rest (reached ++ next ∷ [])
-  turn-next next fresh handed =
+  turn-next next fresh handed room dated =
       let met = subst (λ (x : Exchange). is_fresh_for x request now ≡ true) last-is fresh in
       let on = subst (λ (x : Exchange). IsHandedOn x now next) last-is handed in
       record {
@@ -160,6 +194,8 @@ module _ (request : RequestSeen) (first : Exchange) (moments : List Timestamp) (
         goes_on = λ behind follow. subst (IsChain request first (nanoseconds moments)) (sym (append_assoc reached (next ∷ []) behind)) (before.goes_on (next ∷ behind) (met, on, follow));
         refused = λ more. before.refused (inr (next, met, on, more));
         undated = λ more. before.undated (inr (next, met, on, more));
+        refused_later = λ more. later RefusesAnswer request before.last now rest next (has_room room) on (before.refused_later more);
+        undated_later = λ more. later HasUndatedAnswer request before.last now rest next (has_date dated) on (before.undated_later more);
       }
 
 -- no moment is left
@@ -168,3 +204,14 @@ pub turns-end : (request : RequestSeen) (first : Exchange) (moments : List Times
 turns-end request first moments place past reached so_far =
     whole request first (nanoseconds moments) [] reached
     (subst (λ (ms : List ℤ). HasReached request first (nanoseconds moments) ms reached) (drop-nanoseconds_past moments place past) so_far) refl
+
+-- and no cache has refused
+pub turns-end_unrefused : (request : RequestSeen) (first : Exchange) (moments : List Timestamp) (place : ℕ) → length moments ≤ place → (reached : List Exchange)
+    → HasReached request first (nanoseconds moments) (drop place (nanoseconds moments)) reached → ¬ (Meets RefusesAnswer request first (nanoseconds moments))
+turns-end_unrefused request first moments place past reached so_far = λ met.
+    subst (λ (ms : List ℤ). Meets RefusesAnswer request so_far.last ms) (drop-nanoseconds_past moments place past) (so_far.refused_later met)
+
+pub turns-end_dated : (request : RequestSeen) (first : Exchange) (moments : List Timestamp) (place : ℕ) → length moments ≤ place → (reached : List Exchange)
+    → HasReached request first (nanoseconds moments) (drop place (nanoseconds moments)) reached → ¬ (Meets HasUndatedAnswer request first (nanoseconds moments))
+turns-end_dated request first moments place past reached so_far = λ met.
+    subst (λ (ms : List ℤ). Meets HasUndatedAnswer request so_far.last ms) (drop-nanoseconds_past moments place past) (so_far.undated_later met)

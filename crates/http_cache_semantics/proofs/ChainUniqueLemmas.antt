@@ -8,7 +8,7 @@ use Rattle.http_cache_semantics.specs.Chain.{IsHandedOn, Follow, IsChain}
 use Rattle.http_cache_semantics.proofs.FreshUniqueLemmas.{IsFreshHeaders-unique}
 
 -- a cache hands one exchange on at a moment
-handed_on-unique : (e : Exchange) (now : ℤ) (x y : Exchange) → IsHandedOn e now x → IsHandedOn e now y → x ≡ y
+pub handed_on-unique : (e : Exchange) (now : ℤ) (x y : Exchange) → IsHandedOn e now x → IsHandedOn e now y → x ≡ y
 handed_on-unique e now x y a b =
     a.is_kept
     ∙ ap (λ (h : Headers). kept_exchange (record e { response_headers = h; response_time = now })) (IsFreshHeaders-unique e now a.headers b.headers a.are_fresh b.are_fresh)

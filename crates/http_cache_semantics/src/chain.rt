@@ -195,6 +195,10 @@ fn hand_on<Req: RequestLike>(
         (is_fresh_for policy.now (Req.seen req.now) moment.nanosecond ≡ false)
         (λ n. (is_fresh_for policy.now (Req.seen req.now) moment.nanosecond ≡ true)
         × IsHandedOn policy.now moment.nanosecond n)) }
+    ensures room { IfOk result (λ _.
+        ¬ (RefusesAnswer policy.now (Req.seen req.now) moment.nanosecond)) }
+    ensures dated { IfOk result (λ _.
+        ¬ (HasUndatedAnswer policy.now (Req.seen req.now) moment.nanosecond)) }
     ensures full { IsErrOf result CacheError.HeaderMapFull
         → RefusesAnswer policy.now (Req.seen req.now) moment.nanosecond }
     ensures unprintable { IsErrOf result CacheError.DateNotPrintable
@@ -249,6 +253,12 @@ pub fn chain<Req: RequestLike, Res: ResponseLike>(
     ensures lifetimes { IfOk result (λ policies.
         NeverGoDown received.nanosecond (nanoseconds moments.now)
         → ForEach policies.items (λ first place e. IsExplicit first → ExpiresLike first place e)) }
+    ensures room { IfOk result (λ _. ¬ (Meets RefusesAnswer (Req.seen req.now)
+        (first_kept (Req.seen req.now) (Res.seen res.now) (options_of opts) received.nanosecond)
+        (nanoseconds moments.now))) }
+    ensures dated { IfOk result (λ _. ¬ (Meets HasUndatedAnswer (Req.seen req.now)
+        (first_kept (Req.seen req.now) (Res.seen res.now) (options_of opts) received.nanosecond)
+        (nanoseconds moments.now))) }
     ensures full { IsErrOf result CacheError.HeaderMapFull
         → Meets RefusesAnswer (Req.seen req.now)
         (first_kept (Req.seen req.now) (Res.seen res.now) (options_of opts) received.nanosecond)

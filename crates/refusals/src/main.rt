@@ -1,10 +1,11 @@
-//! Makes each call of the library that may take memory, or the one whose place it is given, and names
-//! it. One that is refused is made again, once it is seen that nothing has changed.
+//! Makes each call of the library, or the one whose place it is given, and names it: those that may
+//! take memory, and behind them those that take none. One that is refused is made again, once it is
+//! seen that nothing has changed.
 //!
 //! It is for runs with one request for memory refused. Without that, no call is refused.
 #![tactic(auto)]
 
-use growths::{CALLS, Call, Case};
+use growths::{CALLS, Call, Case, LOOKS, Look, Sight};
 use http_cache_semantics::CacheError;
 use std::alloc::Global;
 use std::process::ExitCode;
@@ -63,6 +64,22 @@ fn end_of(rt: &HostRuntime, call: Call) -> End {
     }
 }
 
+// What is looked at is made, the call named, and made.
+fn end_of_look(rt: &HostRuntime, look: Look) -> End {
+    match Sight::new(rt.alloc(), look) {
+        Ok(sight) => {
+            let _ = println!(rt; "{look:?}");
+            if sight.is_right(look) {
+                End::Answered
+            } else {
+                End::Wrong
+            }
+        }
+        Err(CacheError::Memory) => End::Unmade,
+        Err(_) => End::Wrong,
+    }
+}
+
 // At most one request is refused, so at most one call ends otherwise than at once.
 fn end_of_all(rt: &HostRuntime) -> End {
     for call in CALLS {
@@ -71,7 +88,23 @@ fn end_of_all(rt: &HostRuntime) -> End {
             return end;
         }
     }
+    for look in LOOKS {
+        let end = end_of_look(rt, look);
+        if end.status() != 0 {
+            return end;
+        }
+    }
     End::Answered
+}
+
+// The call at a place, of all.
+fn end_at(rt: &HostRuntime, place: usize) -> End {
+    if let Some(call) = CALLS.get(place) {
+        return end_of(rt, *call);
+    }
+    LOOKS
+        .get(place.saturating_sub(CALLS.len()))
+        .map_or(End::Wrong, |look| end_of_look(rt, *look))
 }
 
 // The word behind the program's name, as a number.
@@ -84,9 +117,7 @@ fn place(rt: &HostRuntime) -> io::Result<Option<usize>> {
 fn run(rt: &HostRuntime) -> End {
     match place(rt) {
         Ok(None) => end_of_all(rt),
-        Ok(Some(place)) => CALLS
-            .get(place)
-            .map_or(End::Wrong, |call| end_of(rt, *call)),
+        Ok(Some(place)) => end_at(rt, place),
         Err(_) => End::Unmade,
     }
 }

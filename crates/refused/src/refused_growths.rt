@@ -109,6 +109,11 @@ fn growths_of_unmatched(rt: HostRuntime) -> Result<(), Fail> {
 }
 
 #[test]
+fn growths_of_unmatched_head(rt: HostRuntime) -> Result<(), Fail> {
+    growths_of(&rt, rt.alloc(), Call::UnmatchedHead)
+}
+
+#[test]
 fn growths_of_unstorable(rt: HostRuntime) -> Result<(), Fail> {
     growths_of(&rt, rt.alloc(), Call::Unstorable)
 }
@@ -141,4 +146,9 @@ fn growths_of_chain(rt: HostRuntime) -> Result<(), Fail> {
 #[test]
 fn growths_of_replay(rt: HostRuntime) -> Result<(), Fail> {
     growths_of(&rt, rt.alloc(), Call::Replay)
+}
+
+#[test]
+fn growths_of_replay_example(rt: HostRuntime) -> Result<(), Fail> {
+    growths_of(&rt, rt.alloc(), Call::ReplayExample)
 }

@@ -1,5 +1,6 @@
 //! Chains of caches.
 use cases::fixtures::{after, field, request, response};
+use cases::scripts::with_further;
 use http::{request, response};
 use http_cache_semantics::chain::chain;
 use http_cache_semantics::{CacheOptions, CachePolicy};
@@ -10,19 +11,19 @@ use std::process::Abort;
 use std::test::Fail;
 
 // The response's headers and the request's, the moments of the hand-overs, how many caches are
-// reached, the moment at which the first and the last are looked at, and of each of the two its
-// age and what is left of its lifetime. Moments count from when the response came, and all is in
-// nanoseconds.
+// reached, the moment at which the first and the last are looked at, and of each of the two whether
+// it may be stored, its age and what is left of its lifetime. Moments count from when the response
+// came, and all is in nanoseconds.
 fn cases() -> &'static str {
-    "Cache-Control: max-age=1000||1500000000|2|3000000000|3000000000 997000000000|2500000000 997500000000
-     Cache-Control: max-age=1000|||1|3000000000|3000000000 997000000000|3000000000 997000000000
-     Cache-Control: max-age=1000||1500000000 1002000000000 3000000000|2|3000000000|3000000000 997000000000|2500000000 997500000000
-     Cache-Control: no-store ~ Cache-Control: max-age=10|Cache-Control: max-stale|1000000000|2|1000000000|1000000000 0|1000000000 9000000000
-     Age: 18446744073709551615|Cache-Control: max-stale|1000000000|2|1000000000|18446744073709551615999999999 0|18446744073709551615000000000 0
-     Date: Mon, 01 Jan 2024 00:00:00 GMT ~ Expires: Mon, 01 Jan 2024 00:01:40 GMT||40000000000|2|40000000000|40000000000 60000000000|40000000000 20000000000
-     Cache-Control: public, max-age=10 ~ Set-Cookie: x=1 ~ X: 1 ~ X: 2||500000000 1900000000 3200000000|4|4000000000|4000000000 6000000000|2800000000 7200000000
-     Cache-Control: max-age=10 ~ Connection: Cache-Control||1000000000 2000000000|2|1000000000|1000000000 9000000000|1000000000 0
-     Cache-Control: public, max-age=10 ~ Set-Cookie: x=1 ~ Set-Cookie: y=2 ~ Vary: Accept ~ Vary: Host ~ Connection: Set-Cookie, Vary||1000000000|2|1000000000|1000000000 9000000000|1000000000 9000000000"
+    "Cache-Control: max-age=1000||1500000000|2|3000000000|true 3000000000 997000000000|true 2500000000 997500000000
+     Cache-Control: max-age=1000|||1|3000000000|true 3000000000 997000000000|true 3000000000 997000000000
+     Cache-Control: max-age=1000||1500000000 1002000000000 3000000000|2|3000000000|true 3000000000 997000000000|true 2500000000 997500000000
+     Cache-Control: no-store ~ Cache-Control: max-age=10|Cache-Control: max-stale|1000000000|2|1000000000|false 1000000000 0|true 1000000000 9000000000
+     Age: 18446744073709551615|Cache-Control: max-stale|1000000000|2|1000000000|true 18446744073709551615999999999 0|true 18446744073709551615000000000 0
+     Date: Mon, 01 Jan 2024 00:00:00 GMT ~ Expires: Mon, 01 Jan 2024 00:01:40 GMT||40000000000|2|40000000000|true 40000000000 60000000000|true 40000000000 20000000000
+     Cache-Control: public, max-age=10 ~ Set-Cookie: x=1 ~ X: 1 ~ X: 2||500000000 1900000000 3200000000|4|4000000000|true 4000000000 6000000000|true 2800000000 7200000000
+     Cache-Control: max-age=10 ~ Connection: Cache-Control||1000000000 2000000000|2|1000000000|true 1000000000 9000000000|true 1000000000 0
+     Cache-Control: public, max-age=10 ~ Set-Cookie: x=1 ~ Set-Cookie: y=2 ~ Vary: Accept ~ Vary: Host ~ Connection: Set-Cookie, Vary||1000000000|2|1000000000|true 1000000000 9000000000|true 1000000000 9000000000"
 }
 
 // The moments of a field, with blanks between them.
@@ -44,9 +45,10 @@ fn looks_so(
     policy: &CachePolicy,
 ) -> Result<(), Fail> {
     let now = after(field(case, 4)?.parse::<i64>()?)?;
+    let storable = policy.is_storable();
     let age = policy.age(now).as_nanos();
     let left = policy.time_to_live(now).as_nanos();
-    let got = format!(in alloc; "{age} {left}")?;
+    let got = format!(in alloc; "{storable} {age} {left}")?;
     assert_eq!(rt; got.as_str(), wanted, "at {case}");
     Ok(())
 }
@@ -162,5 +164,29 @@ fn chain_whose_answer_has_no_date(rt: HostRuntime) -> Result<(), Fail> {
     let lines = "Cache-Control: max-age=10";
     let text = told(rt.alloc(), lines, "", "1000000000 -3913056001000000000")?;
     assert_eq!(rt; text.as_str(), "date not printable");
+    Ok(())
+}
+
+// Each cache adds an age and a date, and one that is guessed to be fresh past a day a warning.
+#[test]
+fn full_headers_at_a_middle_cache(rt: HostRuntime) -> Result<(), Fail> {
+    let dated = "Last-Modified: Sat, 23 Sep 2023 00:00:00 GMT";
+    let lines = with_further(rt.alloc(), dated, "24573")?;
+    let two = told(rt.alloc(), lines.as_str(), "", "1000000000")?;
+    assert_eq!(rt; two.lines().count(), 2);
+    let moments = "1000000000 86401000000000 86402000000000";
+    let text = told(rt.alloc(), lines.as_str(), "", moments)?;
+    assert_eq!(rt; text.as_str(), "header map full");
+    Ok(())
+}
+
+#[test]
+fn full_headers_of_the_last_request(rt: HostRuntime) -> Result<(), Fail> {
+    let asked = with_further(rt.alloc(), "", "24576")?;
+    let lines = "Cache-Control: max-age=1 ~ ETag: \"e\"";
+    let two = told(rt.alloc(), lines, asked.as_str(), "500000000")?;
+    assert_eq!(rt; two.lines().count(), 2);
+    let text = told(rt.alloc(), lines, asked.as_str(), "500000000 5000000000")?;
+    assert_eq!(rt; text.as_str(), "header map full");
     Ok(())
 }

@@ -6,6 +6,7 @@ use http_cache_semantics::{
     AfterResponse, BeforeRequest, CacheError, CacheOptions, CachePolicy, RequestLike, ResponseLike,
 };
 use std::alloc::Global;
+use std::cell::Cell;
 use std::process::Abort;
 use std::test::Fail;
 
@@ -100,9 +101,22 @@ fn told(answer: &BeforeRequest) -> (bool, bool) {
     }
 }
 
-fn asked(alloc: Global, policy: &CachePolicy, request: &Partial) -> Result<(bool, bool), Fail> {
-    let answer = policy.before_request(alloc, request, after(0)?)?;
-    Ok(told(&answer))
+// The same, once it is seen that the calls that take no memory tell it too.
+fn asked<Req: RequestLike>(
+    alloc: Global,
+    policy: &CachePolicy,
+    request: &Req,
+) -> Result<(bool, bool), Fail> {
+    let now = after(0)?;
+    let without = (
+        policy.fresh_at(request, now),
+        policy.matches_request(request),
+    );
+    let answer = policy.before_request(alloc, request, now)?;
+    if told(&answer) != without {
+        return Err("told in two ways")?;
+    }
+    Ok(without)
 }
 
 fn answers_so(
@@ -181,4 +195,73 @@ fn messages_whose_parts_are_empty(rt: HostRuntime) -> Result<(), Fail> {
     let request = empty_request(rt.alloc());
     let policy = empty_policy(rt.alloc(), &request)?;
     answers_nothing_but_empty(&rt, rt.alloc(), &policy, &request)
+}
+
+// A request that counts how often it is asked for a copy of its target.
+#[derive(Drop)]
+struct Counting {
+    parts: request::Parts,
+    copies: Cell<u32>,
+}
+
+impl RequestLike for Counting {
+    ghost use Rattle.http_cache_semantics.specs.Messages.{request_seen};
+
+    ghost seen = { λ c. request_seen c.parts };
+
+    fn uri(&self, _alloc: Global) -> Result<Uri, CacheError> {
+        self.copies.set(self.copies.get().saturating_add(1));
+        self.parts.uri.clone().map_err(|_| CacheError::Memory)
+    }
+
+    fn is_same_uri(&self, other: &Uri) -> bool {
+        self.parts.uri == *other
+    }
+
+    fn method(&self) -> &Method {
+        &self.parts.method
+    }
+
+    fn headers(&self) -> &HeaderMap {
+        &self.parts.headers
+    }
+}
+
+fn counting_request(alloc: Global, lines: &str) -> Result<Counting, Fail> {
+    Ok(Counting {
+        parts: request(alloc, "GET", lines)?,
+        copies: Cell::new(0),
+    })
+}
+
+// What is told of a request, and how often it was asked for a copy of its target.
+fn asks(alloc: Global, policy: &CachePolicy, lines: &str) -> Result<((bool, bool), u32), Fail> {
+    let request = counting_request(alloc, lines)?;
+    let told = asked(alloc, policy, &request)?;
+    Ok((told, request.copies.get()))
+}
+
+#[test]
+fn no_copy_of_the_target_of_what_asks(rt: HostRuntime) -> Result<(), Fail> {
+    let policy = policy(rt.alloc(), LINES)?;
+    let fresh = asks(rt.alloc(), &policy, "")?;
+    assert_eq!(rt; fresh, ((true, true), 0));
+    let stale = asks(rt.alloc(), &policy, "Cache-Control: no-cache")?;
+    assert_eq!(rt; stale, ((false, true), 0));
+    let other = asks(rt.alloc(), &policy, "Host: b")?;
+    assert_eq!(rt; other, ((false, false), 0));
+    Ok(())
+}
+
+// How often a policy asks for a copy of the target.
+fn stores(alloc: Global) -> Result<u32, Fail> {
+    let request = counting_request(alloc, "")?;
+    drop(CachePolicy::new(alloc, &request, &empty_response(alloc, StatusCode::OK), after(0)?)?);
+    Ok(request.copies.get())
+}
+
+#[test]
+fn one_copy_of_the_target_of_what_is_stored(rt: HostRuntime) -> Result<(), Fail> {
+    assert_eq!(rt; stores(rt.alloc())?, 1);
+    Ok(())
 }

@@ -152,3 +152,43 @@ fn options_by_default(rt: HostRuntime) -> Result<(), Fail> {
     assert_eq!(rt; fraction.denominator(), 4);
     Ok(())
 }
+
+// Whether a policy of a POST may be stored, and how long it is fresh.
+fn posted(alloc: Global, lines: &str) -> Result<(bool, Duration), Fail> {
+    let request = request(alloc, "POST", "")?;
+    told_of_post(alloc, &request, lines)
+}
+
+fn told_of_post(
+    alloc: Global,
+    request: &request::Parts,
+    lines: &str,
+) -> Result<(bool, Duration), Fail> {
+    let received = after(0)?;
+    let response = response(alloc, "200", lines)?;
+    let policy = CachePolicy::new(alloc, request, &response, received)?;
+    Ok((policy.is_storable(), policy.time_to_live(received)))
+}
+
+// An Expires of one byte that is no text still says that the response expires.
+#[test]
+fn posts_that_expire_at_no_date(rt: HostRuntime) -> Result<(), Fail> {
+    let posted_only = posted(rt.alloc(), "Expires: ÿ")?;
+    assert_eq!(rt; posted_only, (true, Duration::ZERO));
+    let immutable = posted(rt.alloc(), "Cache-Control: immutable ~ Expires: ÿ")?;
+    assert_eq!(rt; immutable, (true, Duration::from_secs(86400)));
+    Ok(())
+}
+
+fn is_fresh_at_once(alloc: Global, lines: &str) -> Result<bool, Fail> {
+    let policy = policy(alloc, lines)?;
+    Ok(policy.fresh_at(&request(alloc, "GET", "")?, after(0)?))
+}
+
+// A Vary of one byte that is no text names nothing.
+#[test]
+fn varies_by_no_text(rt: HostRuntime) -> Result<(), Fail> {
+    assert!(rt; is_fresh_at_once(rt.alloc(), "Cache-Control: max-age=100 ~ Vary: ÿ")?);
+    assert!(rt; !is_fresh_at_once(rt.alloc(), "Cache-Control: max-age=100 ~ Vary: *")?);
+    Ok(())
+}

@@ -1,7 +1,8 @@
 //! Whole runs by `replay`, told as text.
-use cache_script::{Script, ScriptStep, script_from_bytes};
+use cache_replay::replay::replay as full_answer;
+use cache_script::{Script, ScriptStep, Unread, script_from_bytes};
 use cases::fixtures::field;
-use cases::scripts::{ask, receive, stored};
+use cases::scripts::{ask, receive, stored, with_further};
 use http_cache_semantics::chain::{Outcome, replay};
 use http_cache_semantics::directives::GetHeaderStr;
 use http_cache_semantics::{BeforeRequest, CachePolicy};
@@ -67,14 +68,19 @@ fn step(alloc: Global, words: &str) -> Result<String, Fail> {
     }
 }
 
-fn script(alloc: Global, case: &str) -> Result<String, Fail> {
+fn steps(alloc: Global, text: &str) -> Result<String, Fail> {
     let mut steps = String::new(alloc);
-    for words in field(case, 1)?.split("; ") {
+    for words in text.split("; ") {
         if !words.is_empty() {
             let comma = if steps.as_str().is_empty() { "" } else { "," };
             write!(steps, "{comma}{}", step(alloc, words)?)?;
         }
     }
+    Ok(steps)
+}
+
+fn script(alloc: Global, case: &str) -> Result<String, Fail> {
+    let steps = steps(alloc, field(case, 1)?)?;
     stored(field(case, 0)?).script(alloc, steps.as_str())
 }
 
@@ -82,14 +88,52 @@ fn script(alloc: Global, case: &str) -> Result<String, Fail> {
 fn run(alloc: Global, text: &str) -> Result<String, Fail> {
     match script_from_bytes(alloc, text.as_bytes()) {
         Ok(script) => told_of(alloc, &script),
-        Err(_) => Ok(String::from_str(alloc, "no script")?),
+        Err(Unread::NoScript) => Ok(String::from_str(alloc, "no script")?),
+        Err(Unread::Memory) => Ok(String::from_str(alloc, "no memory")?),
     }
+}
+
+// Whether each step that asks is told alike by the calls that take no memory.
+fn is_told_alike(alloc: Global, text: &str) -> Result<bool, Fail> {
+    let mut answer = String::new(alloc);
+    full_answer(
+        alloc,
+        &mut answer,
+        script_from_bytes(alloc, text.as_bytes()),
+    );
+    Ok(answer.as_str().starts_with("storable ") && !answer.as_str().contains("told in two ways"))
 }
 
 #[test]
 fn outcomes_of_steps(rt: HostRuntime) -> Result<(), Fail> {
     for case in cases().lines() {
         let text = script(rt.alloc(), case)?;
+        let got = run(rt.alloc(), text.as_str())?;
+        assert_eq!(rt; got.as_str(), field(case, 2)?, "at {case}");
+        assert!(rt; is_told_alike(rt.alloc(), text.as_str())?, "at {case}");
+    }
+    Ok(())
+}
+
+// How many further headers the stored response has, the steps, and what comes of them.
+fn full_cases() -> &'static str {
+    "24576|ask 0|no script
+     24575|ask 0|header map full
+     24575|receive 304 0|header map full
+     24575|receive 500 0; ask 0|modified 500;stale true;
+     24573|ask 0; restart|fresh 200 age 0;restarted;"
+}
+
+fn full_script(alloc: Global, case: &str) -> Result<String, Fail> {
+    let lines = with_further(alloc, "Cache-Control: max-age=10", field(case, 0)?)?;
+    let steps = steps(alloc, field(case, 1)?)?;
+    stored(lines.as_str()).script(alloc, steps.as_str())
+}
+
+#[test]
+fn outcomes_of_full_headers(rt: HostRuntime) -> Result<(), Fail> {
+    for case in full_cases().lines() {
+        let text = full_script(rt.alloc(), case)?;
         let got = run(rt.alloc(), text.as_str())?;
         assert_eq!(rt; got.as_str(), field(case, 2)?, "at {case}");
     }

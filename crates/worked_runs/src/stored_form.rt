@@ -3,6 +3,7 @@ use cases::fixtures::{after, field, policy};
 use http_cache_semantics::CachePolicy;
 use serde_json::Value;
 use std::alloc::Global;
+use std::fmt::Write;
 use std::process::Abort;
 use std::test::Fail;
 use std::time::Duration;
@@ -140,5 +141,42 @@ fn before_1970() -> &'static str {
 fn form_before_1970(rt: HostRuntime) -> Result<(), Fail> {
     let text = rewritten(rt.alloc(), before_1970())?;
     assert_eq!(rt; text.as_str(), before_1970());
+    Ok(())
+}
+
+// The stored form with so many headers of the request.
+fn form_with(alloc: Global, count: u32) -> Result<String, Fail> {
+    let mut headers = String::from_str(alloc, "\"req\":{")?;
+    for i in 0..count {
+        let comma = if i == 0 { "" } else { "," };
+        write!(headers, "{comma}\"x{i}\":[\"61\"]")?;
+    }
+    headers.push('}')?;
+    let (front, back) = stored().split_once("\"req\":{}").ok_or("no headers")?;
+    Ok(format!(in alloc; "{front}{headers}{back}")?)
+}
+
+// The stored form under a target of so many bytes.
+fn form_under(alloc: Global, len: usize) -> Result<String, Fail> {
+    let mut target = String::from_str(alloc, "/")?;
+    for _ in 1..len {
+        target.push('a')?;
+    }
+    Ok(stored().replace(alloc, "/a", target.as_str())?)
+}
+
+// A header map has room for 24576 names, and a target at most 65534 bytes.
+#[test]
+fn forms_past_the_limits(rt: HostRuntime) -> Result<(), Fail> {
+    for (text, is_read) in [
+        (form_with(rt.alloc(), 24576)?, true),
+        (form_with(rt.alloc(), 24577)?, false),
+        (form_under(rt.alloc(), 65534)?, true),
+        (form_under(rt.alloc(), 65535)?, false),
+    ] {
+        let got = rewritten(rt.alloc(), text.as_str())?;
+        assert_eq!(rt; got.as_str() != "malformed stored form", is_read);
+        assert!(rt; got.as_str() != "no memory");
+    }
     Ok(())
 }

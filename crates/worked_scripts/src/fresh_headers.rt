@@ -70,6 +70,8 @@ fn full_cases() -> &'static str {
      24572|Last-Modified: Sat, 23 Sep 2023 00:00:00 GMT|86400000000001|fresh age 86400
      24573|Last-Modified: Sat, 23 Sep 2023 00:00:00 GMT|86400000000000|fresh age 86400
      24573|Last-Modified: Sat, 23 Sep 2023 00:00:00 GMT|86400000000001|end header map full
+     24574|Last-Modified: Sat, 23 Sep 2023 00:00:00 GMT|86400000000001|end header map full
+     24575|Last-Modified: Sat, 23 Sep 2023 00:00:00 GMT|86400000000001|end header map full
      24572|Last-Modified: Sat, 23 Sep 2023 00:00:00 GMT ~ Warning: 2|86400000000001|fresh age 86400"
 }
 

@@ -4,7 +4,7 @@ use Rattle.http_cache_rules.specs.Options.{options_of}
 use Rattle.http_cache_policy.specs.Kept.{kept_exchange}
 use Rattle.http_cache_semantics.specs.Chain.{IsFor, first_kept, nanoseconds}
 use Rattle.http_cache_policy.proofs.KeptLemmas.{kept-settled}
-use Rattle.http_cache_semantics.proofs.ChainLemmas.{IsFor-first, HasReached, reached-first, reached-some, reached-last, turn-refused, turn-undated, turn-stops, turn-next, turns-end, each-received, each-aged, each-says, each-expires}
+use Rattle.http_cache_semantics.proofs.ChainLemmas.{IsFor-first, HasReached, reached-first, reached-some, reached-last, turn-refused, turn-undated, turn-stops, turn-stops_unrefused, turn-stops_dated, turn-next, turns-end, turns-end_unrefused, turns-end_dated, each-received, each-aged, each-says, each-expires}
 use Rattle.http_cache_semantics.proofs.ChainUniqueLemmas.{chain-unique}
 use Rattle.http_cache_semantics.proofs.chain.chain.Goals as goal
 
@@ -58,7 +58,7 @@ loop-moment-preserved g c =
     subst (HasReached request first ms (drop (c.loop-moment.moment-index + 1) ms)) (sym c.in_ok-push-2.ensures.items)
     (turn-next request first c.args.moments.now c.loop-moment.moment-index c.moment-item.result c.loop-moment-test.true c.moment-item.is
     c.loop-moment.policies.items c.loop-moment.invariant c.len-last.result (c.len-last.ensures ∙ c.loop-moment.policies.ok.0) c.index.result.now c.index.ensures
-    c.in-Some.next handed.0 handed.1)
+    c.in-Some.next handed.0 handed.1 c.in_ok-next.ensures.room c.in_ok-next.ensures.dated)
 
 -- ---- the last cache has no fresh answer
 
@@ -70,6 +70,24 @@ returns-in_default-clause-policies g c =
     turn-stops request first c.args.moments.now c.loop-moment.moment-index c.moment-item.result c.loop-moment-test.true c.moment-item.is
     c.loop-moment.policies.items c.loop-moment.invariant c.len-last.result (c.len-last.ensures ∙ c.loop-moment.policies.ok.0) c.index.result.now c.index.ensures
     (rw c.in_default.is at c.in_ok-next.ensures.next)
+
+pub returns-in_default-clause-room : goal.returns-in_default-clause-room
+returns-in_default-clause-room g c =
+    let request = g.Req.RequestLike.seen c.args.req.now in
+    let response = g.Res.ResponseLike.seen c.args.res.now in
+    let first = first_kept request response (options_of c.args.opts) c.args.received.nanosecond in
+    turn-stops_unrefused request first c.args.moments.now c.loop-moment.moment-index c.moment-item.result c.loop-moment-test.true c.moment-item.is
+    c.loop-moment.policies.items c.loop-moment.invariant c.len-last.result (c.len-last.ensures ∙ c.loop-moment.policies.ok.0) c.index.result.now c.index.ensures
+    (rw c.in_default.is at c.in_ok-next.ensures.next) c.in_ok-next.ensures.room
+
+pub returns-in_default-clause-dated : goal.returns-in_default-clause-dated
+returns-in_default-clause-dated g c =
+    let request = g.Req.RequestLike.seen c.args.req.now in
+    let response = g.Res.ResponseLike.seen c.args.res.now in
+    let first = first_kept request response (options_of c.args.opts) c.args.received.nanosecond in
+    turn-stops_dated request first c.args.moments.now c.loop-moment.moment-index c.moment-item.result c.loop-moment-test.true c.moment-item.is
+    c.loop-moment.policies.items c.loop-moment.invariant c.len-last.result (c.len-last.ensures ∙ c.loop-moment.policies.ok.0) c.index.result.now c.index.ensures
+    (rw c.in_default.is at c.in_ok-next.ensures.next) c.in_ok-next.ensures.dated
 
 pub returns-in_default-clause-alone : goal.returns-in_default-clause-alone
 returns-in_default-clause-alone g c = λ others other.
@@ -99,6 +117,20 @@ returns-clause-policies g c =
     let response = g.Res.ResponseLike.seen c.args.res.now in
     let first = first_kept request response (options_of c.args.opts) c.args.received.nanosecond in
     turns-end request first c.args.moments.now c.loop-moment.moment-index c.loop-moment-test.false c.loop-moment.policies.items c.loop-moment.invariant
+
+pub returns-clause-room : goal.returns-clause-room
+returns-clause-room g c =
+    let request = g.Req.RequestLike.seen c.args.req.now in
+    let response = g.Res.ResponseLike.seen c.args.res.now in
+    let first = first_kept request response (options_of c.args.opts) c.args.received.nanosecond in
+    turns-end_unrefused request first c.args.moments.now c.loop-moment.moment-index c.loop-moment-test.false c.loop-moment.policies.items c.loop-moment.invariant
+
+pub returns-clause-dated : goal.returns-clause-dated
+returns-clause-dated g c =
+    let request = g.Req.RequestLike.seen c.args.req.now in
+    let response = g.Res.ResponseLike.seen c.args.res.now in
+    let first = first_kept request response (options_of c.args.opts) c.args.received.nanosecond in
+    turns-end_dated request first c.args.moments.now c.loop-moment.moment-index c.loop-moment-test.false c.loop-moment.policies.items c.loop-moment.invariant
 
 pub returns-clause-alone : goal.returns-clause-alone
 returns-clause-alone g c = λ others other.

@@ -7,6 +7,7 @@ use Rattle.http_cache_policy.specs.Kept.{kept_exchange}
 use Rattle.http_cache_policy.specs.Fresh.{IsFreshHeaders}
 use Rattle.http_cache_policy.specs.Answer.{is_fresh}
 use Rattle.http_cache_semantics.specs.Chain.{IsHandedOn, IsFor}
+use Rattle.http_cache_semantics.proofs.AnswerLemmas.{answer-room, answer-dated}
 use Rattle.http_cache_semantics.proofs.chain.hand_on.Goals as goal
 
 -- what is made of fresh headers for the same request is what the next cache keeps
@@ -35,3 +36,23 @@ returns-in-Fresh-clause-next g c =
       sym (sym (ap is_fresh c.in-Fresh.is) ∙ c.in_ok-parts.ensures.verdict),
       handed-made request (options_of c.args.opts.now) c.args.policy.now c.requires c.args.moment.nanosecond (headers_of c.in-Fresh.parts.headers) parts.headers c.in-Fresh.parts.status parts.status c.in_ok-next-in-Fresh.next c.in_ok-next-in-Fresh.ensures.value,
     )
+
+pub returns-in-Fresh-clause-room : goal.returns-in-Fresh-clause-room
+returns-in-Fresh-clause-room g c =
+    answer-room c.args.policy.now (g.Req.RequestLike.seen c.args.req.now) c.args.moment.nanosecond _
+    c.in_ok-parts.ensures.verdict c.in_ok-parts.ensures.fresh c.in_ok-parts.ensures.stale
+
+pub returns-in-Fresh-clause-dated : goal.returns-in-Fresh-clause-dated
+returns-in-Fresh-clause-dated g c =
+    answer-dated c.args.policy.now (g.Req.RequestLike.seen c.args.req.now) c.args.moment.nanosecond _
+    c.in_ok-parts.ensures.verdict c.in_ok-parts.ensures.fresh
+
+pub returns-clause-room : goal.returns-clause-room
+returns-clause-room g c =
+    answer-room c.args.policy.now (g.Req.RequestLike.seen c.args.req.now) c.args.moment.nanosecond _
+    c.in_ok-parts.ensures.verdict c.in_ok-parts.ensures.fresh c.in_ok-parts.ensures.stale
+
+pub returns-clause-dated : goal.returns-clause-dated
+returns-clause-dated g c =
+    answer-dated c.args.policy.now (g.Req.RequestLike.seen c.args.req.now) c.args.moment.nanosecond _
+    c.in_ok-parts.ensures.verdict c.in_ok-parts.ensures.fresh

@@ -1,0 +1,200 @@
+//! Calls that take no memory.
+use crate::case::{Case, after, form};
+use cache_script::{Script, Step};
+use http_cache_semantics::directives::{
+    CacheControl, GetHeaderStr, get_all_comma, parse_cache_control,
+};
+use http_cache_semantics::policy::Fraction;
+use http_cache_semantics::stored::{moment_from_value, options_from_value};
+use http_cache_semantics::{
+    BeforeRequest, CacheError, CacheOptions, CachePolicy, RequestLike, ResponseLike,
+};
+use serde_json::Value;
+use std::alloc::Global;
+use std::time::Duration;
+
+/// A call that takes no memory.
+#[derive(Clone, Copy, Debug)]
+pub enum Look {
+    IsStorable,
+    Age,
+    TimeToLive,
+    IsStale,
+    /// Of a request that matches, and of one that doesn't.
+    MatchesRequest,
+    /// The same.
+    FreshAt,
+    SatisfiesWithoutRevalidation,
+    GetStr,
+    /// With each step to the end.
+    GetAllComma,
+    Len,
+    ContainsKey,
+    Get,
+    Text,
+    EntryAt,
+    Fraction,
+    DefaultOptions,
+    OptionsFromValue,
+    MomentFromValue,
+    IsSameUri,
+    Method,
+    /// Of a request and of a response.
+    Headers,
+    Status,
+}
+
+/// Each of these calls once.
+pub const LOOKS: [Look; 22] = [
+    Look::IsStorable,
+    Look::Age,
+    Look::TimeToLive,
+    Look::IsStale,
+    Look::MatchesRequest,
+    Look::FreshAt,
+    Look::SatisfiesWithoutRevalidation,
+    Look::GetStr,
+    Look::GetAllComma,
+    Look::Len,
+    Look::ContainsKey,
+    Look::Get,
+    Look::Text,
+    Look::EntryAt,
+    Look::Fraction,
+    Look::DefaultOptions,
+    Look::OptionsFromValue,
+    Look::MomentFromValue,
+    Look::IsSameUri,
+    Look::Method,
+    Look::Headers,
+    Look::Status,
+];
+
+/// What is looked at.
+#[derive(Drop)]
+pub enum Sight {
+    /// An exchange whose response varies by a name of 200 letters.
+    Exchange(Case),
+    /// An answer to a request that matches.
+    Answer(BeforeRequest),
+    /// The directives of the response.
+    Directives(CacheControl),
+    /// The stored form of the policy.
+    Form(Value),
+}
+
+fn directives_in(alloc: Global, case: &Case) -> Result<Sight, CacheError> {
+    let values = case.script().response.headers.get_all("cache-control");
+    Ok(Sight::Directives(parse_cache_control(alloc, values)?))
+}
+
+fn answer_in(alloc: Global, case: &Case) -> Result<Sight, CacheError> {
+    Ok(Sight::Answer(case.answer_at(alloc, 0)?))
+}
+
+// Whether a policy of ten seconds tells what it has to after five and a half.
+fn is_right_of_policy(policy: &CachePolicy, look: Look) -> Result<bool, CacheError> {
+    let now = after(5_500_000_000)?;
+    Ok(match look {
+        Look::IsStorable => policy.is_storable(),
+        Look::Age => policy.age(now) == Duration::from_nanos(5_500_000_000),
+        Look::TimeToLive => policy.time_to_live(now) == Duration::from_nanos(4_500_000_000),
+        _ => !policy.is_stale(now),
+    })
+}
+
+// Whether the request of a step matches, and whether it is answered without validation.
+fn told_at(case: &Case, place: usize, look: Look) -> Option<bool> {
+    match case.script().steps.get(place) {
+        Some(Step::Ask { request, moment }) => Some(match look {
+            Look::FreshAt => case.policy().fresh_at(request, *moment),
+            _ => case.policy().matches_request(request),
+        }),
+        _ => None,
+    }
+}
+
+fn is_right_of_messages(script: &Script, look: Look) -> bool {
+    let (request, response) = (&script.request, &script.response);
+    match look {
+        Look::GetStr => response.headers.get_str("eTAG") == Some("\"c\""),
+        Look::GetAllComma => {
+            let pieces = get_all_comma(response.headers.get_all("warning"));
+            pieces.count() == 2
+        }
+        Look::IsSameUri => request.is_same_uri(&request.uri),
+        Look::Method => request.method().as_str() == "GET",
+        Look::Headers => request.headers().len() == 1 && response.headers().len() == 9,
+        _ => response.status().as_u16() == 200,
+    }
+}
+
+fn is_right_of_options(look: Look) -> bool {
+    match look {
+        Look::Fraction => {
+            Fraction::new(1, 0).is_none()
+                && Fraction::new(2, 4).is_some_and(|f| f.numerator() == 2 && f.denominator() == 4)
+        }
+        _ => CacheOptions::default().shared,
+    }
+}
+
+fn is_right_of_exchange(case: &Case, look: Look) -> bool {
+    match look {
+        Look::IsStorable | Look::Age | Look::TimeToLive | Look::IsStale => {
+            is_right_of_policy(case.policy(), look) == Ok(true)
+        }
+        Look::MatchesRequest | Look::FreshAt => {
+            told_at(case, 0, look) == Some(true) && told_at(case, 6, look) == Some(false)
+        }
+        Look::Fraction | Look::DefaultOptions => is_right_of_options(look),
+        _ => is_right_of_messages(case.script(), look),
+    }
+}
+
+fn is_right_of_directives(read: &CacheControl, look: Look) -> bool {
+    match look {
+        Look::Len => read.len() == 5,
+        Look::ContainsKey => read.contains_key("public") && !read.contains_key("private"),
+        Look::Get => read.get("public") == Some(None),
+        Look::Text => read.text("a") == Some("b c"),
+        _ => read.entry_at(0) == Some(("max-age", Some("10"))) && read.entry_at(5).is_none(),
+    }
+}
+
+fn is_right_of_form(value: &Value, look: Look) -> bool {
+    match look {
+        Look::OptionsFromValue => value
+            .get("opts")
+            .and_then(options_from_value)
+            .is_some_and(|options| options.ignore_cargo_cult),
+        _ => value
+            .get("response_time")
+            .and_then(moment_from_value)
+            .is_some_and(|moment| moment.as_second() == 1_704_067_200),
+    }
+}
+
+impl Sight {
+    /// What a call looks at.
+    pub fn new(alloc: Global, look: Look) -> Result<Sight, CacheError> {
+        match look {
+            Look::Len | Look::ContainsKey | Look::Get | Look::Text | Look::EntryAt => {
+                directives_in(alloc, &Case::varied(alloc)?)
+            }
+            Look::SatisfiesWithoutRevalidation => answer_in(alloc, &Case::varied(alloc)?),
+            Look::OptionsFromValue | Look::MomentFromValue => Ok(Sight::Form(form(alloc)?)),
+            _ => Ok(Sight::Exchange(Case::varied(alloc)?)),
+        }
+    }
+
+    /// Makes a call, and tells whether its answer is the right one.
+    pub fn is_right(&self, look: Look) -> bool {
+        match self {
+            Sight::Exchange(case) => is_right_of_exchange(case, look),
+            Sight::Answer(answer) => answer.satisfies_without_revalidation(),
+            Sight::Directives(read) => is_right_of_directives(read, look),
+            Sight::Form(value) => is_right_of_form(value, look),
+        }
+    }
+}
