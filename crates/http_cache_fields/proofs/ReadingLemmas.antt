@@ -1,14 +1,13 @@
 -- Directives that are found by an ordered map.
 use Rattle.std.proofs.Common.{◌≡◌, ℕ, suc, zero, ◌<◌, ◌≤◌, Bool, true, false, cond, List, [], ◌∷◌, ◌++◌, length, take, drop, Option, Some, None, refl, sym, ap, ◌∙◌, subst, arith, bytes_eq, Bor}
 use Rattle.std.specs.Option.{option_map, option_copied, option_or}
-use Rattle.std.specs.Ordering.{nat_cmp}
-use Rattle.std.specs.Cmp.Lexicographic.{slice_cmp}
-use Rattle.std.specs.BTreeMap.{UpdatesBy, get_by}
+use Rattle.std.specs.BTreeMap.{Updates, get}
 use Rattle.std.proofs.lemmas.List.{drop-append-le, length_push}
-use Rattle.std.proofs.lemmas.Map.Text.{btree_map_updates_str}
+use Rattle.std.proofs.lemmas.Map.Text.{is_eq-slice_cmp}
 use Rattle.std.proofs.lemmas.Slice.Eq.{bytes_eq-Decides}
 use Rattle.http_cache_fields.specs.Directives.{Directive, value_under}
-use Rattle.http_cache_fields.specs.Reading.{ByName, HasLater}
+use Rattle.http_cache_fields.specs.Reading.{ByName, HasLater, lower_name, name_cmp}
+use Rattle.http_cache_fields.specs.declared.names.Name.{Name}
 use Rattle.http_cache_fields.proofs.ReadLemmas.{value_under-push}
 use Rattle.http_cache_fields.proofs.ReadableLemmas.{other_way}
 
@@ -48,7 +47,7 @@ later_new count ds n new =
 pub HasLater-few : (ds : List Directive) (d : Directive) (later : ByName) → length ds < 16
     → HasLater ds later → HasLater (ds ++ d ∷ []) later
 HasLater-few ds d later few h name =
-    h name ∙ ap (λ es. value_under es name) (drop_few 16 ds (omega arith) ∙ sym (drop_few 16 (ds ++ d ∷ []) (short ds few)))
+    h name ∙ ap (λ es. value_under es (lower_name name)) (drop_few 16 ds (omega arith) ∙ sym (drop_few 16 (ds ++ d ∷ []) (short ds few)))
   where
     drop_few : (count : ℕ) (es : List Directive) → length es ≤ count → drop count es ≡ []
     drop_few zero [] few = refl
@@ -60,22 +59,28 @@ HasLater-few ds d later few h name =
     short es few = omega (arith, length_push es d)
 
 -- behind them a directive of a new name stands in the map too
-pub HasLater-more : (ds : List Directive) (n : List ℕ) (v : Option (Bor (List ℕ))) (later more : ByName)
-    → 16 ≤ length ds → value_under ds n ≡ None
-    → UpdatesBy (λ x y. slice_cmp nat_cmp x.now y.now) (λ k. slice_cmp nat_cmp n k.now) later more (Some v)
-    → HasLater ds later → HasLater (ds ++ (n, option_copied v) ∷ []) more
-HasLater-more ds n v later more many new updates h name =
-    ap (option_map option_copied) (btree_map_updates_str n later more (Some v) updates name)
+pub HasLater-more : (ds : List Directive) (key : Name) (v : Option (Bor (List ℕ))) (later more : ByName)
+    → 16 ≤ length ds → value_under ds (lower_name key) ≡ None → Updates name_cmp later more key (Some v)
+    → HasLater ds later → HasLater (ds ++ (lower_name key, option_copied v) ∷ []) more
+HasLater-more ds key v later more many new updates h other =
+    ap (option_map option_copied) (updates.0 other
+    ∙ ap (λ b. cond b (Some v) (get name_cmp later other)) (is_eq-slice_cmp n name))
     ∙ by (bytes_eq n name) refl
     ∙ sym (ap (λ es. value_under es name) (drop-append-le 16 ds ((n, option_copied v) ∷ []) many)
     ∙ value_under-push (drop 16 ds) (n, option_copied v) name)
   where
+    n : List ℕ
+    n = lower_name key
+
+    name : List ℕ
+    name = lower_name other
+
     or_none : (o : Option (Option (List ℕ))) → option_or o None ≡ o
     or_none None = refl
     or_none (Some x) = refl
 
     by : (b : Bool) → bytes_eq n name ≡ b
-        → option_map option_copied (cond b (Some v) (get_by (λ k. slice_cmp nat_cmp name k.now) later))
+        → option_map option_copied (cond b (Some v) (get name_cmp later other))
         ≡ option_or (value_under (drop 16 ds) name) (cond (bytes_eq name n) (Some (option_copied v)) None)
     by true e =
         let same : n ≡ name = (bytes_eq-Decides n name).0 e in
@@ -83,4 +88,4 @@ HasLater-more ds n v later more many new updates h name =
         subst (λ (k : List ℕ). value_under (drop 16 ds) k ≡ None) same (later_new 16 ds n new) in
         let back : bytes_eq name n ≡ true = (bytes_eq-Decides name n).1 (sym same) in
         rw (none, back) refl
-    by false e = h name ∙ rw (other_way n name e) (sym (or_none (value_under (drop 16 ds) name)))
+    by false e = h other ∙ rw (other_way n name e) (sym (or_none (value_under (drop 16 ds) name)))

@@ -1,12 +1,14 @@
 //! Reading the directives of a header.
 ghost use Rattle.std.specs.Prelude.{◌≡◌, ◌∷◌, ◌++◌, [], None, map, option_copied, option_map, IfOk};
+ghost use Rattle.http_header.specs.Token.{lowercase};
 ghost use Rattle.http_cache_fields.specs.Headers.{headers_of, bytes_of};
 ghost use Rattle.http_cache_fields.specs.Pieces.{pieces_of_values};
 ghost use Rattle.http_cache_fields.specs.Directives.{directives, cache_control, value_under, has, with_conflict};
 ghost use Rattle.http_cache_fields.specs.Readable.{IsDirective, AreDirectives};
-ghost use Rattle.http_cache_fields.specs.Shown.{shown_entry};
+ghost use Rattle.http_cache_fields.specs.Shown.{sent_entry};
 
 use crate::directives::split_piece;
+use crate::names::{Name, is_same_name};
 use crate::pieces::get_all_comma;
 use crate::text::unquote;
 use http_header::{CACHE_CONTROL, GetAll, HeaderMap, HeaderValue};
@@ -17,26 +19,26 @@ use std::marker::Model;
 // How many directives are looked through. Few headers have more.
 const LOOKED_THROUGH: usize = 16;
 
-/// The first directive of each name, borrowed from the lines of a header. Those behind the first 16
-/// are found by an ordered map, so that reading takes n log n steps, whichever names a sender
-/// chooses.
+/// The first directive of each name, borrowed from the lines of a header as it was sent. Names have
+/// no case (RFC 7234, section 5.2). Those behind the first 16 are found by an ordered map, so that
+/// reading takes n log n steps, whichever names a sender chooses.
 #[derive(Drop)]
 pub struct FirstDirectives<'a> {
     list: Vec<(&'a str, Option<&'a str>)>,
-    later: BTreeMap<&'a str, Option<&'a str>>,
+    later: BTreeMap<Name<'a>, Option<&'a str>>,
 }
 
 impl<'a> Model for FirstDirectives<'a> {
     ghost use Rattle.std.specs.Prelude.{List, map};
     ghost use Rattle.http_cache_fields.specs.Directives.{Directive};
-    ghost use Rattle.http_cache_fields.specs.Shown.{shown_entry};
+    ghost use Rattle.http_cache_fields.specs.Shown.{sent_entry};
     ghost use Rattle.http_cache_fields.specs.Reading.{IsFirst};
 
     ghost Value = { List Directive };
 
-    ghost view = { λ f. map shown_entry f.list.items };
+    ghost view = { λ f. map sent_entry f.list.items };
 
-    ghost invariant = { λ f. IsFirst (map shown_entry f.list.items) f.later };
+    ghost invariant = { λ f. IsFirst (map sent_entry f.list.items) f.later };
 }
 
 impl<'a> FirstDirectives<'a> {
@@ -51,43 +53,43 @@ impl<'a> FirstDirectives<'a> {
 
     /// The directives in order.
     pub(crate) fn entries(&self) -> &[(&'a str, Option<&'a str>)]
-        ensures shown { map shown_entry result.now ≡ self.now }
+        ensures shown { map sent_entry result.now ≡ self.now }
         ensures valid { AreDirectives self.now }
     {
         &self.list
     }
 
-    /// The value of the directive with the name, if it is there.
-    pub fn get(&self, name: &str) -> Option<Option<&'a str>>
-        ensures { option_map option_copied result ≡ value_under self.now name.now }
+    /// The value of the directive with the name in any case, if it is there.
+    pub fn get(&self, name: &'a str) -> Option<Option<&'a str>>
+        ensures { option_map option_copied result ≡ value_under self.now (lowercase name.now) }
     {
         let mut first = self.list.iter().take(LOOKED_THROUGH);
-        match first.find(|directive| name == directive.0) {
+        match first.find(|directive| is_same_name(name, directive.0)) {
             Some(directive) => Some(directive.1),
-            None => self.later.get(name).copied(),
+            None => self.later.get(&Name(name)).copied(),
         }
     }
 
-    /// Whether a directive has the name.
-    pub fn contains_key(&self, name: &str) -> bool
-        ensures { result ≡ has self.now name.now }
+    /// Whether a directive has the name in any case.
+    pub fn contains_key(&self, name: &'a str) -> bool
+        ensures { result ≡ has self.now (lowercase name.now) }
     {
         self.get(name).is_some()
     }
 
     // The same with a directive of a new name behind them.
     fn with(self, name: &'a str, value: Option<&'a str>) -> Result<FirstDirectives<'a>, AllocError>
-        requires form { IsDirective (name.now, option_copied value) }
-        requires new { value_under self name.now ≡ None }
+        requires form { IsDirective (lowercase name.now, option_copied value) }
+        requires new { value_under self (lowercase name.now) ≡ None }
         ensures { IfOk result (λ more. more
-            ≡ self.entry ++ (name.now, option_copied value.entry) ∷ []) }
+            ≡ self.entry ++ (lowercase name.now, option_copied value.entry) ∷ []) }
     {
         let FirstDirectives {
             mut list,
             mut later,
         } = self;
         if list.len() >= LOOKED_THROUGH {
-            later.insert(name, value)?;
+            later.insert(Name(name), value)?;
         }
         list.push((name, value))?;
         Ok(FirstDirectives { list, later })

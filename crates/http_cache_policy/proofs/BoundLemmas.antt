@@ -1,17 +1,17 @@
 -- What is asked of an age is one bound, and what follows of the verdict.
-use Rattle.std.proofs.Common.{◌≡◌, ℕ, ℤ, ◌+◌, ◌*◌, ◌-◌, ◌≤◌, ◌<◌, ◌≤ℤ◌, Bool, true, false, not, ◌&&◌, ◌||◌, true≢false, nat_lt, nat_le, codes, Option, Some, None, option_map, option_and_then, unwrap_or, if◌then◌else◌, zero, suc, refl, sym, ap, ◌∙◌, arith}
+use Rattle.std.proofs.Common.{◌≡◌, ℕ, ℤ, ◌+◌, ◌*◌, ◌-◌, ◌≤◌, ◌<◌, ◌≤ℤ◌, Bool, true, false, not, ◌&&◌, ◌||◌, true≢false, nat_lt, nat_le, codes, List, Option, Some, None, option_map, option_and_then, unwrap_or, if◌then◌else◌, zero, suc, refl, sym, ap, ◌∙◌, arith}
 use Rattle.std.proofs.Math.Bool.{and_assoc, and_comm}
-use Rattle.std.proofs.lemmas.Bool.{lt-ltb, ltb-true, and_parts, and_from, or_parts, not-false, cond-true, false_from_ne_true}
+use Rattle.std.proofs.lemmas.Bool.{lt-ltb, ltb-true, and_parts, and_from, or_parts, not-false, not-true, cond-true, false_from_ne_true}
 use Rattle.std.proofs.lemmas.Bool.Decides.{nat_tests}
-use Rattle.http_cache_fields.specs.Directives.{has}
-use Rattle.http_cache_rules.specs.Asks.{Asks, asks_of, asked_directives, has_no_cache, number_under}
+use Rattle.http_cache_fields.specs.Directives.{Directive, has}
+use Rattle.http_cache_rules.specs.Asks.{Asks, asks_of, asked_directives, has_no_cache, number_under, takes_stale}
 use Rattle.http_cache_policy.specs.Messages.{RequestSeen}
 use Rattle.http_cache_policy.specs.Exchange.{Exchange, stored_directives}
 use Rattle.http_cache_policy.specs.Storable.{is_storable}
 use Rattle.http_cache_policy.specs.Lifetime.{lifetime}
 use Rattle.http_cache_policy.specs.Age.{age_at}
 use Rattle.http_cache_policy.specs.Match.{request_matches}
-use Rattle.http_cache_policy.specs.Verdict.{asks_max_stale, is_let_through, meets, is_fresh_for}
+use Rattle.http_cache_policy.specs.Verdict.{lets_stale_out, is_let_through, meets, is_fresh_for}
 use Rattle.http_cache_policy.specs.Bound.{lesser, is_below, bound_by_lifetime, bound_by_max_age, bound_to_leave, bound_by_min_fresh, bound, is_fresh_by_bound}
 use Rattle.http_cache_policy.proofs.AgeLemmas.{age_at-rises}
 
@@ -35,15 +35,16 @@ least-below None life age = refl
 least-below (Some zero) life age = grind (arith, nat_tests)
 least-below (Some (suc least)) life age = grind (arith, nat_tests)
 
--- what is let through, by whether max-stale and must-revalidate are there, and by the number
-let_through-below : (taken revalidated : Bool) (more : Option ℕ) (life age : ℕ)
-    → (not (nat_le life age) || ((taken && unwrap_or (option_map (λ seconds. nat_lt (age - life) (seconds * 1_000_000_000)) more) true) && not revalidated))
-    ≡ is_below (if taken && not revalidated then option_map (λ seconds. life + seconds * 1_000_000_000) more else Some life) age
+-- what is let through, by whether max-stale is there and a stale response may answer, and by the
+-- number
+let_through-below : (taken out : Bool) (more : Option ℕ) (life age : ℕ)
+    → (not (nat_le life age) || ((taken && unwrap_or (option_map (λ seconds. nat_lt (age - life) (seconds * 1_000_000_000)) more) true) && out))
+    ≡ is_below (if taken && out then option_map (λ seconds. life + seconds * 1_000_000_000) more else Some life) age
 let_through-below true true None life age = grind (arith, nat_tests)
 let_through-below true true (Some n) life age = grind (arith, nat_tests)
 let_through-below true false None life age = grind (arith, nat_tests)
 let_through-below true false (Some n) life age = grind (arith, nat_tests)
-let_through-below false revalidated more life age = grind (arith, nat_tests)
+let_through-below false out more life age = grind (arith, nat_tests)
 
 -- ---- the least of them
 
@@ -56,7 +57,7 @@ meets-below e asks age =
     let least = bound_by_min_fresh e ds in
     (λ i. most-below (number_under ds (codes "max-age")) age i
     && least-below (number_under ds (codes "min-fresh")) (lifetime e) age i
-    && let_through-below (has ds (codes "max-stale")) (has (stored_directives e) (codes "must-revalidate")) (number_under ds (codes "max-stale")) (lifetime e) age i)
+    && let_through-below (has ds (codes "max-stale")) (lets_stale_out e) (number_under ds (codes "max-stale")) (lifetime e) age i)
     ∙ and_comm (is_below most age && is_below least age) (is_below stale age)
     ∙ sym (below-lesser stale (lesser most least) age ∙ ap (λ b. is_below stale age && b) (below-lesser most least age))
 
@@ -101,20 +102,27 @@ alive-storable e alive =
     let parts = or_parts (not (is_storable e)) (has (stored_directives e) (codes "no-cache")) (false_from_ne_true _ (λ h. omega (arith, alive, lifetime-none e h))) in
     (not-false (is_storable e) parts.0, parts.1)
 
-young-alone : (taken revalidated through : Bool) (life age : ℕ) → taken ≡ false
-    → (not (nat_le life age) || ((taken && through) && not revalidated)) ≡ true → age < life
-young-alone true revalidated through life age unasked h = absurd (true≢false unasked)
-young-alone false revalidated through life age unasked h = grind (arith, nat_tests)
+-- so what is let through may be stored, and isn't stored with no-cache
+let_through-storable : (e : Exchange) (ds : List Directive) (age : ℕ) → is_let_through e ds age ≡ true
+    → (is_storable e ≡ true) × (has (stored_directives e) (codes "no-cache") ≡ false)
+let_through-storable e ds age = by (not (nat_le (lifetime e) age)) refl
+  where
+    by : (young : Bool) → not (nat_le (lifetime e) age) ≡ young
+        → (young || (takes_stale ds (age - lifetime e) && lets_stale_out e)) ≡ true
+        → (is_storable e ≡ true) × (has (stored_directives e) (codes "no-cache") ≡ false)
+    by true young h = alive-storable e (grind (arith, nat_tests))
+    by false old h =
+        let out = and_parts (takes_stale ds (age - lifetime e)) (lets_stale_out e) h in
+        let parts = and_parts (is_storable e && not (has (stored_directives e) (codes "must-revalidate"))) _ out.1 in
+        ((and_parts (is_storable e) _ parts.0).0, not-true (has (stored_directives e) (codes "no-cache")) parts.1)
 
--- so where max-stale isn't asked, what answers may be stored, and isn't stored with no-cache
-pub is_fresh_for-storable : (e : Exchange) (request : RequestSeen) (now : ℤ)
-    → is_fresh_for e request now ≡ true → asks_max_stale request ≡ false
+-- and so is what answers
+pub is_fresh_for-storable : (e : Exchange) (request : RequestSeen) (now : ℤ) → is_fresh_for e request now ≡ true
     → (is_storable e ≡ true) × (has (stored_directives e) (codes "no-cache") ≡ false)
 unfolding is_fresh_for
-is_fresh_for-storable e request now met unasked =
+is_fresh_for-storable e request now met =
     let ds = asked_directives (asks_of request.headers) in
     let satisfied = and_parts (request_matches e request) _ met in
-    let met = and_parts (not (has_no_cache (asks_of request.headers))) _ satisfied.1 in
-    let through = and_parts _ (is_let_through e ds (age_at e now)) met.1 in
-    let young = young-alone (has ds (codes "max-stale")) (has (stored_directives e) (codes "must-revalidate")) _ (lifetime e) (age_at e now) unasked through.1 in
-    alive-storable e (omega arith)
+    let meets = and_parts (not (has_no_cache (asks_of request.headers))) _ satisfied.1 in
+    let through = and_parts _ (is_let_through e ds (age_at e now)) meets.1 in
+    let_through-storable e ds (age_at e now) through.1

@@ -4,10 +4,11 @@ use Rattle.std.specs.Prelude.{ℕ, ℤ, ◌+◌, ◌*◌, ◌-◌, ◌==◌, min
 use Rattle.http_cache_fields.specs.Directives.{Directive, has}
 use Rattle.http_cache_rules.specs.Asks.{Asks, asks_of, asked_directives, has_no_cache, number_under}
 use Rattle.http_cache_policy.specs.Messages.{RequestSeen}
-use Rattle.http_cache_policy.specs.Exchange.{Exchange, stored_directives}
+use Rattle.http_cache_policy.specs.Exchange.{Exchange}
 use Rattle.http_cache_policy.specs.Lifetime.{lifetime}
 use Rattle.http_cache_policy.specs.Age.{age_at}
 use Rattle.http_cache_policy.specs.Match.{request_matches}
+use Rattle.http_cache_policy.specs.Verdict.{lets_stale_out}
 
 -- the lesser of two bounds, where None is no bound
 abbrev pub lesser : Option ℕ → Option ℕ → Option ℕ
@@ -20,12 +21,12 @@ abbrev pub is_below : Option ℕ → ℕ → Bool
 is_below None age = true
 is_below (Some bound) age = nat_lt age bound
 
--- the lifetime; where max-stale is asked and must-revalidate isn't stored, so many seconds more, or
+-- the lifetime; where max-stale is asked and a stale response may answer, so many seconds more, or
 -- no bound where it has no number (RFC 7234, sections 4.2.4 and 5.2.1.2)
 abbrev pub bound_by_lifetime : Exchange → List Directive → Option ℕ
 bound_by_lifetime e ds =
     let more = number_under ds (codes "max-stale") in
-    if has ds (codes "max-stale") && not (has (stored_directives e) (codes "must-revalidate"))
+    if has ds (codes "max-stale") && lets_stale_out e
     then option_map (λ seconds. lifetime e + seconds * 1_000_000_000) more
     else Some (lifetime e)
 

@@ -4,20 +4,23 @@ use Rattle.http_cache_fields.specs.Directives.{Directive, has}
 use Rattle.http_cache_rules.specs.Asks.{Asks, asks_of, asked_directives, has_no_cache, is_young_enough, lasts_long_enough, takes_stale}
 use Rattle.http_cache_policy.specs.Messages.{RequestSeen}
 use Rattle.http_cache_policy.specs.Exchange.{Exchange, stored_directives}
+use Rattle.http_cache_policy.specs.Storable.{is_storable}
 use Rattle.http_cache_policy.specs.Lifetime.{lifetime}
 use Rattle.http_cache_policy.specs.Age.{age_at}
 use Rattle.http_cache_policy.specs.Match.{NamedParts, named_parts, matches}
 
+-- a stale response may answer: it may be stored, and neither must-revalidate nor no-cache is stored
+-- (RFC 7234, section 4.2.4)
+abbrev pub lets_stale_out : Exchange → Bool
+lets_stale_out e =
+    is_storable e
+    && not (has (stored_directives e) (codes "must-revalidate"))
+    && not (has (stored_directives e) (codes "no-cache"))
+
 -- the response isn't stale at an age, or is let through although it is (RFC 7234, section 4.2.4)
 abbrev pub is_let_through : Exchange → List Directive → ℕ → Bool
 is_let_through e ds age =
-    not (nat_le (lifetime e) age)
-    || (takes_stale ds (age - lifetime e)
-    && not (has (stored_directives e) (codes "must-revalidate")))
-
--- the request asks for stale answers too (RFC 7234, section 5.2.1.2)
-abbrev pub asks_max_stale : RequestSeen → Bool
-asks_max_stale request = has (asked_directives (asks_of request.headers)) (codes "max-stale")
+    not (nat_le (lifetime e) age) || (takes_stale ds (age - lifetime e) && lets_stale_out e)
 
 -- the response meets what is asked of its age
 abbrev pub meets : Exchange → List Directive → ℕ → Bool

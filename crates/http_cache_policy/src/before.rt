@@ -5,7 +5,7 @@ ghost use Rattle.http_cache_fields.specs.Directives.{has};
 ghost use Rattle.http_cache_policy.specs.Exchange.{stored_directives};
 ghost use Rattle.http_cache_policy.specs.Storable.{is_storable};
 ghost use Rattle.http_cache_policy.specs.Match.{request_matches};
-ghost use Rattle.http_cache_policy.specs.Verdict.{asks_max_stale, is_fresh_for};
+ghost use Rattle.http_cache_policy.specs.Verdict.{is_fresh_for};
 ghost use Rattle.http_cache_policy.specs.Bound.{is_fresh_by_bound};
 ghost use Rattle.http_cache_policy.specs.Fresh.{IsFreshParts, HasOneAgeAndDate};
 ghost use Rattle.http_cache_policy.specs.Stale.{IsStaleRequest};
@@ -84,7 +84,6 @@ impl CachePolicy {
             → (moment : ℤ) → now.nanosecond ≤ℤ moment
             → is_fresh_for self.now (Req.seen req.now) moment ≡ false) }
         ensures storable { IfOk result (λ answer. is_fresh answer ≡ true
-            → asks_max_stale (Req.seen req.now) ≡ false
             → (is_storable self.now ≡ true)
             × (has (stored_directives self.now) (codes "no-cache") ≡ false)) }
         ensures fresh { IfOk result (WhereFresh (IsFreshParts self.now now.nanosecond)) }

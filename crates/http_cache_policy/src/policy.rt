@@ -128,6 +128,7 @@ impl CachePolicy {
     ghost use Rattle.http_cache_policy.specs.Storable.{is_storable};
     ghost use Rattle.http_cache_policy.specs.Lifetime.{lifetime};
     ghost use Rattle.http_cache_policy.specs.Age.{age_at, time_to_live_at, is_stale_at};
+    ghost use Rattle.http_cache_policy.specs.Verdict.{lets_stale_out};
 
     /// The policy of a response that came for a request at a moment, with the default options. It
     /// is refused for want of memory alone.
@@ -268,11 +269,13 @@ impl CachePolicy {
         &self.parts.response_headers
     }
 
-    /// Whether the stored response says `must-revalidate`.
-    pub(crate) fn has_must_revalidate(&self) -> bool
-        ensures { result ≡ has (stored_directives self.now) (codes "must-revalidate") }
+    /// Whether the stored response may answer although it is stale: it may be stored, and says
+    /// neither `must-revalidate` nor `no-cache` (RFC 7234, section 4.2.4).
+    pub(crate) fn lets_stale_out(&self) -> bool
+        ensures { result ≡ lets_stale_out self.now }
     {
-        self.found.directives.must_revalidate
+        let said = &self.found.directives;
+        self.is_storable() && !said.must_revalidate && !said.no_cache
     }
 
     /// Whether the stored response itself says when it expires.

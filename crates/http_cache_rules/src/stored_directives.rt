@@ -1,5 +1,6 @@
 //! What the rules ask of the directives of a stored response.
 ghost use Rattle.std.specs.Prelude.{◌≡◌, IfOk};
+ghost use Rattle.http_header.specs.Token.{lowercase};
 ghost use Rattle.http_cache_fields.specs.Headers.{headers_of};
 ghost use Rattle.http_cache_fields.specs.Directives.{cache_control, with_conflict};
 ghost use Rattle.http_cache_fields.specs.Pragma.{with_no_cache, with_pragma};
@@ -35,9 +36,9 @@ pub struct StoredDirectives {
     pub max_age: DeltaSeconds,
 }
 
-// What the directive of a name says.
-fn delta_seconds_under(directives: &FirstDirectives<'_>, name: &str) -> DeltaSeconds
-    ensures { result ≡ delta_seconds_under directives.now name.now }
+// What the directive of a name says, in any case.
+fn delta_seconds_under<'a>(directives: &FirstDirectives<'a>, name: &'a str) -> DeltaSeconds
+    ensures { result ≡ delta_seconds_under directives.now (lowercase name.now) }
 {
     match directives.get(name) {
         Some(value) => DeltaSeconds::of_value(value),

@@ -1,8 +1,10 @@
 //! Whether a stored response may be used without validation (RFC 7234, section 4).
-ghost use Rattle.std.specs.Prelude.{◌≡◌, ◌*◌, List};
+ghost use Rattle.std.specs.Prelude.{◌≡◌, ◌*◌, true, false, codes, List};
 ghost use Rattle.http_cache_fields.specs.Headers.{headers_of};
-ghost use Rattle.http_cache_fields.specs.Directives.{Directive};
+ghost use Rattle.http_cache_fields.specs.Directives.{Directive, has};
 ghost use Rattle.http_cache_rules.specs.Asks.{Asks, asks_of, asked_directives, asked_of};
+ghost use Rattle.http_cache_policy.specs.Exchange.{stored_directives};
+ghost use Rattle.http_cache_policy.specs.Storable.{is_storable};
 ghost use Rattle.http_cache_policy.specs.Verdict.{satisfies, is_fresh_for};
 ghost use Rattle.http_cache_policy.specs.Bound.{lesser, is_below, bound_by_lifetime, bound_by_max_age, bound_by_min_fresh, bound, is_fresh_by_bound};
 
@@ -50,9 +52,12 @@ fn bound_by_max_age(asked: &Asked) -> Option<u128>
 impl CachePolicy {
     /// Whether the stored response may be used for a request at a moment without validation: true
     /// exactly where `before_request` answers `Fresh`, if it isn't refused (RFC 7234, section 4).
+    /// One that may not be stored, or that says `no-cache`, never may.
     pub fn fresh_at<Req: RequestLike>(&self, req: &Req, now: Timestamp) -> bool
         ensures verdict { result ≡ is_fresh_for self.now (Req.seen req.now) now.nanosecond }
         ensures bound { result ≡ is_fresh_by_bound self.now (Req.seen req.now) now.nanosecond }
+        ensures storable { result ≡ true → (is_storable self.now ≡ true)
+            × (has (stored_directives self.now) (codes "no-cache") ≡ false) }
     {
         self.matches_request(req) && self.satisfies_without_revalidation(req.headers(), now)
     }
@@ -82,7 +87,7 @@ impl CachePolicy {
             → result ≡ bound_by_lifetime self.now ds }
     {
         let lifetime = self.lifetime().as_nanos();
-        if !asked.max_stale.is_said() || self.has_must_revalidate() {
+        if !asked.max_stale.is_said() || !self.lets_stale_out() {
             return Some(lifetime);
         }
         Some(lifetime + nanos(asked.max_stale.number()?))

@@ -11,7 +11,7 @@ returns c = λ ps asked.
     let was = list_any (λ q. bytes_eq (codes "no-cache") (name_of q)) ps in
     let named : c.if-asked.result ≡ (was || bytes_eq (codes "no-cache") (name_of p)) = elim c.if-asked.branch [
       | then-asked w ↦ w.result-is ∙ w.if-asked.true ∙ ap (λ b. b || bytes_eq (codes "no-cache") (name_of p)) (sym w.if-asked.true ∙ ap (λ a. a.no_cache) asked)
-      | else-asked w ↦ w.result-is ∙ w.eq.ensures ∙ ap (bytes_eq (codes "no-cache")) c.split_piece.ensures.name
+      | else-asked w ↦ w.result-is ∙ w.is_same_name.ensures ∙ ap (bytes_eq (codes "no-cache")) c.split_piece.ensures.name
           ∙ ap (λ b. b || bytes_eq (codes "no-cache") (name_of p)) (sym w.if-asked.false ∙ ap (λ a. a.no_cache) asked)
     ] in
     (λ i. record {

@@ -24,9 +24,9 @@ returns-then-satisfies_without_revalidation-clause-earlier g c _ moment before =
     (sym (returns-then-satisfies_without_revalidation-clause-verdict g c))
 
 pub returns-then-satisfies_without_revalidation-clause-storable : goal.returns-then-satisfies_without_revalidation-clause-storable
-returns-then-satisfies_without_revalidation-clause-storable g c _ unasked =
+returns-then-satisfies_without_revalidation-clause-storable g c _ =
     is_fresh_for-storable c.args.self.now (g.Req.RequestLike.seen c.args.req.now) c.args.now.nanosecond
-    (sym (returns-then-satisfies_without_revalidation-clause-verdict g c)) unasked
+    (sym (returns-then-satisfies_without_revalidation-clause-verdict g c))
 
 -- ---- the stale answer
 

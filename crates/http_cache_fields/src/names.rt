@@ -1,0 +1,78 @@
+//! Names of directives, which have no case (RFC 7234, section 5.2).
+ghost use Rattle.std.specs.Prelude.{◌≡◌, bytes_eq};
+ghost use Rattle.std.specs.Ordering.{nat_cmp, on, as_partial_cmp};
+ghost use Rattle.std.specs.Cmp.{partial_order_from_own_ties};
+ghost use Rattle.std.specs.Cmp.Rules.{comparing};
+ghost use Rattle.std.specs.Cmp.Lexicographic.{pointwise, slice_cmp};
+ghost use Rattle.std.proofs.Common.{rules, nat_eq};
+ghost use Rattle.http_header.specs.Token.{lowercase};
+
+use std::cmp::Ordering;
+
+/// Whether two names are the same, but for the case of their ASCII letters.
+pub fn is_same_name(a: &str, b: &str) -> bool
+    ensures { result ≡ bytes_eq (lowercase a.now) (lowercase b.now) }
+{
+    a.eq_ignore_ascii_case(b)
+}
+
+// The order of two names in lower case.
+fn compare(first: &[u8], second: &[u8]) -> Ordering
+    ensures { result ≡ slice_cmp nat_cmp (lowercase first.now) (lowercase second.now) }
+{
+    let (mut a, mut b) = (first, second);
+    loop {
+        match (a, b) {
+            ([x, xs @ ..], [y, ys @ ..]) => {
+                match x.to_ascii_lowercase().cmp(&y.to_ascii_lowercase()) {
+                    Ordering::Equal => (a, b) = (xs, ys),
+                    apart => return apart,
+                }
+            }
+            _ => return a.len().cmp(&b.len()),
+        }
+    }
+}
+
+/// A name as it was sent, which is compared without case.
+#[derive(Clone, Copy)]
+pub struct Name<'a>(pub &'a str);
+
+impl PartialEq for Name<'_> {
+    ghost eq = { on (λ n. lowercase n.0.now) (pointwise nat_eq) };
+
+    ghost laws = { Prim.search (comparing, rules) };
+
+    fn eq(&self, other: &Self) -> bool {
+        is_same_name(self.0, other.0)
+    }
+}
+
+impl Eq for Name<'_> {
+    ghost laws = { Prim.search (comparing, rules) };
+}
+
+impl PartialOrd for Name<'_> {
+    ghost partial_cmp = { as_partial_cmp (on (λ n. lowercase n.0.now) (slice_cmp nat_cmp)) };
+
+    ghost laws = { partial_order_from_own_ties (Prim.search (comparing, rules))
+        (Prim.search (comparing, rules)) };
+
+    fn partial_cmp(&self, other: &Self) -> Option<Ordering> {
+        Some(self.cmp(other))
+    }
+}
+
+impl Ord for Name<'_> {
+    ghost cmp = { on (λ n. lowercase n.0.now) (slice_cmp nat_cmp) };
+
+    ghost total = { Prim.search (comparing, rules) };
+
+    ghost matches_partial_cmp = { Prim.search (comparing, rules) };
+
+    ghost matches_eq = { Prim.search (comparing, rules) };
+
+    fn cmp(&self, other: &Self) -> Ordering {
+        compare(self.0.as_bytes(), other.0.as_bytes())
+    }
+}
