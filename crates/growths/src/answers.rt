@@ -43,6 +43,29 @@ pub const PLAIN: [(&str, &str); 1] = [("accept", "a")];
 /// Where the request doesn't match: all of its own.
 pub const UNMATCHED: [(&str, &str); 2] = [("accept", "b"), ("te", "x")];
 
+/// The headers of the longest example's answers: after 5.5 seconds, of the 304 at ten, nine seconds
+/// later, and of the response of status 500 at twenty.
+const EXAMPLE_AT_FIVE: [(&str, &str); 3] = [
+    ("age", "5"),
+    ("cache-control", "max-age=10"),
+    ("date", "Mon, 01 Jan 2024 00:00:05 +0000"),
+];
+
+const EXAMPLE_AT_TEN: [(&str, &str); 3] = [
+    ("age", "0"),
+    ("cache-control", "max-age=10"),
+    ("date", "Mon, 01 Jan 2024 00:00:10 +0000"),
+];
+
+const EXAMPLE_AT_NINETEEN: [(&str, &str); 3] = [
+    ("age", "9"),
+    ("cache-control", "max-age=10"),
+    ("date", "Mon, 01 Jan 2024 00:00:19 +0000"),
+];
+
+const EXAMPLE_REPLACED: [(&str, &str); 2] =
+    [("age", "0"), ("date", "Mon, 01 Jan 2024 00:00:20 +0000")];
+
 fn has(headers: &HeaderMap, name: &str, value: &str) -> bool {
     headers.get_str(name).is_some_and(|text| text == value)
 }
@@ -173,15 +196,9 @@ fn is_answered(parts: &response::Parts, status: u16, wanted: &[(&str, &str)]) ->
         && has_all(&parts.headers, wanted)
 }
 
-// The stored response of the example, with its age and its date.
-fn is_example(parts: &response::Parts, age: &str, date: &str) -> bool {
-    let wanted = [("age", age), ("cache-control", "max-age=10"), ("date", date)];
-    is_answered(parts, 200, &wanted)
-}
-
-fn is_fresh_example(answer: &BeforeRequest, age: &str, date: &str) -> bool {
+fn is_fresh_example(answer: &BeforeRequest, wanted: &[(&str, &str)]) -> bool {
     match answer {
-        BeforeRequest::Fresh(parts) => is_example(parts, age, date),
+        BeforeRequest::Fresh(parts) => is_answered(parts, 200, wanted),
         BeforeRequest::Stale { .. } => false,
     }
 }
@@ -197,14 +214,11 @@ pub fn are_outcomes_of_example(outcomes: &[Outcome]) -> bool {
             Outcome::Asked(third),
             Outcome::Modified(last),
         ] => {
-            is_fresh_example(first, "5", "Mon, 01 Jan 2024 00:00:05 +0000")
+            is_fresh_example(first, &EXAMPLE_AT_FIVE)
                 && is_stale(second, true, &[])
-                && is_example(renewed, "0", "Mon, 01 Jan 2024 00:00:10 +0000")
-                && is_fresh_example(third, "9", "Mon, 01 Jan 2024 00:00:19 +0000")
-                && is_answered(last, 500, &[
-                    ("age", "0"),
-                    ("date", "Mon, 01 Jan 2024 00:00:20 +0000"),
-                ])
+                && is_answered(renewed, 200, &EXAMPLE_AT_TEN)
+                && is_fresh_example(third, &EXAMPLE_AT_NINETEEN)
+                && is_answered(last, 500, &EXAMPLE_REPLACED)
         }
         _ => false,
     }

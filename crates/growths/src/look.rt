@@ -119,8 +119,10 @@ fn is_right_of_messages(script: &Script, look: Look) -> bool {
     match look {
         Look::GetStr => response.headers.get_str("eTAG") == Some("\"c\""),
         Look::GetAllComma => {
-            let pieces = get_all_comma(response.headers.get_all("warning"));
-            pieces.count() == 2
+            let mut pieces = get_all_comma(response.headers.get_all("warning"));
+            pieces.next() == Some("110 - \"s\"")
+                && pieces.next() == Some("214 - \"x\"")
+                && pieces.next().is_none()
         }
         Look::IsSameUri => request.is_same_uri(&request.uri),
         Look::Method => request.method().as_str() == "GET",

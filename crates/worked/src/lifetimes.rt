@@ -54,6 +54,10 @@ fn by_directives() -> &'static str {
      |1704067200000|Cache-Control: max-age=100, max-age=200|100000
      |1704067200000|Cache-Control: max-age=\"10\", max-age=\"10\"|10000
      |1704067200000|Cache-Control: max-age=\"10\", max-age=10|10000
+     |1704067200000|Cache-Control: Max-Age=10|10000
+     |1704067200000|Cache-Control: Max-Age=10, max-age=20|10000
+     |1704067200000|Cache-Control: S-MaxAge=10, max-age=20|10000
+     |1704067200000|Cache-Control: No-Cache, max-age=10|0
      |1704067200000|Cache-Control: no-store, max-age=10|0
      |1704067200000|Cache-Control: no-cache, max-age=10|0
      |1704067200000|Cache-Control: immutable|86400000
@@ -63,6 +67,7 @@ fn by_directives() -> &'static str {
      |1704067200000|Cache-Control: max-age=10~Vary: *|0
      |1704067200000|Cache-Control: pre-check=0, post-check=0, no-store, no-cache, max-age=100~Expires: 0|0
      cargo|1704067200000|Cache-Control: pre-check=0, post-check=0, no-store, no-cache, max-age=100~Expires: 0|100000
+     cargo|1704067200000|Cache-Control: Pre-Check=0, POST-CHECK=0, No-Cache, MAX-AGE=100~Expires: 0|100000
      cargo|1704067200000|Cache-Control: pre-check=0, no-cache, max-age=100|0
      cargo|1704067200000|Cache-Control: post-check=0, no-cache, max-age=100|0
      cargo|1704067200000|Cache-Control: pre-check, post-check|0

@@ -125,10 +125,17 @@ fn policy_from(alloc: Global, text: &str) -> Result<CachePolicy, Fail> {
     Ok(CachePolicy::from_value(alloc, &value)?)
 }
 
+fn time_to_live(alloc: Global, text: &str) -> Result<Duration, Fail> {
+    Ok(policy_from(alloc, text)?.time_to_live(after(0)?))
+}
+
 #[test]
 fn lifetime_of_a_form(rt: HostRuntime) -> Result<(), Fail> {
-    let policy = policy_from(rt.alloc(), stored())?;
-    assert_eq!(rt; policy.time_to_live(after(0)?), Duration::from_secs(10));
+    let ten = Duration::from_secs(10);
+    assert_eq!(rt; time_to_live(rt.alloc(), stored())?, ten);
+    // Max-Age=10
+    let other = stored().replace(rt.alloc(), "6d61782d616765", "4d61782d416765")?;
+    assert_eq!(rt; time_to_live(rt.alloc(), other.as_str())?, ten);
     Ok(())
 }
 

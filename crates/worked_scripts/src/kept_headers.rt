@@ -18,7 +18,8 @@ fn cases() -> &'static str {
        cargo|Cache-Control: post-check, max-age=9 ~ Expires: 0 ~ Pragma: x|Cache-Control: max-stale|age: 0 ~ cache-control: post-check, max-age=9 ~ date: Mon, 01 Jan 2024 00:00:00 +0000 ~ expires: 0 ~ pragma: x|age 0 ttl 9000000000 stale false
        shared|Cache-Control: pre-check, post-check, max-age=9 ~ Expires: 0 ~ Pragma: x|Cache-Control: max-stale|age: 0 ~ cache-control: pre-check, post-check, max-age=9 ~ date: Mon, 01 Jan 2024 00:00:00 +0000 ~ expires: 0 ~ pragma: x|age 0 ttl 9000000000 stale false
        shared|Cache-Control: ~ Pragma: no-cache ~ Expires: Mon, 01 Jan 2024 00:01:40 GMT|Cache-Control: max-stale|age: 0 ~ cache-control: ~ date: Mon, 01 Jan 2024 00:00:00 +0000 ~ expires: Mon, 01 Jan 2024 00:01:40 GMT ~ pragma: no-cache|age 0 ttl 100000000000 stale false
-       shared|Pragma: no-cache ~ Expires: Mon, 01 Jan 2024 00:01:40 GMT|Cache-Control: max-stale|age: 0 ~ date: Mon, 01 Jan 2024 00:00:00 +0000 ~ expires: Mon, 01 Jan 2024 00:01:40 GMT ~ pragma: no-cache|age 0 ttl 0 stale true"#
+       cargo|Cache-Control: Pre-Check=0, POST-CHECK=0, MAX-AGE=100, X=Y||age: 0 ~ cache-control: max-age=100, x=Y ~ date: Mon, 01 Jan 2024 00:00:00 +0000|age 0 ttl 100000000000 stale false
+       shared|Cache-Control: MAX-AGE=100||age: 0 ~ cache-control: MAX-AGE=100 ~ date: Mon, 01 Jan 2024 00:00:00 +0000|age 0 ttl 100000000000 stale false"#
 }
 
 fn script(alloc: Global, case: &str) -> Result<String, Fail> {
