@@ -48,9 +48,10 @@ fn head() -> &'static str {
 }
 
 fn steps() -> &'static str {
-    "[{\"ask\":{\"uri\":\"/a\",\"method\":\"GET\",\"headers\":[]},\"at\":[1704067205,500000000]},\"restart\",{\"ask\":{\"uri\":\"http://h:1/a?b\",\"method\":\"GET\",\"headers\":[[\"X\",\"2\"],[\"A\",\"\"]]},\"at\":[1704067210,0]},{\"receive\":{\"uri\":\"/a\",\"method\":\"GET\",\"headers\":[]},\"response\":{\"status\":304,\"headers\":[]},\"at\":[1704067210,0]}]}"
+    "[{\"ask\":{\"uri\":\"/a\",\"method\":\"GET\",\"headers\":[]},\"at\":[1704067205,500000000]},\"restart\",{\"ask\":{\"uri\":\"http://h:1/a?b\",\"method\":\"GET\",\"headers\":[[\"X\",\"2\"],[\"A\",\"\"]]},\"at\":[1704067210,0]},{\"receive\":{\"uri\":\"/a\",\"method\":\"GET\",\"headers\":[]},\"response\":{\"status\":304,\"headers\":[]},\"at\":[1704067210,0]},{\"receive\":{\"uri\":\"/b\",\"method\":\"GET\",\"headers\":[]},\"response\":{\"status\":500,\"headers\":[[\"B\",\"2\"],[\"Age\",\"4\"]]},\"at\":[1704067220,0]}]}"
 }
 
+// Lines of each kind but the last, which tells how a script ended.
 fn full() -> &'static str {
     "storable true ttl 10.000000000
   state storable true age 0 ttl 10000000000 stale false
@@ -73,7 +74,12 @@ not-modified status 200
   cache-control: 6d61782d6167653d3130
   date: 4d6f6e2c203031204a616e20323032342030303a30303a3130202b30303030
   state storable true age 0 ttl 10000000000 stale false
-end
+modified status 500
+  status 500
+  age: 34
+  b: 32
+  date: 4d6f6e2c203031204a616e20323032342030303a30303a3230202b30303030
+  state storable false age 4000000000 ttl 0 stale true
 "
 }
 
@@ -125,12 +131,41 @@ fn answers(rt: &impl Abort, alloc: Global, steps: &str, output: &str) -> Result<
 
 #[test]
 fn answers_each_kind_of_step(rt: HostRuntime) -> Result<(), Fail> {
-    answers(&rt, rt.alloc(), steps(), full())
+    let full = full();
+    let ended = format!(in rt.alloc(); "{full}end\n")?;
+    answers(&rt, rt.alloc(), steps(), ended.as_str())
 }
 
 #[test]
 fn answers_as_far_as_it_went(rt: HostRuntime) -> Result<(), Fail> {
     answers(&rt, rt.alloc(), early(), early_full())
+}
+
+// What is written for a restart under a target without a path, of so many bytes.
+fn restarts(rt: &impl Abort, alloc: Global, len: usize, output: &str) -> Result<(), Fail> {
+    let mut target = String::from_str(alloc, "http://")?;
+    for _ in target.len()..len {
+        target.push('a')?;
+    }
+    let head = head().replace(alloc, "/a", target.as_str())?;
+    let script = format!(in alloc; "{head}[\"restart\"]}}")?;
+    writes(rt, alloc, script.as_str(), Tally::default(), output)
+}
+
+// The target is printed with a slash at its end, and a target has at most 65534 bytes.
+#[test]
+fn answers_a_restart_as_far_as_it_went(rt: HostRuntime) -> Result<(), Fail> {
+    let kept = "storable true ttl 10.000000000
+  state storable true age 0 ttl 10000000000 stale false
+restarted
+end
+";
+    let lost = "storable true ttl 10.000000000
+  state storable true age 0 ttl 10000000000 stale false
+end malformed stored form
+";
+    restarts(&rt, rt.alloc(), 65533, kept)?;
+    restarts(&rt, rt.alloc(), 65534, lost)
 }
 
 fn compares(
@@ -174,6 +209,103 @@ fn compares_recorded_answers(rt: HostRuntime) -> Result<(), Fail> {
     Ok(())
 }
 
+const AGREES: Tally = Tally {
+    agree: 1,
+    differ: 0,
+};
+
+const DIFFERS: Tally = Tally {
+    agree: 0,
+    differ: 1,
+};
+
+// The tally of one script, for which the lines of a text are recorded.
+fn tally_of(alloc: Global, steps: &str, recorded: &str) -> Result<Tally, Fail> {
+    let head = head();
+    let list = listed(alloc, recorded)?;
+    let input = format!(in alloc; "{{\"answer\":[{list}],\"script\":{head}{steps}}}")?;
+    let mut reader = input.as_bytes();
+    let mut writer = Vec::new(alloc);
+    Ok(run(alloc, &mut reader, &mut writer)?)
+}
+
+// The lines of a text as texts of JSON.
+fn listed(alloc: Global, text: &str) -> Result<String, Fail> {
+    use std::fmt::Write;
+    let mut list = String::new(alloc);
+    for line in text.lines() {
+        let comma = if list.as_str().is_empty() { "" } else { "," };
+        write!(list, "{comma}\"{line}\"")?;
+    }
+    Ok(list)
+}
+
+fn other_than(letter: char) -> char {
+    if letter == 'x' { 'y' } else { 'x' }
+}
+
+// The text with another letter at a place, which may join two lines.
+fn with_other_letter(alloc: Global, text: &str, place: usize) -> Result<String, Fail> {
+    let mut other = String::new(alloc);
+    for (at, letter) in text.chars().enumerate() {
+        let is_other = at == place;
+        other.push(if is_other { other_than(letter) } else { letter })?;
+    }
+    Ok(other)
+}
+
+// The text with a line of it so many times.
+fn with_line_times(alloc: Global, text: &str, place: usize, times: usize) -> Result<String, Fail> {
+    let mut other = String::new(alloc);
+    for (at, line) in text.lines().enumerate() {
+        let count = if at == place { times } else { 1 };
+        for _ in 0..count {
+            other.push_str(line)?;
+            other.push('\n')?;
+        }
+    }
+    Ok(other)
+}
+
+#[test]
+fn agrees_with_the_full_answer(rt: HostRuntime) -> Result<(), Fail> {
+    assert_eq!(rt; tally_of(rt.alloc(), steps(), full())?, AGREES);
+    assert_eq!(rt; tally_of(rt.alloc(), early(), early_full())?, AGREES);
+    Ok(())
+}
+
+fn differs_at_letters(rt: &impl Abort, alloc: Global, steps: &str, full: &str) -> Result<(), Fail> {
+    for place in 0..full.len() {
+        let wrong = with_other_letter(alloc, full, place)?;
+        let tally = tally_of(alloc, steps, wrong.as_str())?;
+        assert_eq!(rt; tally, DIFFERS, "at letter {place}");
+    }
+    Ok(())
+}
+
+#[test]
+fn differs_where_a_letter_is_another(rt: HostRuntime) -> Result<(), Fail> {
+    differs_at_letters(&rt, rt.alloc(), steps(), full())?;
+    differs_at_letters(&rt, rt.alloc(), early(), early_full())
+}
+
+fn differs_at_lines(rt: &impl Abort, alloc: Global, steps: &str, full: &str) -> Result<(), Fail> {
+    for (place, line) in full.lines().enumerate() {
+        for times in [0, 2] {
+            let wrong = with_line_times(alloc, full, place, times)?;
+            let tally = tally_of(alloc, steps, wrong.as_str())?;
+            assert_eq!(rt; tally, DIFFERS, "{times} times {line}");
+        }
+    }
+    Ok(())
+}
+
+#[test]
+fn differs_where_a_line_is_left_out_or_doubled(rt: HostRuntime) -> Result<(), Fail> {
+    differs_at_lines(&rt, rt.alloc(), steps(), full())?;
+    differs_at_lines(&rt, rt.alloc(), early(), early_full())
+}
+
 fn unread() -> &'static str {
     "{}\n{\n\n{\"answer\":[]}\n{\"answer\":[\"end not readable\"],\"script\":7}\nnull"
 }
@@ -213,6 +345,29 @@ fn reads_lines(rt: HostRuntime) -> Result<(), Fail> {
         assert_eq!(rt; found, Line::Whole);
         assert!(rt; line.as_slice() == wanted.as_bytes(), "at {wanted}");
     }
+    assert_eq!(rt; lines.next_line(&mut line)?, Line::End);
+    Ok(())
+}
+
+#[test]
+fn reads_the_longest_line(rt: HostRuntime) -> Result<(), Fail> {
+    for end in ["", "\n"] {
+        let mut reader = io::repeat(b' ').take(33_554_432).chain(end.as_bytes());
+        let mut line = Vec::new(rt.alloc());
+        let mut lines = LineReader::new(BufReader::new(rt.alloc(), &mut reader)?);
+        assert_eq!(rt; lines.next_line(&mut line)?, Line::Whole);
+        assert_eq!(rt; line.len(), 33_554_432);
+        assert_eq!(rt; lines.next_line(&mut line)?, Line::End);
+    }
+    Ok(())
+}
+
+#[test]
+fn passes_over_a_last_line_that_is_too_long(rt: HostRuntime) -> Result<(), Fail> {
+    let mut reader = io::repeat(b' ').take(33_554_433);
+    let mut line = Vec::new(rt.alloc());
+    let mut lines = LineReader::new(BufReader::new(rt.alloc(), &mut reader)?);
+    assert_eq!(rt; lines.next_line(&mut line)?, Line::TooLong);
     assert_eq!(rt; lines.next_line(&mut line)?, Line::End);
     Ok(())
 }
