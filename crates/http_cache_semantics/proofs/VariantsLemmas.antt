@@ -1,0 +1,208 @@
+-- What a choice among stored exchanges is like.
+use Rattle.std.proofs.Common.{◌≡◌, ◌⊎◌, inl, inr, ℕ, ℤ, ◌+◌, ◌&&◌, List, [], ◌∷◌, Bool, true, false, true≢false, Option, Some, None, option_map, filter, find, refl, sym, ap, subst, ◌∙◌, position, slice_get}
+use Rattle.std.specs.Prelude.{IsSomeAnd}
+use Rattle.std.specs.Option.{option_or}
+use Rattle.std.proofs.lemmas.Bool.{and_parts}
+use Rattle.http_cache_rules.specs.Asks.{asks_of}
+use Rattle.http_cache_policy.specs.Messages.{RequestSeen}
+use Rattle.http_cache_policy.specs.Exchange.{Exchange}
+use Rattle.http_cache_policy.specs.Match.{request_matches}
+use Rattle.http_cache_policy.specs.Verdict.{satisfies, is_fresh_for}
+use Rattle.http_cache_policy.specs.declared.before.BeforeRequest.{BeforeRequest}
+use Rattle.http_cache_policy.specs.declared.before.BeforeRequest.TheVariants.{Fresh as FreshAnswer, Stale}
+use Rattle.http_cache_semantics.specs.Run.{IsAnswer}
+use Rattle.http_cache_semantics.specs.Variants.{fresh_place, matching_place, chosen_place, IsAtPlace, IsChoice, IsPassedOver, one_further, choice_of, matching, Kind, used, validated, nothing, kind_of, exchange_chosen, IsSameChoice}
+use Rattle.http_cache_semantics.specs.declared.variants.Choice.{Choice}
+use Rattle.http_cache_semantics.specs.declared.variants.Choice.TheVariants.{Fresh, Validate, Nothing}
+use Rattle.http_cache_semantics.proofs.PlaceLemmas.{position-passes, position-fails, position-here, position-further, one_further-Some, one_further-None, slice_get-further, find-at, find-none, find-filter}
+
+-- ---- what is fresh matches
+
+pub fresh-matches : (e : Exchange) (request : RequestSeen) (now : ℤ) → is_fresh_for e request now ≡ true → request_matches e request ≡ true
+unfolding is_fresh_for
+fresh-matches e request now fresh = (and_parts (request_matches e request) (satisfies e (asks_of request.headers) now) fresh).0
+
+pub unmatched-stale : (e : Exchange) (request : RequestSeen) (now : ℤ) → request_matches e request ≡ false → is_fresh_for e request now ≡ false
+unfolding is_fresh_for
+unmatched-stale e request now unmatched = ap (λ (b : Bool). b && satisfies e (asks_of request.headers) now) unmatched
+
+-- ---- the chosen place
+
+first_or_second : (o p : Option ℕ) (i : ℕ) → option_or o p ≡ Some i → (o ≡ Some i) ⊎ ((o ≡ None) × (p ≡ Some i))
+first_or_second (Some j) p i is = inl is
+first_or_second None p i is = inr (refl, is)
+
+-- the place of one that is fresh
+pub chosen-fresh : (request : RequestSeen) (now : ℤ) (es : List Exchange) (place : ℕ) (e : Exchange)
+    → chosen_place request now es ≡ Some place → slice_get es place ≡ Some e → is_fresh_for e request now ≡ true
+    → fresh_place request now es ≡ Some place
+chosen-fresh request now es place e chosen at fresh =
+    elim (first_or_second (fresh_place request now es) (matching_place request es) place chosen) [
+      inl is ↦ is
+    | inr is ↦ absurd (true≢false (sym fresh ∙ position-fails (λ e. is_fresh_for e request now) es place e is.0 at))
+    ]
+
+-- the place of one that isn't
+pub chosen-stale : (request : RequestSeen) (now : ℤ) (es : List Exchange) (place : ℕ) (e : Exchange)
+    → chosen_place request now es ≡ Some place → slice_get es place ≡ Some e → is_fresh_for e request now ≡ false
+    → (fresh_place request now es ≡ None) × (matching_place request es ≡ Some place)
+chosen-stale request now es place e chosen at stale =
+    elim (first_or_second (fresh_place request now es) (matching_place request es) place chosen) [
+      inl is ↦ absurd (true≢false (sym (position-passes (λ e. is_fresh_for e request now) es place e is at) ∙ stale))
+    | inr is ↦ is
+    ]
+
+none_fresh : (request : RequestSeen) (now : ℤ) (es : List Exchange) (o : Option ℕ) → fresh_place request now es ≡ o
+    → matching_place request es ≡ None → fresh_place request now es ≡ None
+none_fresh request now es (Some place) is unmatched =
+    let found = find-at (λ e. is_fresh_for e request now) es place is in
+    let e = found.0 in
+    let fresh = position-passes (λ e. is_fresh_for e request now) es place e is found.2 in
+    let fails = position-fails (λ e. request_matches e request) es place e unmatched found.2 in
+    absurd (true≢false (sym (fresh-matches e request now fresh) ∙ fails))
+none_fresh request now es None is unmatched = is
+
+-- none where none matches
+pub none-chosen : (request : RequestSeen) (now : ℤ) (es : List Exchange) → matching_place request es ≡ None → chosen_place request now es ≡ None
+none-chosen request now es unmatched = rw (none_fresh request now es (fresh_place request now es) refl unmatched) unmatched
+
+-- none among none
+pub none-matches : (request : RequestSeen) (es : List Exchange) → es ≡ [] → matching_place request es ≡ None
+none-matches request es empty = rw empty refl
+
+both_none : (o p : Option ℕ) → option_or o p ≡ None → (o ≡ None) × (p ≡ None)
+both_none (Some j) p is = cc
+both_none None p is = (refl, is)
+
+-- no place is chosen, so none is fresh and none matches
+pub unchosen : (request : RequestSeen) (now : ℤ) (es : List Exchange) → chosen_place request now es ≡ None → IsChoice es request now Nothing
+unchosen request now es none = both_none (fresh_place request now es) (matching_place request es) none
+
+-- ---- one exchange more
+
+fresh_place-further : (e : Exchange) (es : List Exchange) (request : RequestSeen) (now : ℤ) → request_matches e request ≡ false
+    → fresh_place request now (e ∷ es) ≡ option_map (λ n. n + 1) (fresh_place request now es)
+fresh_place-further e es request now unmatched =
+    position-further (λ e. is_fresh_for e request now) e es (unmatched-stale e request now unmatched)
+
+matching_place-further : (e : Exchange) (es : List Exchange) (request : RequestSeen) → request_matches e request ≡ false
+    → matching_place request (e ∷ es) ≡ option_map (λ n. n + 1) (matching_place request es)
+matching_place-further e es request unmatched = position-further (λ e. request_matches e request) e es unmatched
+
+at_further : (P : Exchange → Type 0) (e : Exchange) (es : List Exchange) (i : ℕ) → IsAtPlace es i P → IsAtPlace (e ∷ es) (i + 1) P
+at_further P e es i at = subst (λ (o : Option Exchange). IsSomeAnd o P) (sym (slice_get-further e es i)) at
+
+at_nearer : (P : Exchange → Type 0) (e : Exchange) (es : List Exchange) (i j : ℕ) → i ≡ j + 1 → IsAtPlace (e ∷ es) i P → IsAtPlace es j P
+at_nearer P e es i j is at = subst (λ (o : Option Exchange). IsSomeAnd o P) (ap (slice_get (e ∷ es)) is ∙ slice_get-further e es j) at
+
+one_further-is : (e : Exchange) (es : List Exchange) (request : RequestSeen) (now : ℤ) → request_matches e request ≡ false
+    → (choice : Choice) → IsChoice es request now choice → IsChoice (e ∷ es) request now (one_further choice)
+one_further-is e es request now unmatched (Fresh place parts) is = (
+      fresh_place-further e es request now unmatched ∙ ap (option_map (λ n. n + 1)) is.0,
+      at_further _ e es place is.1,
+    )
+one_further-is e es request now unmatched (Validate place sent) is = (
+      fresh_place-further e es request now unmatched ∙ ap (option_map (λ n. n + 1)) is.0,
+      matching_place-further e es request unmatched ∙ ap (option_map (λ n. n + 1)) is.1,
+      at_further _ e es place is.2,
+    )
+one_further-is e es request now unmatched Nothing is = (
+      fresh_place-further e es request now unmatched ∙ ap (option_map (λ n. n + 1)) is.0,
+      matching_place-further e es request unmatched ∙ ap (option_map (λ n. n + 1)) is.1,
+    )
+
+one_further-only : (e : Exchange) (es : List Exchange) (request : RequestSeen) (now : ℤ) → request_matches e request ≡ false
+    → (choice : Choice) → IsChoice (e ∷ es) request now choice
+    → (before : Choice) × IsChoice es request now before × (choice ≡ one_further before)
+one_further-only e es request now unmatched (Fresh place parts) is =
+    let nearer = one_further-Some (fresh_place request now es) place (sym (fresh_place-further e es request now unmatched) ∙ is.0) in
+    (Fresh nearer.0 parts, (nearer.1, at_nearer _ e es place nearer.0 nearer.2 is.1), ap (λ (n : ℕ). Fresh n parts) nearer.2)
+one_further-only e es request now unmatched (Validate place sent) is =
+    let stale = one_further-None (fresh_place request now es) (sym (fresh_place-further e es request now unmatched) ∙ is.0) in
+    let nearer = one_further-Some (matching_place request es) place (sym (matching_place-further e es request unmatched) ∙ is.1) in
+    (Validate nearer.0 sent, (stale, nearer.1, at_nearer _ e es place nearer.0 nearer.2 is.2), ap (λ (n : ℕ). Validate n sent) nearer.2)
+one_further-only e es request now unmatched Nothing is =
+    let stale = one_further-None (fresh_place request now es) (sym (fresh_place-further e es request now unmatched) ∙ is.0) in
+    let away = one_further-None (matching_place request es) (sym (matching_place-further e es request unmatched) ∙ is.1) in
+    (Nothing, (stale, away), refl)
+
+pub passed_over : (e : Exchange) (es : List Exchange) → IsPassedOver e es (e ∷ es)
+passed_over e es = record {
+  further = λ request now unmatched choice is. one_further-is e es request now unmatched choice is;
+  no_other = λ request now unmatched choice is. one_further-only e es request now unmatched choice is;
+}
+
+-- ---- one exchange alone
+
+pub alone-is : (e : Exchange) (request : RequestSeen) (now : ℤ) (answer : BeforeRequest) → IsAnswer e request now answer
+    → IsChoice (e ∷ []) request now (choice_of answer)
+alone-is e request now (FreshAnswer parts) is =
+    (position-here (λ e. is_fresh_for e request now) e [] (sym is.verdict), is.fresh)
+alone-is e request now (Stale sent true) is = (
+      position-further (λ e. is_fresh_for e request now) e [] (sym is.verdict),
+      position-here (λ e. request_matches e request) e [] (sym is.matches),
+      is.stale,
+    )
+alone-is e request now (Stale sent false) is = (
+      position-further (λ e. is_fresh_for e request now) e [] (sym is.verdict),
+      position-further (λ e. request_matches e request) e [] (sym is.matches),
+    )
+
+pub single-is : (es : List Exchange) (request : RequestSeen) (now : ℤ) (e : Exchange) → es ≡ e ∷ [] → (answer : BeforeRequest)
+    → IsAnswer e request now answer → IsChoice es request now (choice_of answer)
+single-is es request now e single answer is =
+    subst (λ (fs : List Exchange). IsChoice fs request now (choice_of answer)) (sym single) (alone-is e request now answer is)
+
+-- ---- another order
+
+-- the first that is fresh, and the first that matches
+abbrev fresh_one : RequestSeen → ℤ → List Exchange → Option Exchange
+fresh_one request now es = find (λ e. is_fresh_for e request now) es
+
+abbrev matching_one : RequestSeen → List Exchange → Option Exchange
+matching_one request es = find (λ e. request_matches e request) es
+
+-- the kind of a choice, by whether there are such
+kind_by : Option Exchange → Option Exchange → Kind
+kind_by (Some e) o = used
+kind_by None (Some e) = validated
+kind_by None None = nothing
+
+record IsByFirst (fresh matched : Option Exchange) (kind : Kind) (chosen : Option Exchange) : Type 0 where
+  kind_is : kind ≡ kind_by fresh matched
+  chosen_is : chosen ≡ option_or fresh matched
+
+by_first : (es : List Exchange) (request : RequestSeen) (now : ℤ) (choice : Choice) → IsChoice es request now choice
+    → IsByFirst (fresh_one request now es) (matching_one request es) (kind_of choice) (exchange_chosen es choice)
+unfolding kind_by
+by_first es request now (Fresh place parts) is =
+    let found = find-at (λ e. is_fresh_for e request now) es place is.0 in
+    rw found.1 (record { kind_is = refl; chosen_is = found.2 })
+by_first es request now (Validate place sent) is =
+    let stale = find-none (λ e. is_fresh_for e request now) es is.0 in
+    let found = find-at (λ e. request_matches e request) es place is.1 in
+    rw (stale, found.1) (record { kind_is = refl; chosen_is = found.2 })
+by_first es request now Nothing is =
+    let stale = find-none (λ e. is_fresh_for e request now) es is.0 in
+    let away = find-none (λ e. request_matches e request) es is.1 in
+    rw (stale, away) (record { kind_is = refl; chosen_is = refl })
+
+pub same_choice : (es : List Exchange) (request : RequestSeen) (now : ℤ) (choice : Choice) → IsChoice es request now choice
+    → (fs : List Exchange) → matching request fs ≡ matching request es
+    → (other : Choice) → IsChoice fs request now other → IsSameChoice es choice fs other
+same_choice es request now choice is fs same other other_is =
+    let fits : Exchange → Bool = λ e. request_matches e request in
+    let is_fresh : Exchange → Bool = λ e. is_fresh_for e request now in
+    let implied : (e : Exchange) → is_fresh e ≡ true → fits e ≡ true = λ e. fresh-matches e request now in
+    let fresh : fresh_one request now fs ≡ fresh_one request now es =
+        sym (find-filter fits is_fresh implied fs) ∙ ap (find is_fresh) same ∙ find-filter fits is_fresh implied es in
+    let matched : matching_one request fs ≡ matching_one request es =
+        sym (find-filter fits fits (λ e h. h) fs) ∙ ap (find fits) same ∙ find-filter fits fits (λ e h. h) es in
+    let one = by_first es request now choice is in
+    let two = by_first fs request now other other_is in
+    record {
+      kind = two.kind_is ∙ ap (λ (o : Option Exchange). kind_by o (matching_one request fs)) fresh
+        ∙ ap (kind_by (fresh_one request now es)) matched ∙ sym one.kind_is;
+      exchange = two.chosen_is ∙ ap (λ (o : Option Exchange). option_or o (matching_one request fs)) fresh
+        ∙ ap (option_or (fresh_one request now es)) matched ∙ sym one.chosen_is;
+    }
