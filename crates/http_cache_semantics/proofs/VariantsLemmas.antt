@@ -4,17 +4,21 @@ use Rattle.std.specs.Prelude.{IsSomeAnd}
 use Rattle.std.specs.Option.{option_or}
 use Rattle.std.proofs.lemmas.Bool.{and_parts}
 use Rattle.http_cache_rules.specs.Asks.{asks_of}
+use Rattle.http.specs.declared.request.Parts.{Parts as RequestParts}
+use Rattle.http.specs.declared.response.Parts.{Parts as ResponseParts}
 use Rattle.http_cache_policy.specs.Messages.{RequestSeen}
 use Rattle.http_cache_policy.specs.Exchange.{Exchange}
 use Rattle.http_cache_policy.specs.Match.{request_matches}
 use Rattle.http_cache_policy.specs.Verdict.{satisfies, is_fresh_for}
+use Rattle.http_cache_policy.specs.Fresh.{IsFreshParts}
+use Rattle.http_cache_policy.specs.Stale.{IsStaleRequest}
 use Rattle.http_cache_policy.specs.declared.before.BeforeRequest.{BeforeRequest}
 use Rattle.http_cache_policy.specs.declared.before.BeforeRequest.TheVariants.{Fresh as FreshAnswer, Stale}
 use Rattle.http_cache_semantics.specs.Run.{IsAnswer}
 use Rattle.http_cache_semantics.specs.Variants.{fresh_place, matching_place, chosen_place, IsAtPlace, IsChoice, IsPassedOver, one_further, choice_of, matching, Kind, used, validated, nothing, kind_of, exchange_chosen, IsSameChoice}
 use Rattle.http_cache_semantics.specs.declared.variants.Choice.{Choice}
 use Rattle.http_cache_semantics.specs.declared.variants.Choice.TheVariants.{Fresh, Validate, Nothing}
-use Rattle.http_cache_semantics.proofs.PlaceLemmas.{position-passes, position-fails, position-here, position-further, one_further-Some, one_further-None, slice_get-further, find-at, find-none, find-filter}
+use Rattle.http_cache_semantics.proofs.PlaceLemmas.{at_place, position-passes, position-fails, position-here, position-further, one_further-Some, one_further-None, slice_get-further, find-at, find-none, find-filter}
 
 -- ---- what is fresh matches
 
@@ -66,10 +70,6 @@ none_fresh request now es None is unmatched = is
 pub none-chosen : (request : RequestSeen) (now : ℤ) (es : List Exchange) → matching_place request es ≡ None → chosen_place request now es ≡ None
 none-chosen request now es unmatched = rw (none_fresh request now es (fresh_place request now es) refl unmatched) unmatched
 
--- none among none
-pub none-matches : (request : RequestSeen) (es : List Exchange) → es ≡ [] → matching_place request es ≡ None
-none-matches request es empty = rw empty refl
-
 both_none : (o p : Option ℕ) → option_or o p ≡ None → (o ≡ None) × (p ≡ None)
 both_none (Some j) p is = cc
 both_none None p is = (refl, is)
@@ -77,6 +77,35 @@ both_none None p is = (refl, is)
 -- no place is chosen, so none is fresh and none matches
 pub unchosen : (request : RequestSeen) (now : ℤ) (es : List Exchange) → chosen_place request now es ≡ None → IsChoice es request now Nothing
 unchosen request now es none = both_none (fresh_place request now es) (matching_place request es) none
+
+-- the choice where the chosen one is fresh
+pub fresh-is : (request : RequestSeen) (now : ℤ) (es : List Exchange) (place : ℕ) (e : Exchange) (parts : ResponseParts)
+    → chosen_place request now es ≡ Some place → slice_get es place ≡ Some e → is_fresh_for e request now ≡ true
+    → IsFreshParts e now parts → IsChoice es request now (Fresh place parts)
+fresh-is request now es place e parts chosen at fresh is = (
+      chosen-fresh request now es place e chosen at fresh,
+      at_place (λ e. IsFreshParts e now parts) es place e at is,
+    )
+
+-- the choice where it isn't
+pub stale-is : (request : RequestSeen) (now : ℤ) (es : List Exchange) (place : ℕ) (e : Exchange) (sent : RequestParts)
+    → chosen_place request now es ≡ Some place → slice_get es place ≡ Some e → is_fresh_for e request now ≡ false
+    → IsStaleRequest e request sent → IsChoice es request now (Validate place sent)
+stale-is request now es place e sent chosen at stale is =
+    let places = chosen-stale request now es place e chosen at stale in
+    (places.0, places.1, at_place (λ e. IsStaleRequest e request sent) es place e at is)
+
+-- it matches
+pub stale-matches : (request : RequestSeen) (now : ℤ) (es : List Exchange) (place : ℕ) (e : Exchange)
+    → chosen_place request now es ≡ Some place → slice_get es place ≡ Some e → is_fresh_for e request now ≡ false
+    → request_matches e request ≡ true
+stale-matches request now es place e chosen at stale =
+    position-passes (λ e. request_matches e request) es place e (chosen-stale request now es place e chosen at stale).1 at
+
+-- where none matches, no place is chosen
+pub unmatched-unchosen : (request : RequestSeen) (now : ℤ) (es : List Exchange) (place : ℕ)
+    → chosen_place request now es ≡ Some place → matching_place request es ≡ None → ⊥
+unmatched-unchosen request now es place chosen unmatched = let no = none-chosen request now es unmatched in cc
 
 -- ---- one exchange more
 
