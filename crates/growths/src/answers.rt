@@ -2,7 +2,7 @@
 use http::{HeaderMap, request, response};
 use http_cache_semantics::chain::Outcome;
 use http_cache_semantics::directives::{CacheControl, GetHeaderStr};
-use http_cache_semantics::{AfterResponse, BeforeRequest, CachePolicy};
+use http_cache_semantics::{AfterResponse, BeforeRequest, CachePolicy, Choice};
 use jiff::Timestamp;
 use std::time::Duration;
 
@@ -106,6 +106,22 @@ pub fn is_stale(answer: &BeforeRequest, does_match: bool, wanted: &[(&str, &str)
         BeforeRequest::Stale { request, matches } => {
             *matches == does_match && asks(request, wanted)
         }
+    }
+}
+
+/// The first of the variants, fresh after 5.5 seconds.
+pub fn chooses_fresh(choice: &Choice) -> bool {
+    match choice {
+        Choice::Fresh { place, parts } => *place == 0 && is_kept(parts, FIVE_SECONDS),
+        _ => false,
+    }
+}
+
+/// The first of the variants, which is to be validated.
+pub fn chooses_validated(choice: &Choice) -> bool {
+    match choice {
+        Choice::Validate { place, request } => *place == 0 && asks(request, &VALIDATED),
+        _ => false,
     }
 }
 

@@ -28,10 +28,16 @@ pub enum Call {
     Replay,
     /// The steps of the longest example.
     ReplayExample,
+    /// `add` of a copy to variants.
+    Add,
+    /// `choose`, with a choice that is fresh.
+    ChooseFresh,
+    /// `choose`, with one that is to be validated.
+    ChooseValidated,
 }
 
 /// Each call once.
-pub const CALLS: [Call; 17] = [
+pub const CALLS: [Call; 20] = [
     Call::New,
     Call::NewOptions,
     Call::TryClone,
@@ -49,4 +55,7 @@ pub const CALLS: [Call; 17] = [
     Call::Chain,
     Call::Replay,
     Call::ReplayExample,
+    Call::Add,
+    Call::ChooseFresh,
+    Call::ChooseValidated,
 ];

@@ -1,13 +1,16 @@
 //! The exchange on which the calls are made.
 use crate::answers::{
     FIVE_SECONDS, PLAIN, UNMATCHED, UNMATCHED_HEAD, VALIDATED, are_directives, are_outcomes,
-    are_outcomes_of_example, is_at, is_fresh, is_stale, is_unstorable_at, renews, replaces,
+    are_outcomes_of_example, chooses_fresh, chooses_validated, is_at, is_fresh, is_stale,
+    is_unstorable_at, renews, replaces,
 };
 use crate::call::Call;
 use cache_script::{Script, Step, Unread, script_from_bytes};
 use http_cache_semantics::chain::{chain, replay};
 use http_cache_semantics::directives::{CacheControl, format_cache_control, parse_cache_control};
-use http_cache_semantics::{AfterResponse, BeforeRequest, CacheError, CachePolicy};
+use http_cache_semantics::{
+    AfterResponse, BeforeRequest, CacheError, CachePolicy, Choice, Variants,
+};
 use jiff::Timestamp;
 use serde_json::Value;
 use std::alloc::Global;
@@ -30,11 +33,12 @@ const FORM: &str =
 /// "private" and "public", as the stored form has them.
 const WORDS: (&str, &str) = ("70726976617465", "7075626c6963");
 
-/// An exchange with a policy of it.
+/// An exchange with a policy of it, and variants of which that is one.
 #[derive(Drop)]
 pub struct Case {
     script: Script,
     policy: CachePolicy,
+    variants: Variants,
 }
 
 fn script_of(alloc: Global, text: &str) -> Result<Script, CacheError> {
@@ -66,7 +70,35 @@ fn policy_of(alloc: Global, script: &Script) -> Result<CachePolicy, CacheError> 
 
 fn case_of(alloc: Global, script: Script) -> Result<Case, CacheError> {
     let policy = policy_of(alloc, &script)?;
-    Ok(Case { script, policy })
+    let variants = variants_of(alloc, &policy)?;
+    Ok(Case {
+        script,
+        policy,
+        variants,
+    })
+}
+
+/// Variants of which a copy of the policy is the only one.
+pub(crate) fn variants_of(alloc: Global, policy: &CachePolicy) -> Result<Variants, CacheError> {
+    let mut variants = Variants::new(alloc);
+    match variants.add(policy.try_clone(alloc)?) {
+        Ok(()) => Ok(variants),
+        Err((_, e)) => Err(e),
+    }
+}
+
+// Whether a policy that isn't added comes back as it was.
+fn is_added(variants: &mut Variants, policy: CachePolicy) -> Result<bool, CacheError> {
+    match variants.add(policy) {
+        Ok(()) => Ok(variants.len() == 1),
+        Err((back, e)) => {
+            if variants.is_empty() && is_right_policy(&back)? {
+                Err(e)
+            } else {
+                Ok(false)
+            }
+        }
+    }
 }
 
 /// The moment so many nanoseconds after the response.
@@ -127,6 +159,11 @@ impl Case {
         &self.script
     }
 
+    /// The variants.
+    pub(crate) fn variants(&self) -> &Variants {
+        &self.variants
+    }
+
     /// The policy of the exchange.
     pub(crate) fn policy(&self) -> &CachePolicy {
         &self.policy
@@ -163,6 +200,9 @@ impl Case {
             Call::ToValue => self.is_written_so(alloc),
             Call::Chain => self.is_handed_on(alloc),
             Call::Replay | Call::ReplayExample => self.runs(alloc, call),
+            Call::Add => self.adds(alloc),
+            Call::ChooseFresh => Ok(chooses_fresh(&self.choice_at(alloc, 0)?)),
+            Call::ChooseValidated => Ok(chooses_validated(&self.choice_at(alloc, 2)?)),
         }
     }
 
@@ -171,6 +211,19 @@ impl Case {
         match call {
             Call::ReplayExample => Ok(are_outcomes_of_example(outcomes.as_slice())),
             _ => Ok(are_outcomes(outcomes.as_slice())),
+        }
+    }
+
+    fn adds(&self, alloc: Global) -> Result<bool, CacheError> {
+        let mut variants = Variants::new(alloc);
+        is_added(&mut variants, self.policy.try_clone(alloc)?)
+    }
+
+    /// What is chosen among the variants for the request of a step.
+    pub(crate) fn choice_at(&self, alloc: Global, place: usize) -> Result<Choice, CacheError> {
+        match self.script.steps.get(place) {
+            Some(Step::Ask { request, moment }) => self.variants.choose(alloc, request, *moment),
+            _ => Err(CacheError::Malformed),
         }
     }
 

@@ -1,5 +1,5 @@
 //! Calls that take no memory.
-use crate::case::{Case, after, form};
+use crate::case::{Case, after, form, variants_of};
 use cache_script::{Script, Step};
 use http_cache_semantics::directives::{
     CacheControl, GetHeaderStr, get_all_comma, parse_cache_control,
@@ -7,7 +7,8 @@ use http_cache_semantics::directives::{
 use http_cache_semantics::policy::Fraction;
 use http_cache_semantics::stored::{moment_from_value, options_from_value};
 use http_cache_semantics::{
-    BeforeRequest, CacheError, CacheOptions, CachePolicy, RequestLike, ResponseLike,
+    BeforeRequest, CacheError, CacheOptions, CachePolicy, Choice, RequestLike, ResponseLike,
+    Variants,
 };
 use serde_json::Value;
 use std::alloc::Global;
@@ -42,10 +43,16 @@ pub enum Look {
     /// Of a request and of a response.
     Headers,
     Status,
+    /// `new`, `len` and `is_empty` of variants.
+    NewVariants,
+    PolicyAt,
+    Remove,
+    /// `choose`, where none of the variants matches.
+    ChooseNothing,
 }
 
 /// Each of these calls once.
-pub const LOOKS: [Look; 22] = [
+pub const LOOKS: [Look; 26] = [
     Look::IsStorable,
     Look::Age,
     Look::TimeToLive,
@@ -68,6 +75,10 @@ pub const LOOKS: [Look; 22] = [
     Look::Method,
     Look::Headers,
     Look::Status,
+    Look::NewVariants,
+    Look::PolicyAt,
+    Look::Remove,
+    Look::ChooseNothing,
 ];
 
 /// What is looked at.
@@ -81,6 +92,8 @@ pub enum Sight {
     Directives(CacheControl),
     /// The stored form of the policy.
     Form(Value),
+    /// Variants, of which the policy is one.
+    Variants(Variants),
 }
 
 fn directives_in(alloc: Global, case: &Case) -> Result<Sight, CacheError> {
@@ -90,6 +103,10 @@ fn directives_in(alloc: Global, case: &Case) -> Result<Sight, CacheError> {
 
 fn answer_in(alloc: Global, case: &Case) -> Result<Sight, CacheError> {
     Ok(Sight::Answer(case.answer_at(alloc, 0)?))
+}
+
+fn variants_in(alloc: Global, case: &Case) -> Result<Sight, CacheError> {
+    Ok(Sight::Variants(variants_of(alloc, case.policy())?))
 }
 
 // Whether a policy of ten seconds tells what it has to after five and a half.
@@ -141,7 +158,27 @@ fn is_right_of_options(look: Look) -> bool {
     }
 }
 
-fn is_right_of_exchange(case: &Case, look: Look) -> bool {
+fn is_right_of_new(alloc: Global) -> bool {
+    let variants = Variants::new(alloc);
+    variants.is_empty() && variants.len() == 0
+}
+
+// The only one of them is taken out, and then there is none.
+fn is_right_of_remove(variants: &mut Variants) -> bool {
+    variants.remove(1).is_none() && variants.remove(0).is_some() && variants.is_empty()
+}
+
+fn is_right_of_choices(alloc: Global, case: &Case, look: Look) -> bool {
+    match look {
+        Look::NewVariants => is_right_of_new(alloc),
+        Look::PolicyAt => {
+            case.variants().policy_at(0).is_some() && case.variants().policy_at(1).is_none()
+        }
+        _ => matches!(case.choice_at(alloc, 6), Ok(Choice::Nothing)),
+    }
+}
+
+fn is_right_of_exchange(alloc: Global, case: &Case, look: Look) -> bool {
     match look {
         Look::IsStorable | Look::Age | Look::TimeToLive | Look::IsStale => {
             is_right_of_policy(case.policy(), look) == Ok(true)
@@ -150,6 +187,9 @@ fn is_right_of_exchange(case: &Case, look: Look) -> bool {
             told_at(case, 0, look) == Some(true) && told_at(case, 6, look) == Some(false)
         }
         Look::Fraction | Look::DefaultOptions => is_right_of_options(look),
+        Look::NewVariants | Look::PolicyAt | Look::ChooseNothing => {
+            is_right_of_choices(alloc, case, look)
+        }
         _ => is_right_of_messages(case.script(), look),
     }
 }
@@ -186,14 +226,16 @@ impl Sight {
             }
             Look::SatisfiesWithoutRevalidation => answer_in(alloc, &Case::varied(alloc)?),
             Look::OptionsFromValue | Look::MomentFromValue => Ok(Sight::Form(form(alloc)?)),
+            Look::Remove => variants_in(alloc, &Case::varied(alloc)?),
             _ => Ok(Sight::Exchange(Case::varied(alloc)?)),
         }
     }
 
     /// Makes a call, and tells whether its answer is the right one.
-    pub fn is_right(&self, look: Look) -> bool {
+    pub fn is_right(&mut self, alloc: Global, look: Look) -> bool {
         match self {
-            Sight::Exchange(case) => is_right_of_exchange(case, look),
+            Sight::Variants(variants) => is_right_of_remove(variants),
+            Sight::Exchange(case) => is_right_of_exchange(alloc, case, look),
             Sight::Answer(answer) => answer.satisfies_without_revalidation(),
             Sight::Directives(read) => is_right_of_directives(read, look),
             Sight::Form(value) => is_right_of_form(value, look),

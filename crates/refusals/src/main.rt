@@ -67,9 +67,9 @@ fn end_of(rt: &HostRuntime, call: Call) -> End {
 // What is looked at is made, the call named, and made.
 fn end_of_look(rt: &HostRuntime, look: Look) -> End {
     match Sight::new(rt.alloc(), look) {
-        Ok(sight) => {
+        Ok(mut sight) => {
             let _ = println!(rt; "{look:?}");
-            if sight.is_right(look) {
+            if sight.is_right(rt.alloc(), look) {
                 End::Answered
             } else {
                 End::Wrong

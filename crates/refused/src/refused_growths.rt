@@ -152,3 +152,18 @@ fn growths_of_replay(rt: HostRuntime) -> Result<(), Fail> {
 fn growths_of_replay_example(rt: HostRuntime) -> Result<(), Fail> {
     growths_of(&rt, rt.alloc(), Call::ReplayExample)
 }
+
+#[test]
+fn growths_of_add(rt: HostRuntime) -> Result<(), Fail> {
+    growths_of(&rt, rt.alloc(), Call::Add)
+}
+
+#[test]
+fn growths_of_choose_fresh(rt: HostRuntime) -> Result<(), Fail> {
+    growths_of(&rt, rt.alloc(), Call::ChooseFresh)
+}
+
+#[test]
+fn growths_of_choose_validated(rt: HostRuntime) -> Result<(), Fail> {
+    growths_of(&rt, rt.alloc(), Call::ChooseValidated)
+}

@@ -1,7 +1,9 @@
 //! The calls that are timed.
 use cache_script::Script;
 use http::{request, response};
-use http_cache_semantics::{AfterResponse, BeforeRequest, CacheError, CachePolicy};
+use http_cache_semantics::{
+    AfterResponse, BeforeRequest, CacheError, CachePolicy, Choice, Variants,
+};
 use jiff::Timestamp;
 use std::alloc::Global;
 
@@ -86,6 +88,51 @@ pub fn repeat(
     let mut sum = 0u64;
     for _ in 0..count {
         sum = sum.wrapping_add(once(alloc, script, policy, call).ok()?);
+    }
+    Some(sum)
+}
+
+fn add_copy(
+    alloc: Global,
+    variants: &mut Variants,
+    policy: &CachePolicy,
+) -> Result<(), CacheError> {
+    variants.add(policy.try_clone(alloc)?).map_err(|(_, e)| e)
+}
+
+/// So many copies of a policy.
+pub fn copies_of(alloc: Global, policy: &CachePolicy, len: u64) -> Result<Variants, CacheError> {
+    let mut variants = Variants::new(alloc);
+    for _ in 0..len {
+        add_copy(alloc, &mut variants, policy)?;
+    }
+    Ok(variants)
+}
+
+#[inline(never)]
+fn choice_weight(
+    alloc: Global,
+    variants: &Variants,
+    request: &request::Parts,
+    now: Timestamp,
+) -> Result<u64, CacheError> {
+    match variants.choose(alloc, request, now)? {
+        Choice::Fresh { place, .. } | Choice::Validate { place, .. } => Ok(place as u64),
+        Choice::Nothing => Ok(1),
+    }
+}
+
+/// Chooses so many times, and sums up what the choices weigh; nothing where one is refused.
+pub fn repeat_choice(
+    alloc: Global,
+    variants: &Variants,
+    request: &request::Parts,
+    now: Timestamp,
+    count: u64,
+) -> Option<u64> {
+    let mut sum = 0u64;
+    for _ in 0..count {
+        sum = sum.wrapping_add(choice_weight(alloc, variants, request, now).ok()?);
     }
     Some(sum)
 }

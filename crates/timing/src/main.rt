@@ -1,14 +1,17 @@
 //! Tells how long the library's calls take on this machine.
 //!
 //! `timing COUNT < SCRIPT` makes a policy of the script's exchange and prints, for each call on it,
-//! the mean nanoseconds of so many runs. Without a count it prints nothing.
+//! the mean nanoseconds of so many runs, and then that of a choice among 1, 10, 100 and 1,000 copies
+//! of the policy of which none matches, in as many tests. Without a count it prints nothing.
 #![tactic(auto)]
 
 mod call;
 
 use cache_script::{Script, ScriptStep, Step, script_from_bytes};
-use call::{Call, policy_of, repeat};
-use http_cache_semantics::CachePolicy;
+use call::{Call, copies_of, policy_of, repeat, repeat_choice};
+use http::{Method, request};
+use http_cache_semantics::{CachePolicy, Variants};
+use jiff::Timestamp;
 use std::io::Read;
 use std::process::ExitCode;
 use std::time::Instant;
@@ -80,6 +83,67 @@ fn tell_step(
     }
 }
 
+// Prints how long a choice takes, where it isn't refused.
+fn tell_choice(
+    rt: &HostRuntime,
+    variants: &Variants,
+    request: &request::Parts,
+    now: Timestamp,
+    count: u64,
+) -> io::Result<bool> {
+    let start = Instant::now(rt)?;
+    let weight = repeat_choice(rt.alloc(), variants, request, now, count);
+    let nanos = start.elapsed(rt)?.as_nanos();
+    if weight.is_none() {
+        return Ok(false);
+    }
+    if let Some(mean) = nanos.checked_div(u128::from(count)) {
+        println!(rt; "choose of {} {mean}", variants.len())?;
+    }
+    Ok(true)
+}
+
+fn tell_copies(
+    rt: &HostRuntime,
+    policy: &CachePolicy,
+    request: &request::Parts,
+    now: Timestamp,
+    count: u64,
+) -> io::Result<bool> {
+    let mut told = true;
+    for len in [1u64, 10, 100, 1000] {
+        let variants = copies_of(rt.alloc(), policy, len);
+        told = told
+            && match &variants {
+                Ok(variants) => tell_choice(rt, variants, request, now, count.div_ceil(len))?,
+                Err(_) => false,
+            };
+    }
+    Ok(told)
+}
+
+// A request that differs from the stored one in its method alone.
+fn tell_choices(
+    rt: &HostRuntime,
+    script: &Script,
+    policy: &CachePolicy,
+    count: u64,
+) -> io::Result<bool> {
+    let Ok(headers) = script.request.headers.clone() else {
+        return Ok(false);
+    };
+    let Ok(uri) = script.request.uri.clone() else {
+        return Ok(false);
+    };
+    let request = request::Parts {
+        method: Method::OPTIONS,
+        uri,
+        version: script.request.version,
+        headers,
+    };
+    tell_copies(rt, policy, &request, script.received, count)
+}
+
 fn tell_all(
     rt: &HostRuntime,
     script: &Script,
@@ -91,7 +155,7 @@ fn tell_all(
     for step in script.steps.as_slice() {
         told = told && tell_step(rt, script, policy, step, count)?;
     }
-    Ok(told)
+    Ok(told && tell_choices(rt, script, policy, count)?)
 }
 
 fn tell_script(rt: &HostRuntime, script: &Script, count: u64) -> io::Result<bool> {

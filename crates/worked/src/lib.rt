@@ -15,3 +15,5 @@ mod parse_cache_control;
 mod policies;
 #[cfg(test)]
 mod refusals;
+#[cfg(test)]
+mod variants;
