@@ -42,8 +42,8 @@ pub chosen-fresh : (request : RequestSeen) (now : ℤ) (es : List Exchange) (pla
     → fresh_place request now es ≡ Some place
 chosen-fresh request now es place e chosen at fresh =
     elim (first_or_second (fresh_place request now es) (matching_place request es) place chosen) [
-      inl is ↦ is
-    | inr is ↦ absurd (true≢false (sym fresh ∙ position-fails (λ e. is_fresh_for e request now) es place e is.0 at))
+      | inl is ↦ is
+      | inr is ↦ absurd (true≢false (sym fresh ∙ position-fails (λ e. is_fresh_for e request now) es place e is.0 at))
     ]
 
 -- the place of one that isn't
@@ -52,8 +52,8 @@ pub chosen-stale : (request : RequestSeen) (now : ℤ) (es : List Exchange) (pla
     → (fresh_place request now es ≡ None) × (matching_place request es ≡ Some place)
 chosen-stale request now es place e chosen at stale =
     elim (first_or_second (fresh_place request now es) (matching_place request es) place chosen) [
-      inl is ↦ absurd (true≢false (sym (position-passes (λ e. is_fresh_for e request now) es place e is at) ∙ stale))
-    | inr is ↦ is
+      | inl is ↦ absurd (true≢false (sym (position-passes (λ e. is_fresh_for e request now) es place e is at) ∙ stale))
+      | inr is ↦ is
     ]
 
 none_fresh : (request : RequestSeen) (now : ℤ) (es : List Exchange) (o : Option ℕ) → fresh_place request now es ≡ o
@@ -83,9 +83,9 @@ pub fresh-is : (request : RequestSeen) (now : ℤ) (es : List Exchange) (place :
     → chosen_place request now es ≡ Some place → slice_get es place ≡ Some e → is_fresh_for e request now ≡ true
     → IsFreshParts e now parts → IsChoice es request now (Fresh place parts)
 fresh-is request now es place e parts chosen at fresh is = (
-      chosen-fresh request now es place e chosen at fresh,
-      at_place (λ e. IsFreshParts e now parts) es place e at is,
-    )
+  chosen-fresh request now es place e chosen at fresh,
+  at_place (λ e. IsFreshParts e now parts) es place e at is,
+)
 
 -- the choice where it isn't
 pub stale-is : (request : RequestSeen) (now : ℤ) (es : List Exchange) (place : ℕ) (e : Exchange) (sent : RequestParts)
@@ -127,18 +127,18 @@ at_nearer P e es i j is at = subst (λ (o : Option Exchange). IsSomeAnd o P) (ap
 one_further-is : (e : Exchange) (es : List Exchange) (request : RequestSeen) (now : ℤ) → request_matches e request ≡ false
     → (choice : Choice) → IsChoice es request now choice → IsChoice (e ∷ es) request now (one_further choice)
 one_further-is e es request now unmatched (Fresh place parts) is = (
-      fresh_place-further e es request now unmatched ∙ ap (option_map (λ n. n + 1)) is.0,
-      at_further _ e es place is.1,
-    )
+  fresh_place-further e es request now unmatched ∙ ap (option_map (λ n. n + 1)) is.0,
+  at_further _ e es place is.1,
+)
 one_further-is e es request now unmatched (Validate place sent) is = (
-      fresh_place-further e es request now unmatched ∙ ap (option_map (λ n. n + 1)) is.0,
-      matching_place-further e es request unmatched ∙ ap (option_map (λ n. n + 1)) is.1,
-      at_further _ e es place is.2,
-    )
+  fresh_place-further e es request now unmatched ∙ ap (option_map (λ n. n + 1)) is.0,
+  matching_place-further e es request unmatched ∙ ap (option_map (λ n. n + 1)) is.1,
+  at_further _ e es place is.2,
+)
 one_further-is e es request now unmatched Nothing is = (
-      fresh_place-further e es request now unmatched ∙ ap (option_map (λ n. n + 1)) is.0,
-      matching_place-further e es request unmatched ∙ ap (option_map (λ n. n + 1)) is.1,
-    )
+  fresh_place-further e es request now unmatched ∙ ap (option_map (λ n. n + 1)) is.0,
+  matching_place-further e es request unmatched ∙ ap (option_map (λ n. n + 1)) is.1,
+)
 
 one_further-only : (e : Exchange) (es : List Exchange) (request : RequestSeen) (now : ℤ) → request_matches e request ≡ false
     → (choice : Choice) → IsChoice (e ∷ es) request now choice
@@ -168,14 +168,14 @@ pub alone-is : (e : Exchange) (request : RequestSeen) (now : ℤ) (answer : Befo
 alone-is e request now (FreshAnswer parts) is =
     (position-here (λ e. is_fresh_for e request now) e [] (sym is.verdict), is.fresh)
 alone-is e request now (Stale sent true) is = (
-      position-further (λ e. is_fresh_for e request now) e [] (sym is.verdict),
-      position-here (λ e. request_matches e request) e [] (sym is.matches),
-      is.stale,
-    )
+  position-further (λ e. is_fresh_for e request now) e [] (sym is.verdict),
+  position-here (λ e. request_matches e request) e [] (sym is.matches),
+  is.stale,
+)
 alone-is e request now (Stale sent false) is = (
-      position-further (λ e. is_fresh_for e request now) e [] (sym is.verdict),
-      position-further (λ e. request_matches e request) e [] (sym is.matches),
-    )
+  position-further (λ e. is_fresh_for e request now) e [] (sym is.verdict),
+  position-further (λ e. request_matches e request) e [] (sym is.matches),
+)
 
 pub single-is : (es : List Exchange) (request : RequestSeen) (now : ℤ) (e : Exchange) → es ≡ e ∷ [] → (answer : BeforeRequest)
     → IsAnswer e request now answer → IsChoice es request now (choice_of answer)
@@ -224,14 +224,14 @@ same_choice es request now choice is fs same other other_is =
     let is_fresh : Exchange → Bool = λ e. is_fresh_for e request now in
     let implied : (e : Exchange) → is_fresh e ≡ true → fits e ≡ true = λ e. fresh-matches e request now in
     let fresh : fresh_one request now fs ≡ fresh_one request now es =
-        sym (find-filter fits is_fresh implied fs) ∙ ap (find is_fresh) same ∙ find-filter fits is_fresh implied es in
+    sym (find-filter fits is_fresh implied fs) ∙ ap (find is_fresh) same ∙ find-filter fits is_fresh implied es in
     let matched : matching_one request fs ≡ matching_one request es =
-        sym (find-filter fits fits (λ e h. h) fs) ∙ ap (find fits) same ∙ find-filter fits fits (λ e h. h) es in
+    sym (find-filter fits fits (λ e h. h) fs) ∙ ap (find fits) same ∙ find-filter fits fits (λ e h. h) es in
     let one = by_first es request now choice is in
     let two = by_first fs request now other other_is in
     record {
       kind = two.kind_is ∙ ap (λ (o : Option Exchange). kind_by o (matching_one request fs)) fresh
-        ∙ ap (kind_by (fresh_one request now es)) matched ∙ sym one.kind_is;
+          ∙ ap (kind_by (fresh_one request now es)) matched ∙ sym one.kind_is;
       exchange = two.chosen_is ∙ ap (λ (o : Option Exchange). option_or o (matching_one request fs)) fresh
-        ∙ ap (option_or (fresh_one request now es)) matched ∙ sym one.chosen_is;
+          ∙ ap (option_or (fresh_one request now es)) matched ∙ sym one.chosen_is;
     }

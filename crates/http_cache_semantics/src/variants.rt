@@ -130,14 +130,18 @@ impl Variants {
         ensures value { result ≡ fresh_place (Req.seen req.now) now.nanosecond self.now }
         ensures within { IfSome result (λ place. place < length self.now) }
     {
-        self.policies.iter().position(|policy| policy.fresh_at(req, now))
+        self.policies
+            .iter()
+            .position(|policy| policy.fresh_at(req, now))
     }
 
     fn matching_place<Req: RequestLike>(&self, req: &Req) -> Option<usize>
         ensures value { result ≡ matching_place (Req.seen req.now) self.now }
         ensures within { IfSome result (λ place. place < length self.now) }
     {
-        self.policies.iter().position(|policy| policy.matches_request(req))
+        self.policies
+            .iter()
+            .position(|policy| policy.matches_request(req))
     }
 
     // The place of the first that is fresh, else of the first that matches.

@@ -7,8 +7,8 @@ use Rattle.http_cache_semantics.proofs.variants.Variants.add.Goals.{in-Ok, in-Er
 pub returns-clause-passed_over : goal.returns-clause-passed_over
 returns-clause-passed_over c =
     elim c.match-insert.branch [
-      in-Ok w ↦
-        let added : c.insert.new.self.items ≡ c.args.policy ∷ c.args.self.now = search rules in
-        rw w.result-is (subst (IsPassedOver c.args.policy c.args.self.now) (sym added) (passed_over c.args.policy c.args.self.now))
-    | in-Err w ↦ rw w.result-is tt
+      | in-Ok w ↦
+          let added : c.insert.new.self.items ≡ c.args.policy ∷ c.args.self.now = search rules in
+          rw w.result-is (subst (IsPassedOver c.args.policy c.args.self.now) (sym added) (passed_over c.args.policy c.args.self.now))
+      | in-Err w ↦ rw w.result-is tt
     ]
