@@ -1,5 +1,5 @@
 -- What a choice among stored exchanges is like.
-use Rattle.std.proofs.Common.{◌≡◌, ◌⊎◌, inl, inr, ℕ, ℤ, ◌+◌, ◌&&◌, List, [], ◌∷◌, Bool, true, false, true≢false, Option, Some, None, option_map, filter, find, refl, sym, ap, subst, ◌∙◌, position, slice_get}
+use Rattle.std.proofs.Common.{◌≡◌, ◌⊎◌, inl, inr, ℕ, ℤ, ◌+◌, ◌&&◌, List, [], ◌∷◌, Bool, true, false, true≢false, Option, Some, None, option_map, find, refl, sym, ap, subst, ◌∙◌, slice_get}
 use Rattle.std.specs.Prelude.{IsSomeAnd}
 use Rattle.std.specs.Option.{option_or}
 use Rattle.std.proofs.lemmas.Bool.{and_parts}

@@ -35,7 +35,7 @@ impl Model for Variants {
 }
 
 /// Which of several policies answers a request, and with what.
-#[derive(Drop)]
+#[derive(Debug, Drop)]
 pub enum Choice {
     /// The stored response of a policy may be used without validation.
     Fresh {
