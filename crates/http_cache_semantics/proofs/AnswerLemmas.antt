@@ -1,10 +1,9 @@
 -- An answer to a request is none that is refused.
-use Rattle.std.proofs.Common.{◌≡◌, ◌⊎◌, ℤ, true, false, inl, inr, sym, ◌∙◌, true≢false}
+use Rattle.std.proofs.Common.{◌≡◌, ℤ, inl, inr, sym, ◌∙◌, true≢false}
 use Rattle.http_cache_fields.specs.Headers.{headers_of}
 use Rattle.http_cache_policy.specs.Messages.{RequestSeen}
 use Rattle.http_cache_policy.specs.Exchange.{Exchange}
 use Rattle.http_cache_policy.specs.Verdict.{is_fresh_for}
-use Rattle.http_cache_policy.specs.Match.{validates_for}
 use Rattle.http_cache_policy.specs.Fresh.{IsFreshHeaders, IsFreshParts, RefusesFreshHeaders, HasNoDate}
 use Rattle.http_cache_policy.specs.Stale.{IsStaleRequest}
 use Rattle.http_cache_policy.specs.Answer.{is_fresh, WhereFresh, WhereStale}
