@@ -63,8 +63,10 @@ const EXAMPLE_AT_NINETEEN: [(&str, &str); 3] = [
     ("date", "Mon, 01 Jan 2024 00:00:19 +0000"),
 ];
 
-const EXAMPLE_REPLACED: [(&str, &str); 2] =
-    [("age", "0"), ("date", "Mon, 01 Jan 2024 00:00:20 +0000")];
+const EXAMPLE_REPLACED: [(&str, &str); 2] = [
+    ("age", "0"),
+    ("date", "Mon, 01 Jan 2024 00:00:20 +0000"),
+];
 
 fn has(headers: &HeaderMap, name: &str, value: &str) -> bool {
     headers.get_str(name).is_some_and(|text| text == value)

@@ -252,7 +252,11 @@ impl Case {
     }
 
     /// What the policy answers to the request of a step.
-    pub(crate) fn answer_at(&self, alloc: Global, place: usize) -> Result<BeforeRequest, CacheError> {
+    pub(crate) fn answer_at(
+        &self,
+        alloc: Global,
+        place: usize,
+    ) -> Result<BeforeRequest, CacheError> {
         match self.script.steps.get(place) {
             Some(Step::Ask { request, moment }) => {
                 self.policy.before_request(alloc, request, *moment)

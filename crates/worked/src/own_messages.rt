@@ -256,7 +256,12 @@ fn no_copy_of_the_target_of_what_asks(rt: HostRuntime) -> Result<(), Fail> {
 // How often a policy asks for a copy of the target.
 fn stores(alloc: Global) -> Result<u32, Fail> {
     let request = counting_request(alloc, "")?;
-    drop(CachePolicy::new(alloc, &request, &empty_response(alloc, StatusCode::OK), after(0)?)?);
+    drop(CachePolicy::new(
+        alloc,
+        &request,
+        &empty_response(alloc, StatusCode::OK),
+        after(0)?,
+    )?);
     Ok(request.copies.get())
 }
 

@@ -49,7 +49,10 @@ fn add_choice(told: &mut String, choice: &Choice) -> Result<(), AllocError> {
             let accept = text(&request.headers, "accept");
             let tags = text(&request.headers, "if-none-match");
             let count = request.headers.len();
-            write!(told, "validate {place} accept: {accept} if-none-match: {tags} of {count}")
+            write!(
+                told,
+                "validate {place} accept: {accept} if-none-match: {tags} of {count}"
+            )
         }
         Choice::Nothing => told.push_str("nothing"),
     }

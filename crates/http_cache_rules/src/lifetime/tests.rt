@@ -20,7 +20,10 @@ const LIFETIMES: [(&str, u128); 10] = [
         "Date: Mon, 01 Jan 2024 00:00:40 GMT~Expires: Mon, 01 Jan 2024 00:01:40 GMT",
         60_000,
     ),
-    ("Last-Modified: Sat, 23 Sep 2023 00:00:00 GMT~Age: 1", 864_000_000),
+    (
+        "Last-Modified: Sat, 23 Sep 2023 00:00:00 GMT~Age: 1",
+        864_000_000,
+    ),
     ("Cache-Control: max-age=10~Vary: *", 0),
     ("Age: 18446744073709551615", 0),
 ];
