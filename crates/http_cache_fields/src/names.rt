@@ -1,5 +1,5 @@
 //! Names of directives, which have no case (RFC 7234, section 5.2).
-ghost use Rattle.std.specs.Prelude.{◌≡◌, bytes_eq};
+ghost use Rattle.std.specs.Prelude.{◌≡◌, true, bytes_eq, string_bytes, IfOk};
 ghost use Rattle.std.specs.Ordering.{nat_cmp, on, as_partial_cmp};
 ghost use Rattle.std.specs.Cmp.{partial_order_from_own_ties};
 ghost use Rattle.std.specs.Cmp.Rules.{comparing};
@@ -7,6 +7,7 @@ ghost use Rattle.std.specs.Cmp.Lexicographic.{pointwise, slice_cmp};
 ghost use Rattle.std.proofs.Common.{rules, nat_eq};
 ghost use Rattle.http_header.specs.Token.{lowercase};
 
+use std::alloc::{AllocError, Global};
 use std::cmp::Ordering;
 
 /// Whether two names are the same, but for the case of their ASCII letters.
@@ -14,6 +15,27 @@ pub fn is_same_name(a: &str, b: &str) -> bool
     ensures { result ≡ bytes_eq (lowercase a.now) (lowercase b.now) }
 {
     a.eq_ignore_ascii_case(b)
+}
+
+// Whether each byte has the bit that capital letters lack, so that lower case changes none.
+fn is_lower(name: &str) -> bool
+    ensures { result ≡ true → lowercase name.now ≡ name.now }
+{
+    let mut common: u8 = 0x20;
+    for b in name.as_bytes() {
+        common &= *b;
+    }
+    common != 0
+}
+
+/// A copy of a name in lower case.
+pub(crate) fn lower_copy(alloc: Global, name: &str) -> Result<String, AllocError>
+    ensures { IfOk result (λ copy. string_bytes copy ≡ lowercase name.now) }
+{
+    if is_lower(name) {
+        return String::from_str(alloc, name);
+    }
+    name.to_ascii_lowercase(alloc)
 }
 
 // The order of two names in lower case.
