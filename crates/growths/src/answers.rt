@@ -68,6 +68,17 @@ const EXAMPLE_REPLACED: [(&str, &str); 2] = [
     ("date", "Mon, 01 Jan 2024 00:00:20 +0000"),
 ];
 
+/// The headers of the oldest variant after five seconds, and of the request that validates the newest.
+const VARIANT_AT_FIVE: [(&str, &str); 5] = [
+    ("age", "5"),
+    ("cache-control", "max-age=100"),
+    ("date", "Mon, 01 Jan 2024 00:00:05 +0000"),
+    ("etag", "\"1\""),
+    ("vary", "Accept"),
+];
+
+const VARIANT_VALIDATED: [(&str, &str); 2] = [("accept", "a"), ("if-none-match", "\"3\"")];
+
 fn has(headers: &HeaderMap, name: &str, value: &str) -> bool {
     headers.get_str(name).is_some_and(|text| text == value)
 }
@@ -111,18 +122,20 @@ pub fn is_stale(answer: &BeforeRequest, does_match: bool, wanted: &[(&str, &str)
     }
 }
 
-/// The first of the variants, fresh after 5.5 seconds.
+/// The oldest of the variants, fresh after five seconds.
 pub fn chooses_fresh(choice: &Choice) -> bool {
     match choice {
-        Choice::Fresh { place, parts } => *place == 0 && is_kept(parts, FIVE_SECONDS),
+        Choice::Fresh { place, parts } => {
+            *place == 2 && is_answered(parts, 200, &VARIANT_AT_FIVE)
+        }
         _ => false,
     }
 }
 
-/// The first of the variants, which is to be validated.
+/// The newest of the variants, which is to be validated.
 pub fn chooses_validated(choice: &Choice) -> bool {
     match choice {
-        Choice::Validate { place, request } => *place == 0 && asks(request, &VALIDATED),
+        Choice::Validate { place, request } => *place == 0 && asks(request, &VARIANT_VALIDATED),
         _ => false,
     }
 }

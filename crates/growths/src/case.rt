@@ -30,10 +30,25 @@ const EXAMPLE_FORM: &str =
 const FORM: &str =
     r#"{"method":"GET","opts":{"cache_heuristic":[1,10],"ignore_cargo_cult":true,"immutable_min_time_to_live":[86400,0],"shared":true},"req":{"accept":["61"]},"res":{"cache-control":["6d61782d6167653d31302c20613d22622063222c207075626c6963"],"connection":["582d476f6e65"],"etag":["226322"],"last-modified":["5361742c2032332053657020323032332030303a30303a303020474d54"],"vary":["416363657074"],"warning":["313130202d202273222c20323134202d20227822"],"x":["31","32"],"x-gone":["31"]},"response_time":[1704067200,0],"status":200,"uri":"/a"}"#;
 
+/// Exchanges that differ by what Vary names, and then one that is newer, with requests that ask for it
+/// after five seconds and after two hundred.
+const VARIANTS: [&str; 3] = [
+    r#"{"options":{"shared":true,"cache_heuristic":[1,10],"immutable_min_time_to_live":[86400,0],"ignore_cargo_cult":false},"received":[1704067200,0],"request":{"uri":"/a","method":"GET","headers":[["Accept","a"]]},"response":{"status":200,"headers":[["Cache-Control","max-age=100"],["ETag","\"1\""],["Vary","Accept"]]},"steps":[]}"#,
+    r#"{"options":{"shared":true,"cache_heuristic":[1,10],"immutable_min_time_to_live":[86400,0],"ignore_cargo_cult":false},"received":[1704067200,0],"request":{"uri":"/a","method":"GET","headers":[["Accept","b"]]},"response":{"status":200,"headers":[["Cache-Control","max-age=100"],["ETag","\"1\""],["Vary","Accept"]]},"steps":[]}"#,
+    VALIDATED_VARIANT,
+];
+
+const VALIDATED_VARIANT: &str =
+    r#"{"options":{"shared":true,"cache_heuristic":[1,10],"immutable_min_time_to_live":[86400,0],"ignore_cargo_cult":false},"received":[1704067200,0],"request":{"uri":"/a","method":"GET","headers":[["Accept","a"]]},"response":{"status":200,"headers":[["Cache-Control","max-age=1"],["ETag","\"3\""],["Vary","Accept"]]},"steps":[{"ask":{"uri":"/a","method":"GET","headers":[["Accept","a"]]},"at":[1704067205,0]},{"ask":{"uri":"/a","method":"GET","headers":[["Accept","a"]]},"at":[1704067400,0]}]}"#;
+
+/// The stored form of the newest one's policy.
+const VALIDATED_VARIANT_FORM: &str =
+    r#"{"method":"GET","opts":{"cache_heuristic":[1,10],"ignore_cargo_cult":false,"immutable_min_time_to_live":[86400,0],"shared":true},"req":{"accept":["61"]},"res":{"cache-control":["6d61782d6167653d31"],"etag":["223322"],"vary":["416363657074"]},"response_time":[1704067200,0],"status":200,"uri":"/a"}"#;
+
 /// "private" and "public", as the stored form has them.
 const WORDS: (&str, &str) = ("70726976617465", "7075626c6963");
 
-/// An exchange with a policy of it, and variants of which that is one.
+/// An exchange with a policy of it, and variants.
 #[derive(Drop)]
 pub struct Case {
     script: Script,
@@ -54,6 +69,9 @@ fn text_for(alloc: Global, call: Call) -> Result<String, CacheError> {
     match call {
         Call::Unstorable => Ok(SCRIPT.replace(alloc, "public", "private")?),
         Call::ReplayExample => Ok(String::from_str(alloc, EXAMPLE)?),
+        Call::ChooseFresh | Call::ChooseValidated => {
+            Ok(String::from_str(alloc, VALIDATED_VARIANT)?)
+        }
         _ => Ok(String::from_str(alloc, SCRIPT)?),
     }
 }
@@ -70,7 +88,7 @@ fn policy_of(alloc: Global, script: &Script) -> Result<CachePolicy, CacheError> 
 
 fn case_of(alloc: Global, script: Script) -> Result<Case, CacheError> {
     let policy = policy_of(alloc, &script)?;
-    let variants = variants_of(alloc, &policy)?;
+    let variants = variants(alloc)?;
     Ok(Case {
         script,
         policy,
@@ -78,13 +96,18 @@ fn case_of(alloc: Global, script: Script) -> Result<Case, CacheError> {
     })
 }
 
-/// Variants of which a copy of the policy is the only one.
-pub(crate) fn variants_of(alloc: Global, policy: &CachePolicy) -> Result<Variants, CacheError> {
+fn add_variant(alloc: Global, variants: &mut Variants, text: &str) -> Result<(), CacheError> {
+    let script = script_of(alloc, text)?;
+    variants.add(policy_of(alloc, &script)?).map_err(|(_, e)| e)
+}
+
+/// Three variants, the newest of which is the first.
+pub(crate) fn variants(alloc: Global) -> Result<Variants, CacheError> {
     let mut variants = Variants::new(alloc);
-    match variants.add(policy.try_clone(alloc)?) {
-        Ok(()) => Ok(variants),
-        Err((_, e)) => Err(e),
+    for text in VARIANTS {
+        add_variant(alloc, &mut variants, text)?;
     }
+    Ok(variants)
 }
 
 // Whether a policy that isn't added comes back as it was.
@@ -121,7 +144,8 @@ fn is_right_line(alloc: Global, read: &CacheControl) -> Result<bool, CacheError>
 fn is_right_form(alloc: Global, value: &Value) -> Result<bool, CacheError> {
     let text = value.to_string(alloc)?;
     let text = text.as_str().replace(alloc, WORDS.0, WORDS.1)?;
-    Ok(text.as_str() == FORM || text.as_str() == EXAMPLE_FORM)
+    let forms = [FORM, EXAMPLE_FORM, VALIDATED_VARIANT_FORM];
+    Ok(forms.iter().any(|form| *form == text.as_str()))
 }
 
 /// The stored form of the policy.
@@ -174,6 +198,9 @@ impl Case {
         let now = after(5_500_000_000)?;
         match call {
             Call::Unstorable => Ok(is_unstorable_at(&self.policy, now, 5_500_000_000)),
+            Call::ChooseFresh | Call::ChooseValidated => {
+                Ok(is_at(&self.policy, now, 5_500_000_000, 0))
+            }
             _ => is_right_policy(&self.policy),
         }
     }
@@ -202,7 +229,7 @@ impl Case {
             Call::Replay | Call::ReplayExample => self.runs(alloc, call),
             Call::Add => self.adds(alloc),
             Call::ChooseFresh => Ok(chooses_fresh(&self.choice_at(alloc, 0)?)),
-            Call::ChooseValidated => Ok(chooses_validated(&self.choice_at(alloc, 2)?)),
+            Call::ChooseValidated => Ok(chooses_validated(&self.choice_at(alloc, 1)?)),
         }
     }
 

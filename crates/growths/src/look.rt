@@ -1,5 +1,5 @@
 //! Calls that take no memory.
-use crate::case::{Case, after, form, variants_of};
+use crate::case::{Case, after, form, variants};
 use cache_script::{Script, Step};
 use http_cache_semantics::directives::{
     CacheControl, GetHeaderStr, get_all_comma, parse_cache_control,
@@ -92,7 +92,7 @@ pub enum Sight {
     Directives(CacheControl),
     /// The stored form of the policy.
     Form(Value),
-    /// Variants, of which the policy is one.
+    /// Three variants.
     Variants(Variants),
 }
 
@@ -103,10 +103,6 @@ fn directives_in(alloc: Global, case: &Case) -> Result<Sight, CacheError> {
 
 fn answer_in(alloc: Global, case: &Case) -> Result<Sight, CacheError> {
     Ok(Sight::Answer(case.answer_at(alloc, 0)?))
-}
-
-fn variants_in(alloc: Global, case: &Case) -> Result<Sight, CacheError> {
-    Ok(Sight::Variants(variants_of(alloc, case.policy())?))
 }
 
 // Whether a policy of ten seconds tells what it has to after five and a half.
@@ -163,18 +159,18 @@ fn is_right_of_new(alloc: Global) -> bool {
     variants.is_empty() && variants.len() == 0
 }
 
-// The only one of them is taken out, and then there is none.
+// The middle one of three is taken out, and then there are two.
 fn is_right_of_remove(variants: &mut Variants) -> bool {
-    variants.remove(1).is_none() && variants.remove(0).is_some() && variants.is_empty()
+    variants.remove(3).is_none() && variants.remove(1).is_some() && variants.len() == 2
 }
 
 fn is_right_of_choices(alloc: Global, case: &Case, look: Look) -> bool {
     match look {
         Look::NewVariants => is_right_of_new(alloc),
         Look::PolicyAt => {
-            case.variants().policy_at(0).is_some() && case.variants().policy_at(1).is_none()
+            case.variants().policy_at(2).is_some() && case.variants().policy_at(3).is_none()
         }
-        _ => matches!(case.choice_at(alloc, 6), Ok(Choice::Nothing)),
+        _ => matches!(case.choice_at(alloc, 7), Ok(Choice::Nothing)),
     }
 }
 
@@ -226,7 +222,7 @@ impl Sight {
             }
             Look::SatisfiesWithoutRevalidation => answer_in(alloc, &Case::varied(alloc)?),
             Look::OptionsFromValue | Look::MomentFromValue => Ok(Sight::Form(form(alloc)?)),
-            Look::Remove => variants_in(alloc, &Case::varied(alloc)?),
+            Look::Remove => Ok(Sight::Variants(variants(alloc)?)),
             _ => Ok(Sight::Exchange(Case::varied(alloc)?)),
         }
     }
