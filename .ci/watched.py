@@ -1,5 +1,6 @@
 """Runs built programs with a library in front of them that refuses one of their requests, or tells of each."""
 import subprocess
+import sys
 import tempfile
 from pathlib import Path
 
@@ -7,10 +8,13 @@ ROOT = Path(__file__).resolve().parent.parent
 
 
 def built(name):
-    """The proved program of a crate, built where it wasn't yet."""
-    subprocess.run([ROOT / "bin/program", name], stdin=subprocess.DEVNULL, capture_output=True)
+    """The proved program of a crate. Where there is none, it says so and ends."""
     sources = subprocess.run([ROOT / "bin/sources"], capture_output=True, text=True, check=True).stdout.strip()
-    return str(ROOT / "crates" / name / "out/proved" / sources)
+    program = ROOT / "crates" / name / "out/proved" / sources
+    if not program.exists():
+        print(f"{name}: only the proved program serves here; bin/prove {name} makes it", file=sys.stderr)
+        sys.exit(69)
+    return str(program)
 
 
 def library_in(folder):

@@ -4,14 +4,14 @@ use Rattle.std.proofs.lemmas.Bool.{cases_Bool}
 use Rattle.serde_json.specs.Data.{Data}
 use Rattle.serde_json.specs.Read.{read as read_text}
 use Rattle.http_uri.specs.Uri.{uri_eq}
-use Rattle.http_cache_semantics.specs.Headers.{Headers}
-use Rattle.http_cache_semantics.proofs.TargetLemmas.{Spells-one_target}
+use Rattle.http_cache_policy.specs.Headers.{Headers}
+use Rattle.http_cache_stored.proofs.TargetLemmas.{Spells-one_target}
 use Rattle.http_cache_stored.specs.Form.{has_members}
 use Rattle.http_cache_stored.specs.Pairs.{Pair, HoldsPairs}
 use Rattle.cache_script.specs.Pairs.{IsPair, IsHeaderList}
-use Rattle.http_cache_semantics.specs.Messages.{RequestSeen, ResponseSeen}
+use Rattle.http_cache_policy.specs.Messages.{RequestSeen, ResponseSeen}
 use Rattle.cache_script.specs.Messages.{RequestForm, ResponseForm, request_form, response_form, IsRequestOf, IsResponseOf, IsRequest, IsResponse}
-use Rattle.http_cache_semantics.specs.Steps.{StepSeen, asks, receives, restarts}
+use Rattle.http_cache_policy.specs.Steps.{StepSeen, asks, receives, restarts}
 use Rattle.cache_script.specs.Steps.{ask_form, receive_form, AskForm, ReceiveForm, IsAskOf, IsReceiveOf, IsStep}
 use Rattle.cache_script.specs.Script.{ScriptSeen, ScriptForm, script_form, IsScriptOf, IsScriptData, IsScript}
 use Rattle.http_cache_stored.proofs.SomeLemmas.{some_same}

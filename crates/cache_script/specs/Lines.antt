@@ -1,8 +1,8 @@
 -- The lines that answer a script.
 use Rattle.std.specs.Prelude.{ℕ, ◌-◌, ◌/◌, ◌%◌, ℤ, List, ◌++◌, length, replicate, Bool, if◌then◌else◌, codes, decimal}
-use Rattle.http_cache_semantics.specs.Exchange.{Exchange}
-use Rattle.http_cache_semantics.specs.Storable.{is_storable}
-use Rattle.http_cache_semantics.specs.Age.{time_to_live_at}
+use Rattle.http_cache_policy.specs.Exchange.{Exchange}
+use Rattle.http_cache_policy.specs.Storable.{is_storable}
+use Rattle.http_cache_policy.specs.Age.{time_to_live_at}
 
 -- a truth in words
 abbrev pub truth : Bool → List ℕ

@@ -1,7 +1,11 @@
 pub mod AgeLemmas
 pub mod BoundLemmas
 pub mod FreshLemmas
+pub mod FreshUniqueLemmas
 pub mod KeptLemmas
 pub mod NextLemmas
 pub mod ReadLemmas
+pub mod RenewalLemmas
+pub mod RunLemmas
+pub mod StopLemmas
 pub mod VaryLemmas

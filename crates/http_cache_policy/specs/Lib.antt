@@ -36,3 +36,7 @@ pub mod Refused
 pub mod Update
 pub mod Answer
 pub mod Stored
+pub mod Steps
+pub mod Run
+pub mod RunRefused
+pub mod Renewal

@@ -5,4 +5,6 @@
 pub mod after;
 pub mod before;
 pub mod policy;
+pub mod run;
+pub mod steps;
 pub mod stored;

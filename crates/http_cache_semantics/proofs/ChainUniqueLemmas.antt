@@ -5,7 +5,7 @@ use Rattle.http_cache_policy.specs.Messages.{RequestSeen}
 use Rattle.http_cache_policy.specs.Exchange.{Exchange}
 use Rattle.http_cache_policy.specs.Kept.{kept_exchange}
 use Rattle.http_cache_semantics.specs.Chain.{IsHandedOn, Follow, IsChain}
-use Rattle.http_cache_semantics.proofs.FreshUniqueLemmas.{IsFreshHeaders-unique}
+use Rattle.http_cache_policy.proofs.FreshUniqueLemmas.{IsFreshHeaders-unique}
 
 -- a cache hands one exchange on at a moment
 pub handed_on-unique : (e : Exchange) (now : ℤ) (x y : Exchange) → IsHandedOn e now x → IsHandedOn e now y → x ≡ y

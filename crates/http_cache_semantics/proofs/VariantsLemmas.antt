@@ -14,7 +14,7 @@ use Rattle.http_cache_policy.specs.Fresh.{IsFreshParts}
 use Rattle.http_cache_policy.specs.Stale.{IsStaleRequest}
 use Rattle.http_cache_policy.specs.declared.before.BeforeRequest.{BeforeRequest}
 use Rattle.http_cache_policy.specs.declared.before.BeforeRequest.TheVariants.{Fresh as FreshAnswer, Stale}
-use Rattle.http_cache_semantics.specs.Run.{IsAnswer}
+use Rattle.http_cache_policy.specs.Run.{IsAnswer}
 use Rattle.http_cache_semantics.specs.Variants.{fresh_place, matching_place, chosen_place, IsAtPlace, IsChoice, IsPassedOver, one_further, choice_of, matching, Kind, used, validated, nothing, kind_of, exchange_chosen, IsSameChoice}
 use Rattle.http_cache_semantics.specs.declared.variants.Choice.{Choice}
 use Rattle.http_cache_semantics.specs.declared.variants.Choice.TheVariants.{Fresh, Validate, Nothing}

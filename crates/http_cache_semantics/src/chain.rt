@@ -1,185 +1,19 @@
-//! Whole runs: what a list of steps makes of a policy, and what a chain of caches keeps.
-ghost use Rattle.std.specs.Prelude.{◌≡◌, ◌≢◌, List, Err, true, false, map, IfOk, IsErrOf, MatchOption};
+//! Whole runs, and what a chain of caches keeps.
+ghost use Rattle.std.specs.Prelude.{◌≡◌, ◌≢◌, List, Err, true, false, IfOk, IsErrOf, MatchOption};
 ghost use Rattle.http_cache_rules.specs.Options.{options_of};
 ghost use Rattle.http_cache_policy.specs.Exchange.{Exchange};
 ghost use Rattle.http_cache_policy.specs.Verdict.{is_fresh_for};
 ghost use Rattle.http_cache_policy.specs.Refused.{RefusesAnswer, HasUndatedAnswer};
-ghost use Rattle.http_cache_policy.specs.Answer.{is_not_modified, policy_in, parts_in};
-ghost use Rattle.http_cache_semantics.specs.Steps.{receives, restarts, step_seen, outcome_seen};
-ghost use Rattle.http_cache_semantics.specs.Run.{IsReceived, IsStepOf, IsOnlyRun};
-ghost use Rattle.http_cache_semantics.specs.RunRefused.{RefusesStep, HasUndatedStep, HasLostTarget, LosesTarget, HasNoOutcome, StopsFor};
-ghost use Rattle.http_cache_semantics.specs.Renewal.{IsRenewalOf, IsRenewedThrough, is_replacement, has_replacement};
 ghost use Rattle.http_cache_semantics.specs.Chain.{nanoseconds, first_kept, IsHandedOn, IsChain, IsFor, Meets};
 ghost use Rattle.http_cache_semantics.specs.ChainLaws.{ForEach, NeverGoDown, HasReceived, IsAgedLike, IsExplicit, SaysLike, ExpiresLike};
 
-use http::response;
 use http_cache_fields::CacheError;
-use http_cache_policy::after::AfterResponse;
 use http_cache_policy::before::BeforeRequest;
 use http_cache_policy::policy::{CacheOptions, CachePolicy, RequestLike, ResponseLike};
+pub use http_cache_policy::run::replay;
+pub use http_cache_policy::steps::{Outcome, Step};
 use jiff::Timestamp;
 use std::alloc::Global;
-
-/// What is done next with a stored response.
-#[derive(Debug, Drop)]
-pub enum Step<Req, Res> {
-    /// A request asks for it at a moment.
-    Ask {
-        /// The request.
-        request: Req,
-        /// When it asks.
-        moment: Timestamp,
-    },
-    /// A response came for a request at a moment.
-    Receive {
-        /// The request.
-        request: Req,
-        /// Its response.
-        response: Res,
-        /// When the response came.
-        moment: Timestamp,
-    },
-    /// The policy is written as a JSON value and read back.
-    Restart,
-}
-
-/// What came of a step.
-#[derive(Drop)]
-pub enum Outcome {
-    /// The answer to a request.
-    Asked(BeforeRequest),
-    /// The stored body still holds, under this head.
-    NotModified(response::Parts),
-    /// A new response is stored in place of the old one; this is its head.
-    Modified(response::Parts),
-    /// The policy was read back.
-    Restarted,
-}
-
-// One place for it, since the prover looks into each policy that is let go.
-fn put(policy: &mut CachePolicy, next: CachePolicy)
-    ensures { policy.new ≡ next }
-{
-    *policy = next;
-}
-
-// The policy of an answer takes the place of the old one.
-fn take_over(policy: &mut CachePolicy, answer: AfterResponse) -> Outcome
-    ensures policy { policy.new ≡ policy_in answer }
-    ensures outcome { IsReceived (λ holds parts.
-        (holds ≡ is_not_modified answer) × (parts ≡ parts_in answer)) result }
-{
-    match answer {
-        AfterResponse::NotModified(next, parts) => {
-            put(policy, next);
-            Outcome::NotModified(parts)
-        }
-        AfterResponse::Modified(next, parts) => {
-            put(policy, next);
-            Outcome::Modified(parts)
-        }
-    }
-}
-
-fn receive<Req: RequestLike, Res: ResponseLike>(
-    alloc: Global,
-    policy: &mut CachePolicy,
-    request: &Req,
-    response: &Res,
-    moment: Timestamp,
-) -> Result<Outcome, CacheError>
-    ensures step { IfOk result (λ outcome. IsStepOf policy.old
-        (receives (Req.seen request.now) (Res.seen response.now) moment.nanosecond)
-        outcome policy.new) }
-    ensures renews { IfOk result (λ outcome. is_replacement (outcome_seen outcome) ≡ false
-        → IsRenewalOf policy.old policy.new) }
-    ensures full { IsErrOf result CacheError.HeaderMapFull → RefusesStep policy.old
-        (receives (Req.seen request.now) (Res.seen response.now) moment.nanosecond) }
-    ensures unprintable { IsErrOf result CacheError.DateNotPrintable → HasUndatedStep policy.old
-        (receives (Req.seen request.now) (Res.seen response.now) moment.nanosecond) }
-    ensures no_other { result ≢ Err CacheError.Malformed }
-{
-    let answer = policy.after_response(alloc, request, response, moment)?;
-    Ok(take_over(policy, answer))
-}
-
-fn restart(alloc: Global, policy: &mut CachePolicy) -> Result<Outcome, CacheError>
-    ensures step { IfOk result (λ outcome. IsStepOf policy.old restarts outcome policy.new) }
-    ensures renews { IfOk result (λ _. IsRenewalOf policy.old policy.new) }
-    ensures lost { IsErrOf result CacheError.Malformed → HasLostTarget policy.old }
-    ensures stops { IsErrOf result CacheError.Malformed → HasNoOutcome policy.old restarts }
-    ensures never_full { result ≢ Err CacheError.HeaderMapFull }
-    ensures always_printable { result ≢ Err CacheError.DateNotPrintable }
-{
-    let value = policy.to_value(alloc)?;
-    put(policy, CachePolicy::from_value(alloc, &value)?);
-    Ok(Outcome::Restarted)
-}
-
-// After an `Err` the policy is the old one.
-fn take_step<Req: RequestLike, Res: ResponseLike>(
-    alloc: Global,
-    policy: &mut CachePolicy,
-    step: &Step<Req, Res>,
-) -> Result<Outcome, CacheError>
-    ensures step { IfOk result (λ outcome.
-        IsStepOf policy.old (step_seen Req.seen Res.seen step.now) outcome policy.new) }
-    ensures renews { IfOk result (λ outcome. is_replacement (outcome_seen outcome) ≡ false
-        → IsRenewalOf policy.old policy.new) }
-    ensures full { IsErrOf result CacheError.HeaderMapFull
-        → RefusesStep policy.old (step_seen Req.seen Res.seen step.now) }
-    ensures unprintable { IsErrOf result CacheError.DateNotPrintable
-        → HasUndatedStep policy.old (step_seen Req.seen Res.seen step.now) }
-    ensures lost { IsErrOf result CacheError.Malformed
-        → LosesTarget policy.old (step_seen Req.seen Res.seen step.now) }
-    ensures stops { IsErrOf result CacheError.Malformed
-        → HasNoOutcome policy.old (step_seen Req.seen Res.seen step.now) }
-{
-    match step {
-        Step::Ask { request, moment } => {
-            Ok(Outcome::Asked(policy.before_request(alloc, request, *moment)?))
-        }
-        Step::Receive {
-            request,
-            response,
-            moment,
-        } => receive(alloc, policy, request, response, *moment),
-        Step::Restart => restart(alloc, policy),
-    }
-}
-
-/// The outcomes of a list of steps, one after the other: a request that asks is answered by
-/// `before_request`, a response by `after_response`, whose policy holds from then on, and a restart
-/// writes the policy by `to_value` and goes on with what `from_value` reads of it.
-///
-/// The first step that has no answer refuses the whole list, for its own cause: `HeaderMapFull` and
-/// `DateNotPrintable` come as in these calls, and `Malformed` at a restart whose printed target
-/// can't be read.
-pub fn replay<Req: RequestLike, Res: ResponseLike>(
-    alloc: Global,
-    policy: &CachePolicy,
-    steps: &[Step<Req, Res>],
-) -> Result<Vec<Outcome>, CacheError>
-    ensures run { IfOk result (λ outcomes. (last : Exchange) × IsOnlyRun policy.now
-        (map (step_seen Req.seen Res.seen) steps.now) outcomes.items last) }
-    ensures renewed { IfOk result (λ outcomes. has_replacement outcomes.items ≡ false
-        → IsRenewedThrough policy.now (map (step_seen Req.seen Res.seen) steps.now)
-        outcomes.items) }
-    ensures full { IsErrOf result CacheError.HeaderMapFull
-        → StopsFor RefusesStep policy.now (map (step_seen Req.seen Res.seen) steps.now) }
-    ensures unprintable { IsErrOf result CacheError.DateNotPrintable
-        → StopsFor HasUndatedStep policy.now (map (step_seen Req.seen Res.seen) steps.now) }
-    ensures malformed { IsErrOf result CacheError.Malformed
-        → StopsFor LosesTarget policy.now (map (step_seen Req.seen Res.seen) steps.now) }
-{
-    let mut current = policy.try_clone(alloc)?;
-    let mut outcomes = Vec::new(alloc);
-    for step in steps {
-        let outcome = take_step(alloc, &mut current, step)?;
-        outcomes.push(outcome)?;
-    }
-    Ok(outcomes)
-}
 
 // What the next cache keeps: it is handed what this policy answers to the request at the moment.
 // None where the answer isn't fresh.

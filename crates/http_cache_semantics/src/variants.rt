@@ -5,7 +5,7 @@ ghost use Rattle.http_cache_policy.specs.Match.{request_matches};
 ghost use Rattle.http_cache_policy.specs.Bound.{is_fresh_by_bound};
 ghost use Rattle.http_cache_policy.specs.Refused.{RefusesAnswer, HasUndatedAnswer};
 ghost use Rattle.http_cache_policy.specs.declared.before.BeforeRequest.{BeforeRequest};
-ghost use Rattle.http_cache_semantics.specs.Run.{IsAnswer};
+ghost use Rattle.http_cache_policy.specs.Run.{IsAnswer};
 
 use http::{request, response};
 use http_cache_fields::CacheError;

@@ -1,0 +1,73 @@
+-- What a list of steps makes of a stored exchange.
+use Rattle.std.specs.Prelude.{◌≡◌, ⊤, ℤ, Bool, true, false, List, [], ◌∷◌, map}
+use Rattle.http.specs.declared.response.Parts.{Parts}
+use Rattle.http_cache_policy.specs.Messages.{RequestSeen}
+use Rattle.http_cache_policy.specs.Exchange.{Exchange}
+use Rattle.http_cache_policy.specs.Kept.{kept_exchange}
+use Rattle.http_cache_policy.specs.Match.{request_matches}
+use Rattle.http_cache_policy.specs.Verdict.{is_fresh_for}
+use Rattle.http_cache_policy.specs.Fresh.{IsFreshParts}
+use Rattle.http_cache_policy.specs.Stale.{IsStaleRequest}
+use Rattle.http_cache_policy.specs.Update.{selects, next_exchange}
+use Rattle.http_cache_policy.specs.Stored.{Reads, writes}
+use Rattle.http_cache_policy.specs.Answer.{is_fresh, WhereFresh, WhereStale}
+use Rattle.http_cache_policy.specs.Steps.{StepSeen, asks, receives, restarts, outcome_seen}
+use Rattle.http_cache_policy.specs.declared.before.BeforeRequest.{BeforeRequest}
+use Rattle.http_cache_policy.specs.declared.steps.Outcome.{Outcome}
+use Rattle.http_cache_policy.specs.declared.steps.Outcome.TheVariants.{Asked, NotModified, Modified, Restarted}
+
+-- the answer to a request that asks at a moment
+pub record IsAnswer
+    (e : Exchange) (request : RequestSeen) (moment : ℤ) (answer : BeforeRequest) : Type 0 where
+  pub verdict : is_fresh answer ≡ is_fresh_for e request moment
+  pub fresh : WhereFresh (IsFreshParts e moment) answer
+  pub stale : WhereStale (λ sent _. IsStaleRequest e request sent) answer
+  pub matches : WhereStale (λ _ matched. matched ≡ request_matches e request) answer
+
+-- the outcome is an answer to a request, of which P holds
+abbrev pub IsAsked : (BeforeRequest → Type 0) → Outcome → Type 0
+IsAsked P (Asked answer) = P answer
+IsAsked P (NotModified parts) = ⊥
+IsAsked P (Modified parts) = ⊥
+IsAsked P Restarted = ⊥
+
+-- the outcome is of a response, and P holds of its parts and of whether the stored one still holds
+abbrev pub IsReceived : (Bool → Parts → Type 0) → Outcome → Type 0
+IsReceived P (Asked answer) = ⊥
+IsReceived P (NotModified parts) = P true parts
+IsReceived P (Modified parts) = P false parts
+IsReceived P Restarted = ⊥
+
+-- the exchange that is kept of what is written for another
+abbrev pub IsRestored : Exchange → Exchange → Type 0
+IsRestored e f = (g : Exchange) × Reads (writes e) g × (f ≡ kept_exchange g)
+
+-- a step that meets the exchange e has the outcome, and f is the exchange from then on
+abbrev pub IsStepOf : Exchange → StepSeen → Outcome → Exchange → Type 0
+IsStepOf e (asks request moment) outcome f =
+    IsAsked (IsAnswer e request moment) outcome × (f ≡ e)
+IsStepOf e (receives request response moment) outcome f =
+    IsReceived (λ holds parts. (holds ≡ selects e response) × IsFreshParts f moment parts) outcome
+    × (f ≡ next_exchange e request response moment)
+IsStepOf e restarts outcome f = (outcome ≡ Restarted) × IsRestored e f
+
+-- the steps have the outcomes one after the other, P holds of the exchange behind each of them, and
+-- the last one is f
+abbrev pub IsRunThrough : (Exchange → Type 0)
+    → Exchange → List StepSeen → List Outcome → Exchange → Type 0
+IsRunThrough P e [] [] f = f ≡ e
+IsRunThrough P e [] (outcome ∷ outcomes) f = ⊥
+IsRunThrough P e (step ∷ steps) [] f = ⊥
+IsRunThrough P e (step ∷ steps) (outcome ∷ outcomes) f =
+    (g : Exchange) × IsStepOf e step outcome g × P g × IsRunThrough P g steps outcomes f
+
+-- the steps have the outcomes one after the other, and f is the exchange from then on
+abbrev pub IsRun : Exchange → List StepSeen → List Outcome → Exchange → Type 0
+IsRun e steps outcomes f = IsRunThrough (λ _. ⊤) e steps outcomes f
+
+-- the steps have these outcomes and lead to this exchange, and in all that is seen to no other
+pub record IsOnlyRun
+    (e : Exchange) (steps : List StepSeen) (outcomes : List Outcome) (f : Exchange) : Type 0 where
+  pub run : IsRun e steps outcomes f
+  pub alone : (others : List Outcome) (other : Exchange) → IsRun e steps others other
+      → (map outcome_seen others ≡ map outcome_seen outcomes) × (other ≡ f)

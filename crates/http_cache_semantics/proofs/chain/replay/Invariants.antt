@@ -1,7 +1,0 @@
-use Rattle.std.proofs.Common.{map, take}
-use Rattle.http_cache_semantics.specs.Steps.{step_seen}
-use Rattle.http_cache_semantics.proofs.RenewalLemmas.{HasTaken}
-use Rattle.http_cache_semantics.proofs.chain.replay.Given as goal
-
-abbrev pub invariant-loop-step : goal.invariant-loop-step
-invariant-loop-step g l = HasTaken l.policy (map (step_seen g.Req.RequestLike.seen g.Res.ResponseLike.seen) (take l.step-index l.steps)) l.outcomes.items l.current

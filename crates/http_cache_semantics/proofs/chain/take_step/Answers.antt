@@ -1,4 +1,0 @@
-use Rattle.http_cache_semantics.proofs.chain.take_step.Goals as goal
-
-pub returns-in-Restart-clause-stops : goal.returns-in-Restart-clause-stops
-returns-in-Restart-clause-stops g c = λ e. rw c.in-Restart.is (c.restart.ensures.stops e)
