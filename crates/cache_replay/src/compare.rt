@@ -2,9 +2,9 @@
 ghost use Rattle.std.specs.Prelude.{◌≡◌, ◌↔◌, map, option_map, Some, IsNone, IsSome, IsTrue};
 ghost use Rattle.serde_json.specs.View.{view};
 ghost use Rattle.serde_json.specs.Find.{as_str};
-ghost use Rattle.http_cache_stored.specs.Form.{has_members};
 ghost use Rattle.cache_replay.specs.Compare.{are_texts, recorded_of, AreLinesOf};
 
+use http_cache_stored::form::holds_members;
 use serde_json::Value;
 
 /// A script, and the lines that were recorded for it.
@@ -14,15 +14,6 @@ pub struct Recorded<'a> {
     pub script: &'a Value,
     /// The lines, each of them a text.
     pub lines: &'a [Value],
-}
-
-fn has_two_members(value: &Value) -> bool
-    ensures { result ≡ has_members 2 (view value.now) }
-{
-    match value.as_object() {
-        Some(members) => members.len() == 2,
-        None => false,
-    }
 }
 
 fn are_texts(values: &[Value]) -> bool
@@ -41,7 +32,7 @@ pub fn recorded_from(value: &Value) -> Option<Recorded<'_>>
 {
     let script = value.get("script")?;
     let lines = value.get("answer")?.as_array()?.as_slice();
-    if has_two_members(value) && are_texts(lines) {
+    if holds_members(value, 2) && are_texts(lines) {
         Some(Recorded { script, lines })
     } else {
         None

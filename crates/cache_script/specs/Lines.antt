@@ -1,8 +1,11 @@
--- The lines that answer a script.
-use Rattle.std.specs.Prelude.{ℕ, ◌-◌, ◌/◌, ◌%◌, ℤ, List, ◌++◌, length, replicate, Bool, if◌then◌else◌, codes, decimal}
+-- The lines that answer a script, and which outcome has which.
+use Rattle.std.specs.Prelude.{◌≡◌, ⊤, ℕ, ◌-◌, ◌/◌, ◌%◌, ℤ, List, ◌++◌, length, replicate, Bool, true, false, if◌then◌else◌, codes, decimal, IsSome, IsSomeAnd}
+use Rattle.std.specs.List.{AllZip, concat}
+use Rattle.http_cache_policy.specs.Headers.{first_text}
 use Rattle.http_cache_policy.specs.Exchange.{Exchange}
-use Rattle.http_cache_policy.specs.Storable.{is_storable}
+use Rattle.http_cache_policy.specs.Storing.{is_storable}
 use Rattle.http_cache_policy.specs.Age.{time_to_live_at}
+use Rattle.http_cache_policy.specs.Steps.{OutcomeSeen, uses, sends, renews, replaces, restarted}
 
 -- a truth in words
 abbrev pub truth : Bool → List ℕ
@@ -43,3 +46,26 @@ updated_line not_modified status =
 -- the line of a restart
 abbrev pub restarted_line : List ℕ
 restarted_line = codes "restarted\n"
+
+-- the line of an outcome: a stored response that is used has its age as text
+abbrev pub IsLine : OutcomeSeen → List ℕ → Type 0
+IsLine (uses response) line =
+    IsSomeAnd (first_text response.headers (codes "age")) (λ age. line ≡ age_line age)
+IsLine (sends request matches) line = line ≡ stale_line matches
+IsLine (renews response) line = line ≡ updated_line true response.status
+IsLine (replaces response) line = line ≡ updated_line false response.status
+IsLine restarted line = line ≡ restarted_line
+
+-- the lines of outcomes, one after the other
+pub record AreLines (outcomes : List OutcomeSeen) (text : List ℕ) : Type 0 where
+  pub lines : List (List ℕ)
+  pub each : AllZip IsLine outcomes lines
+  pub joined : text ≡ concat lines
+
+-- a stored response that is used has an age
+abbrev pub HasAge : OutcomeSeen → Type 0
+HasAge (uses response) = IsSome (first_text response.headers (codes "age"))
+HasAge (sends request matches) = ⊤
+HasAge (renews response) = ⊤
+HasAge (replaces response) = ⊤
+HasAge restarted = ⊤

@@ -76,18 +76,8 @@ fn text_for(alloc: Global, call: Call) -> Result<String, CacheError> {
     }
 }
 
-fn policy_of(alloc: Global, script: &Script) -> Result<CachePolicy, CacheError> {
-    CachePolicy::new_options(
-        alloc,
-        &script.request,
-        &script.response,
-        script.received,
-        script.options,
-    )
-}
-
 fn case_of(alloc: Global, script: Script) -> Result<Case, CacheError> {
-    let policy = policy_of(alloc, &script)?;
+    let policy = script.policy(alloc)?;
     let variants = variants(alloc)?;
     Ok(Case {
         script,
@@ -98,7 +88,7 @@ fn case_of(alloc: Global, script: Script) -> Result<Case, CacheError> {
 
 fn add_variant(alloc: Global, variants: &mut Variants, text: &str) -> Result<(), CacheError> {
     let script = script_of(alloc, text)?;
-    variants.add(policy_of(alloc, &script)?).map_err(|(_, e)| e)
+    variants.add(script.policy(alloc)?).map_err(|(_, e)| e)
 }
 
 /// Three variants, the newest of which is the first.
@@ -265,7 +255,7 @@ impl Case {
             )?),
             Call::TryClone => is_right_policy(&self.policy.try_clone(alloc)?),
             Call::FromValue => is_right_reading(alloc, &form(alloc)?),
-            _ => is_right_policy(&policy_of(alloc, script)?),
+            _ => is_right_policy(&script.policy(alloc)?),
         }
     }
 

@@ -7,8 +7,8 @@ use Rattle.http_cache_fields.specs.Directives.{Directive, has}
 use Rattle.http_cache_rules.specs.Asks.{Asks, asks_of, asked_directives, has_no_cache, number_under, takes_stale}
 use Rattle.http_cache_policy.specs.Messages.{RequestSeen}
 use Rattle.http_cache_policy.specs.Exchange.{Exchange, stored_directives}
-use Rattle.http_cache_policy.specs.Storable.{is_storable}
-use Rattle.http_cache_policy.specs.Lifetime.{lifetime}
+use Rattle.http_cache_rules.specs.Storing.{is_storable}
+use Rattle.http_cache_rules.specs.Lifetimes.{lifetime}
 use Rattle.http_cache_policy.specs.Age.{age_at}
 use Rattle.http_cache_policy.specs.Match.{request_matches}
 use Rattle.http_cache_policy.specs.Verdict.{lets_stale_out, is_let_through, meets, is_fresh_for}

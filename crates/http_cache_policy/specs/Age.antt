@@ -4,7 +4,7 @@ use Rattle.std.specs.Duration.{max_nanos}
 use Rattle.http_cache_rules.specs.Dates.{elapsed_time}
 use Rattle.http_cache_rules.specs.ReceivedAge.{received_age_of}
 use Rattle.http_cache_policy.specs.Exchange.{Exchange}
-use Rattle.http_cache_policy.specs.Lifetime.{lifetime}
+use Rattle.http_cache_rules.specs.Lifetimes.{lifetime}
 
 -- the age, in seconds, that the response came with
 unfoldable pub received_age : Exchange → ℕ

@@ -6,8 +6,8 @@ use Rattle.http_cache_fields.specs.Headers.{Headers, headers_of, values, set, wi
 use Rattle.http_cache_rules.specs.Filter.{is_hop_by_hop, filtered_headers}
 use Rattle.http_cache_rules.specs.Dates.{IsPrintable, IsDateText}
 use Rattle.http_cache_rules.specs.Storing.{has_explicit_expiration}
-use Rattle.http_cache_policy.specs.Exchange.{Exchange, stored_directives}
-use Rattle.http_cache_policy.specs.Lifetime.{lifetime}
+use Rattle.http_cache_policy.specs.Exchange.{Exchange}
+use Rattle.http_cache_rules.specs.Lifetimes.{lifetime}
 use Rattle.http_cache_policy.specs.Age.{age_at}
 
 -- 24 hours, in nanoseconds
@@ -24,7 +24,7 @@ unfoldable pub is_guessed_past_a_day : Exchange → ℤ → Bool
 is_guessed_past_a_day e now =
     nat_lt day (age_at e now)
     && nat_lt day (lifetime e)
-    && not (has_explicit_expiration e.options.shared e.response_headers (stored_directives e))
+    && not (has_explicit_expiration e)
 
 -- the stored headers that are handed on, with that warning as a further value, the last, where it
 -- is due

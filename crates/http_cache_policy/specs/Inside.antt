@@ -1,20 +1,18 @@
 -- What lies under a policy.
-use Rattle.std.specs.Prelude.{◌≡◌, codes}
+use Rattle.std.specs.Prelude.{◌≡◌}
 use Rattle.std.specs.Duration.{as_nanos}
-use Rattle.http_cache_fields.specs.Directives.{has}
 use Rattle.http_cache_rules.specs.StoredDirectives.{stored_directives_of}
-use Rattle.http_cache_stored.specs.Exchange.{Exchange, exchange_in}
-use Rattle.http_cache_policy.specs.Exchange.{stored_directives, request_directives}
+use Rattle.http_cache_rules.specs.Exchange.{Exchange, exchange_in}
+use Rattle.http_cache_policy.specs.Exchange.{stored_directives}
 use Rattle.http_cache_policy.specs.Kept.{kept_exchange}
-use Rattle.http_cache_policy.specs.Storable.{is_storable}
-use Rattle.http_cache_policy.specs.Lifetime.{lifetime}
+use Rattle.http_cache_rules.specs.Storing.{is_storable}
+use Rattle.http_cache_rules.specs.Lifetimes.{lifetime}
 use Rattle.http_cache_policy.specs.Age.{received_age}
 use Rattle.http_cache_policy.specs.declared.policy.Found.{Found}
 use Rattle.http_cache_policy.specs.declared.policy.CachePolicy.TheInside.{Inside}
 
 -- what is read once of an exchange
 pub record IsFoundIn (e : Exchange) (f : Found) : Type 0 where
-  pub forbidden : f.request_forbids_storing ≡ has (request_directives e) (codes "no-store")
   pub directives : f.directives ≡ stored_directives_of (stored_directives e)
   pub storable : f.storable ≡ is_storable e
   pub received : f.received_age ≡ received_age e

@@ -23,8 +23,6 @@ pub use Rattle.http_cache_rules.specs.Renewed
 pub mod Messages
 pub mod Exchange
 pub mod Kept
-pub mod Storable
-pub mod Lifetime
 pub mod Age
 pub mod Inside
 pub mod Match

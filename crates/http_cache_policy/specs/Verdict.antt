@@ -4,8 +4,8 @@ use Rattle.http_cache_fields.specs.Directives.{Directive, has}
 use Rattle.http_cache_rules.specs.Asks.{Asks, asks_of, asked_directives, has_no_cache, is_young_enough, lasts_long_enough, takes_stale}
 use Rattle.http_cache_policy.specs.Messages.{RequestSeen}
 use Rattle.http_cache_policy.specs.Exchange.{Exchange, stored_directives}
-use Rattle.http_cache_policy.specs.Storable.{is_storable}
-use Rattle.http_cache_policy.specs.Lifetime.{lifetime}
+use Rattle.http_cache_rules.specs.Storing.{is_storable}
+use Rattle.http_cache_rules.specs.Lifetimes.{lifetime}
 use Rattle.http_cache_policy.specs.Age.{age_at}
 use Rattle.http_cache_policy.specs.Match.{NamedParts, named_parts, matches}
 

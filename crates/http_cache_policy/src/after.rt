@@ -10,9 +10,9 @@ use crate::policy::{CachePolicy, RequestLike, ResponseLike};
 use http::{HeaderMap, response};
 use http_cache_fields::CacheError;
 use http_cache_fields::headers::copy_of_map;
+use http_cache_rules::parts::StoredParts;
 use http_cache_rules::selection::is_selected;
 use http_cache_rules::update::renewed_headers;
-use http_cache_stored::stored::StoredParts;
 use jiff::Timestamp;
 use std::alloc::{AllocError, Global};
 

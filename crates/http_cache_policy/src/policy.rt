@@ -5,7 +5,7 @@ ghost use Rattle.http.specs.declared.version.TheConstants.Version.{HTTP_11};
 ghost use Rattle.http_cache_fields.specs.Headers.{headers_of};
 ghost use Rattle.http_cache_fields.specs.Directives.{cache_control, has};
 ghost use Rattle.http_cache_rules.specs.Options.{options_of, default_options};
-ghost use Rattle.http_cache_stored.specs.Exchange.{exchange_in};
+ghost use Rattle.http_cache_rules.specs.Exchange.{exchange_in};
 
 mod like;
 
@@ -13,12 +13,11 @@ use http::{HeaderMap, Method, StatusCode, Uri, Version, request};
 use http_cache_fields::CacheError;
 use http_cache_fields::headers::copy_of_map;
 use http_cache_fields::kept::keep;
-use http_cache_rules::asks::forbids_storing;
 use http_cache_rules::lifetime::{elapsed_time, lifetime_of, received_age};
 pub use http_cache_rules::options::{CacheOptions, Fraction};
+use http_cache_rules::parts::StoredParts;
 use http_cache_rules::storable::{has_explicit_expiration, is_storable};
 use http_cache_rules::stored_directives::StoredDirectives;
-use http_cache_stored::stored::StoredParts;
 use jiff::Timestamp;
 pub use like::{RequestLike, ResponseLike};
 use std::alloc::{AllocError, Global};
@@ -34,7 +33,7 @@ pub struct CachePolicy {
 }
 
 impl Model for CachePolicy {
-    ghost use Rattle.http_cache_stored.specs.Exchange.{Exchange, exchange_code, exchange_in};
+    ghost use Rattle.http_cache_rules.specs.Exchange.{Exchange, exchange_code, exchange_in};
 
     ghost Value = { Exchange };
 
@@ -74,7 +73,6 @@ pub(crate) fn request_with(
 // What is read once of the parts, so that the answers below take no memory.
 #[derive(Clone, Copy, Debug)]
 struct Found {
-    request_forbids_storing: bool,
     directives: StoredDirectives,
     storable: bool,
     received_age: u64,
@@ -84,37 +82,16 @@ struct Found {
 impl Found {
     ghost use Rattle.http_cache_policy.specs.Inside.{IsFoundIn};
 
-    #[tactic(auto, unfolding(crate::specs::Storable::is_storable, crate::specs::Lifetime::lifetime))]
     fn of(alloc: Global, parts: &StoredParts) -> Result<Found, AllocError>
         ensures { IfOk result (λ found. IsFoundIn (exchange_in parts.now) found) }
     {
-        let headers = &parts.response_headers;
-        let shared = parts.options.shared;
-        let forbidden = forbids_storing(&parts.request_headers);
-        let directives = StoredDirectives::of(alloc, headers)?;
-        let storable = is_storable(
-            shared,
-            &parts.method,
-            &parts.request_headers,
-            parts.status,
-            headers,
-            forbidden,
-            &directives,
-        );
-        let received = parts.response_time;
-        let lifetime = lifetime_of(
-            alloc,
-            storable,
-            headers,
-            &directives,
-            &parts.options,
-            received,
-        )?;
+        let directives = StoredDirectives::of(alloc, &parts.response_headers)?;
+        let storable = is_storable(parts, &directives);
+        let lifetime = lifetime_of(alloc, storable, parts, &directives)?;
         Ok(Found {
-            request_forbids_storing: forbidden,
             directives,
             storable,
-            received_age: received_age(headers),
+            received_age: received_age(&parts.response_headers),
             lifetime,
         })
     }
@@ -125,8 +102,8 @@ impl CachePolicy {
     ghost use Rattle.http_cache_policy.specs.Exchange.{exchange_of, stored_directives};
     ghost use Rattle.http_cache_policy.specs.Kept.{kept_exchange};
     ghost use Rattle.http_cache_rules.specs.Storing.{has_explicit_expiration};
-    ghost use Rattle.http_cache_policy.specs.Storable.{is_storable};
-    ghost use Rattle.http_cache_policy.specs.Lifetime.{lifetime};
+    ghost use Rattle.http_cache_rules.specs.Storing.{is_storable};
+    ghost use Rattle.http_cache_rules.specs.Lifetimes.{lifetime};
     ghost use Rattle.http_cache_policy.specs.Age.{age_at, time_to_live_at, is_stale_at};
     ghost use Rattle.http_cache_policy.specs.Verdict.{lets_stale_out};
 
@@ -280,14 +257,9 @@ impl CachePolicy {
 
     /// Whether the stored response itself says when it expires.
     pub(crate) fn has_explicit_expiration(&self) -> bool
-        ensures { result ≡ has_explicit_expiration self.now.options.shared
-            self.now.response_headers (stored_directives self.now) }
+        ensures { result ≡ has_explicit_expiration self.now }
     {
-        has_explicit_expiration(
-            self.parts.options.shared,
-            &self.parts.response_headers,
-            &self.found.directives,
-        )
+        has_explicit_expiration(&self.parts, &self.found.directives)
     }
 
     /// How long the stored response stays fresh.

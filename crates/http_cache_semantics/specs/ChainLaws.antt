@@ -1,14 +1,13 @@
 -- Ages and lifetimes along a chain of caches (RFC 7234, sections 4.2.1 and 4.2.3).
-use Rattle.std.specs.Prelude.{◌≡◌, ⊤, ◌≤◌, ◌≤ℤ◌, ◌-ℤ◌, ◌+◌, ◌-◌, ◌*◌, ◌/◌, ◌^◌, min, ℕ, ℤ, Bool, true, false, List, [], ◌∷◌, take, length, codes, Some, slice_get}
+use Rattle.std.specs.Prelude.{◌≡◌, ⊤, ◌≤◌, ◌≤ℤ◌, ◌-ℤ◌, ◌+◌, ◌*◌, ◌/◌, ◌-◌, ◌^◌, min, ℕ, ℤ, true, false, List, [], ◌∷◌, take, length, codes, Some, slice_get}
 use Rattle.std.specs.List.{list_any}
 use Rattle.http_cache_fields.specs.Headers.{values}
 use Rattle.http_cache_fields.specs.Pieces.{pieces_under}
 use Rattle.http_cache_rules.specs.Dates.{elapsed_time}
 use Rattle.http_cache_rules.specs.Filter.{is_spelled}
-use Rattle.http_cache_rules.specs.Lifetimes.{Row, lifetime_rows}
+use Rattle.http_cache_rules.specs.Storing.{is_storable}
+use Rattle.http_cache_rules.specs.Lifetimes.{applies, zero_rows, seconds_rows, lifetime}
 use Rattle.http_cache_policy.specs.Exchange.{Exchange, stored_directives}
-use Rattle.http_cache_policy.specs.Storable.{is_storable}
-use Rattle.http_cache_policy.specs.Lifetime.{lifetime}
 use Rattle.http_cache_policy.specs.Age.{received_age, age_at, time_to_live_at}
 
 -- the exchange in a place, counted from 0
@@ -50,20 +49,11 @@ pub record IsAgedLike (first : Exchange) (hops : ℕ) (e : Exchange) : Type 0 wh
 
 -- ---- explicit lifetimes (RFC 7234, section 4.2.1)
 
--- a row of the table applies
-abbrev pub applies : Row → Bool
-applies row = row.0
-
--- the table of lifetimes of an exchange
-abbrev pub table : Exchange → List Row
-table e =
-    lifetime_rows (is_storable e) e.response_headers (stored_directives e) e.options e.response_time
-
--- the lifetime is that of the fifth row, by s-maxage, or of the sixth, by max-age; the stored
--- Cache-Control is one value, and Connection doesn't name it
+-- no row that gives zero applies, and one by s-maxage or by max-age does; the stored Cache-Control
+-- is one value, and Connection doesn't name it
 pub record IsExplicit (e : Exchange) : Type 0 where
-  pub not_before : list_any applies (take 4 (table e)) ≡ false
-  pub by_seconds : list_any applies (take 6 (table e)) ≡ true
+  pub not_zero : list_any applies (zero_rows e) ≡ false
+  pub by_seconds : list_any applies (seconds_rows e) ≡ true
   pub one_value : length (values e.response_headers (codes "cache-control")) ≡ 1
   pub unspelled : is_spelled (pieces_under e.response_headers (codes "connection"))
       (codes "cache-control") ≡ false

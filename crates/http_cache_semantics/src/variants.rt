@@ -25,7 +25,7 @@ pub struct Variants {
 impl Model for Variants {
     ghost use Rattle.std.specs.Prelude.{List};
     ghost use Rattle.std.specs.Coded.{coded_list};
-    ghost use Rattle.http_cache_stored.specs.Exchange.{Exchange, exchange_code};
+    ghost use Rattle.http_cache_rules.specs.Exchange.{Exchange, exchange_code};
 
     ghost Value = { List Exchange };
 

@@ -3,7 +3,7 @@ use Rattle.std.proofs.Common.{◌≡◌, ◌↔◌, Some, refl, sym, subst}
 use Rattle.http_uri.specs.Uri.{uri_text}
 use Rattle.http_cache_fields.specs.Headers.{Headers}
 use Rattle.http_cache_stored.specs.HeaderObject.{headers_data, IsHeaderObject}
-use Rattle.http_cache_stored.specs.Exchange.{Exchange}
+use Rattle.http_cache_rules.specs.Exchange.{Exchange}
 use Rattle.http_cache_stored.specs.Stored.{StoredForm, stored_form, stored_data, IsStoredOf, IsStored}
 use Rattle.http_cache_stored.specs.ReadBack.{AreReadable, IsWritable, IsReadBack}
 use Rattle.http_cache_stored.proofs.FormBackLemmas.{options-back, moment-back}

@@ -1,7 +1,7 @@
 -- A value is of one exchange at most.
 use Rattle.std.proofs.Common.{◌≡◌, sym, ◌∙◌}
 use Rattle.serde_json.specs.Data.{Data}
-use Rattle.http_cache_stored.specs.Exchange.{Exchange}
+use Rattle.http_cache_rules.specs.Exchange.{Exchange}
 use Rattle.http_cache_stored.specs.Stored.{StoredForm, stored_form, IsStoredOf, IsStored}
 use Rattle.http_cache_stored.proofs.SomeLemmas.{some_same}
 use Rattle.http_cache_stored.proofs.MemberLemmas.{IsHeaderObject-unique}

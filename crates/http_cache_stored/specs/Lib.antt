@@ -3,7 +3,6 @@ pub mod FormData
 pub mod Lists
 pub mod Pairs
 pub mod HeaderObject
-pub mod Exchange
 pub mod Stored
 pub mod Refusal
 pub mod ReadBack

@@ -14,7 +14,7 @@ use Rattle.jiff_core.specs.Timestamp.{IsTimestampNanos}
 use Rattle.http_cache_fields.specs.Headers.{Headers, value_count}
 use Rattle.http_cache_stored.specs.FormData.{AreInRange}
 use Rattle.http_cache_stored.specs.HeaderObject.{IsFilled}
-use Rattle.http_cache_stored.specs.Exchange.{Exchange}
+use Rattle.http_cache_rules.specs.Exchange.{Exchange}
 use Rattle.http_cache_stored.specs.Stored.{stored_data}
 
 -- bytes that the library of headers takes as a value

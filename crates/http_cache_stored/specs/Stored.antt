@@ -9,7 +9,7 @@ use Rattle.serde_json.specs.Find.{get, as_str}
 use Rattle.http_cache_stored.specs.Form.{◌>>=◌, given, has_members, whole_of, moment_of, options_of_data}
 use Rattle.http_cache_stored.specs.FormData.{whole_data, options_data, moment_data}
 use Rattle.http_cache_stored.specs.HeaderObject.{IsHeaderObject, headers_data}
-use Rattle.http_cache_stored.specs.Exchange.{Exchange}
+use Rattle.http_cache_rules.specs.Exchange.{Exchange}
 
 -- the members of a stored form
 pub record StoredForm : Type 0 where

@@ -4,7 +4,7 @@ ghost use Rattle.serde_json.specs.View.{view};
 ghost use Rattle.serde_json.specs.Data.{string};
 ghost use Rattle.http_uri.specs.Uri.{uri_text};
 ghost use Rattle.http_cache_rules.specs.Options.{options_of};
-ghost use Rattle.http_cache_stored.specs.Exchange.{Exchange, exchange_in};
+ghost use Rattle.http_cache_rules.specs.Exchange.{Exchange, exchange_in};
 ghost use Rattle.http_cache_stored.specs.Stored.{stored_form, IsStored};
 ghost use Rattle.http_cache_stored.specs.ReadBack.{IsWrittenFor};
 
@@ -14,30 +14,12 @@ use crate::form::{
 use crate::headers::{headers_from_value, value_of_headers};
 use crate::refusal::Unread;
 use crate::texts::{method_from_text, status_from_number, target_from_text};
-use http::{HeaderMap, Method, StatusCode, Uri};
+use http::Uri;
 use http_cache_rules::options::CacheOptions;
+use http_cache_rules::parts::StoredParts;
 use jiff::Timestamp;
 use serde_json::{Value, json};
 use std::alloc::{AllocError, Global};
-
-/// A request, the response that came for it, and when it came.
-#[derive(Debug, Drop)]
-pub struct StoredParts {
-    /// The target of the request.
-    pub target: Uri,
-    /// Its method.
-    pub method: Method,
-    /// The status of the response.
-    pub status: StatusCode,
-    /// The headers of the request.
-    pub request_headers: HeaderMap,
-    /// The headers of the response.
-    pub response_headers: HeaderMap,
-    /// How a cache is to behave.
-    pub options: CacheOptions,
-    /// When the response came.
-    pub response_time: Timestamp,
-}
 
 #[derive(Clone, Copy)]
 struct StoredMembers<'a> {

@@ -30,17 +30,6 @@ impl Call<'_> {
     }
 }
 
-/// The policy of a script's exchange.
-pub fn policy_of(alloc: Global, script: &Script) -> Result<CachePolicy, CacheError> {
-    CachePolicy::new_options(
-        alloc,
-        &script.request,
-        &script.response,
-        script.received,
-        script.options,
-    )
-}
-
 fn weight_of_answer(answer: &BeforeRequest) -> u64 {
     match answer {
         BeforeRequest::Fresh(parts) => parts.headers.len() as u64,
@@ -64,7 +53,7 @@ fn once(
     call: &Call<'_>,
 ) -> Result<u64, CacheError> {
     match call {
-        Call::NewOptions => Ok(u64::from(policy_of(alloc, script)?.is_storable())),
+        Call::NewOptions => Ok(u64::from(script.policy(alloc)?.is_storable())),
         Call::TryClone => Ok(u64::from(policy.try_clone(alloc)?.is_storable())),
         Call::FreshAt(request, now) => Ok(u64::from(policy.fresh_at(*request, *now))),
         Call::BeforeRequest(request, now) => {

@@ -8,7 +8,7 @@
 mod call;
 
 use cache_script::{Script, ScriptStep, Step, script_from_bytes};
-use call::{Call, copies_of, policy_of, repeat, repeat_choice};
+use call::{Call, copies_of, repeat, repeat_choice};
 use http::{Method, request};
 use http_cache_semantics::{CachePolicy, Variants};
 use jiff::Timestamp;
@@ -159,7 +159,7 @@ fn tell_all(
 }
 
 fn tell_script(rt: &HostRuntime, script: &Script, count: u64) -> io::Result<bool> {
-    match policy_of(rt.alloc(), script) {
+    match script.policy(rt.alloc()) {
         Ok(policy) => tell_all(rt, script, &policy, count),
         Err(_) => Ok(false),
     }

@@ -1,6 +1,6 @@
-use cache_run::ends::{Sink, Source};
-use cache_run::error::ScriptError;
-use cache_run::run::run;
+use cache_script::ends::{Sink, Source};
+use cache_script::error::ScriptError;
+use cache_script::run::run;
 use cache_script::{Script, script_from_bytes};
 use cases::hunger::Hunger;
 use http_cache_semantics::chain::Step;

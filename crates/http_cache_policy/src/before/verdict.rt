@@ -4,7 +4,7 @@ ghost use Rattle.http_cache_fields.specs.Headers.{headers_of};
 ghost use Rattle.http_cache_fields.specs.Directives.{Directive, has};
 ghost use Rattle.http_cache_rules.specs.Asks.{Asks, asks_of, asked_directives, asked_of};
 ghost use Rattle.http_cache_policy.specs.Exchange.{stored_directives};
-ghost use Rattle.http_cache_policy.specs.Storable.{is_storable};
+ghost use Rattle.http_cache_rules.specs.Storing.{is_storable};
 ghost use Rattle.http_cache_policy.specs.Verdict.{satisfies, is_fresh_for};
 ghost use Rattle.http_cache_policy.specs.Bound.{lesser, is_below, bound_by_lifetime, bound_by_max_age, bound_by_min_fresh, bound, is_fresh_by_bound};
 

@@ -1,8 +1,9 @@
 use crate::lifetime::lifetime_of;
 use crate::options::CacheOptions;
+use crate::parts::StoredParts;
 use crate::stored_directives::StoredDirectives;
-use http::HeaderMap;
 use http::header::{HeaderName, HeaderValue};
+use http::{HeaderMap, Method, StatusCode, Uri};
 use jiff::Timestamp;
 use std::alloc::Global;
 use std::test::Fail;
@@ -39,11 +40,17 @@ fn headers(alloc: Global, lines: &str) -> Result<HeaderMap, Fail> {
 }
 
 fn lifetime(alloc: Global, lines: &str, storable: bool) -> Result<u128, Fail> {
-    let headers = headers(alloc, lines)?;
-    let directives = StoredDirectives::of(alloc, &headers)?;
-    let opts = CacheOptions::default();
-    let received = Timestamp::from_second(1_704_067_200)?;
-    let lifetime = lifetime_of(alloc, storable, &headers, &directives, &opts, received)?;
+    let parts = StoredParts {
+        target: Uri::from_str(alloc, "/")?,
+        method: Method::GET,
+        status: StatusCode::OK,
+        request_headers: HeaderMap::new(alloc),
+        response_headers: headers(alloc, lines)?,
+        options: CacheOptions::default(),
+        response_time: Timestamp::from_second(1_704_067_200)?,
+    };
+    let directives = StoredDirectives::of(alloc, &parts.response_headers)?;
+    let lifetime = lifetime_of(alloc, storable, &parts, &directives)?;
     Ok(lifetime.as_millis())
 }
 

@@ -1,6 +1,6 @@
 use Rattle.std.proofs.Common.{◌≡◌, sym, ap, ◌∙◌}
 use Rattle.http_cache_fields.specs.Headers.{Headers, headers_of}
-use Rattle.http_cache_stored.specs.Exchange.{Exchange, exchange_in}
+use Rattle.http_cache_rules.specs.Exchange.{Exchange, exchange_in}
 use Rattle.http_cache_policy.specs.Kept.{kept_exchange}
 use Rattle.http_cache_policy.proofs.KeptLemmas.{kept-settled}
 use Rattle.http_cache_policy.proofs.policy.CachePolicy.from_details.Goals as goal

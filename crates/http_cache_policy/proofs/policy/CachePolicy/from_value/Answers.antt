@@ -1,6 +1,6 @@
 use Rattle.std.proofs.Common.{ap, ◌∙◌}
 use Rattle.serde_json.specs.View.{view}
-use Rattle.http_cache_stored.specs.Exchange.{exchange_in}
+use Rattle.http_cache_rules.specs.Exchange.{exchange_in}
 use Rattle.http_cache_stored.proofs.StoredLemmas.{IsStored-unique}
 use Rattle.http_cache_policy.specs.Kept.{kept_exchange}
 use Rattle.http_cache_policy.proofs.policy.CachePolicy.from_value.Goals as goal

@@ -1,7 +1,0 @@
-use Rattle.std.proofs.Common.{nat_eq, sym, ap}
-use Rattle.serde_json.proofs.Views.{members_len-members_view}
-use Rattle.cache_replay.proofs.compare.has_two_members.Goals as goal
-
-pub returns-in-Some : goal.returns-in-Some
-returns-in-Some c =
-    rw (sym c.in-Some.ensures, members_len-members_view) (ap (λ n. nat_eq n 2) c.len.ensures.len)

@@ -1,0 +1,7 @@
+use Rattle.std.proofs.Common.{map, take, string_bytes}
+use Rattle.http_cache_policy.specs.Steps.{outcome_seen}
+use Rattle.cache_script.specs.Lines.{AreLines}
+use Rattle.cache_script.proofs.lines.lines_of.Given as goal
+
+abbrev pub invariant-loop-outcome : goal.invariant-loop-outcome
+invariant-loop-outcome l = AreLines (map outcome_seen (take l.outcome-index l.outcomes)) (string_bytes l.text)
