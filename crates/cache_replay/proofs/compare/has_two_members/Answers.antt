@@ -1,3 +1,4 @@
+-- The members of an object are counted as its view shows them, and compared with two.
 use Rattle.std.proofs.Common.{nat_eq, sym, ap}
 use Rattle.serde_json.proofs.Views.{members_len-members_view}
 use Rattle.cache_replay.proofs.compare.has_two_members.Goals as goal
