@@ -1,5 +1,7 @@
 -- Lines that are passed over.
-use Rattle.std.proofs.Common.{◌≡◌, ◌≢◌, ℕ, ◌-◌, ◌+◌, ◌&&◌, true, false, true≢false, All, List, [], ◌∷◌, length, get_or, Option, Some, None, lt-ltb, sym, ap, ap₂, subst, ◌∙◌, arith, take_all, eq-eqb}
+use Rattle.std.proofs.Common.{◌≡◌, ◌≢◌, ℕ, ◌-◌, ◌+◌, ◌&&◌, true, false, true≢false}
+use Rattle.std.proofs.Common.{All, List, [], ◌∷◌, length, get_or, Option, Some, None}
+use Rattle.std.proofs.Common.{lt-ltb, sym, ap, ap₂, subst, ◌∙◌, arith, take_all, eq-eqb}
 use Rattle.std.proofs.lemmas.List.Elements.{All-nil, All-more}
 use Rattle.std.specs.Io.{StopsAt}
 use Rattle.std.specs.Io.KnownBytes.{Consumes}

@@ -1,5 +1,6 @@
 -- The bit that capital letters lack.
-use Rattle.std.proofs.Common.{◌≡◌, ◌⊎◌, ℕ, ◌<◌, Bool, true, ◌&&◌, ◌||◌, List, [], ◌∷◌, ◌++◌, zero, suc, refl, sym, ap, ◌∙◌, inl, inr, arith, eqb, eqb-true, bit_and}
+use Rattle.std.proofs.Common.{◌≡◌, ◌⊎◌, ℕ, ◌<◌, Bool, true, ◌&&◌, ◌||◌, List, [], ◌∷◌, ◌++◌, zero}
+use Rattle.std.proofs.Common.{suc, refl, sym, ap, ◌∙◌, inl, inr, arith, eqb, eqb-true, bit_and}
 use Rattle.std.specs.Char.{to_ascii_lowercase}
 use lib.Bits.{and_zero_l}
 use Rattle.std.proofs.lemmas.Bool.{cases_Bool, and_parts, eqb-false}

@@ -1,11 +1,16 @@
 -- A directive is what the first piece of its name says.
-use Rattle.std.proofs.Common.{◌≡◌, ℕ, Bool, true, false, cond, List, [], ◌∷◌, ◌++◌, length, filter, Option, Some, None, codes, refl, sym, ap, ◌∙◌, subst, append_assoc, arith, nat_lt, bytes_eq}
+use Rattle.std.proofs.Common.{◌≡◌, ℕ, Bool, true, false, cond, List, [], ◌∷◌, ◌++◌}
+use Rattle.std.proofs.Common.{length, filter, Option, Some, None, codes, refl, sym}
+use Rattle.std.proofs.Common.{ap, ◌∙◌, subst, append_assoc, arith, nat_lt, bytes_eq}
 use Rattle.std.specs.List.{find}
 use Rattle.std.specs.Option.{option_map}
 use Rattle.std.proofs.lemmas.Bool.Decides.{nat_tests}
 use Rattle.std.proofs.lemmas.List.{append-nil}
 use Rattle.std.proofs.lemmas.Slice.Eq.{bytes_eq-Decides}
-use Rattle.http_cache_fields.specs.Directives.{Directive, name_of, unquoted_value_of, has_name, first_directives, has_conflict, value_under, set_directive, must_revalidate, with_conflict, directives}
+use Rattle.http_cache_fields.specs.Directives.{Directive, name_of, unquoted_value_of}
+use Rattle.http_cache_fields.specs.Directives.{has_name, first_directives}
+use Rattle.http_cache_fields.specs.Directives.{has_conflict, value_under, set_directive}
+use Rattle.http_cache_fields.specs.Directives.{must_revalidate, with_conflict, directives}
 use Rattle.http_cache_fields.proofs.ReadLemmas.{HasRead, HasRead-none, HasRead-new, HasRead-again, has_name_of}
 
 -- the pieces say the directives at first positions

@@ -1,5 +1,7 @@
 -- Directives that are found by an ordered map.
-use Rattle.std.proofs.Common.{◌≡◌, ℕ, suc, zero, ◌<◌, ◌≤◌, Bool, true, false, cond, List, [], ◌∷◌, ◌++◌, length, take, drop, Option, Some, None, refl, sym, ap, ◌∙◌, subst, arith, bytes_eq, Bor}
+use Rattle.std.proofs.Common.{◌≡◌, ℕ, suc, zero, ◌<◌, ◌≤◌, Bool, true, false, cond}
+use Rattle.std.proofs.Common.{List, [], ◌∷◌, ◌++◌, length, take, drop, Option, Some}
+use Rattle.std.proofs.Common.{None, refl, sym, ap, ◌∙◌, subst, arith, bytes_eq, Bor}
 use Rattle.std.specs.Option.{option_map, option_copied, option_or}
 use Rattle.std.specs.BTreeMap.{Updates, get}
 use Rattle.std.proofs.lemmas.List.{drop-append-le, length_push}
@@ -47,7 +49,9 @@ later_new count ds n new =
 pub HasLater-few : (ds : List Directive) (d : Directive) (later : ByName) → length ds < 16
     → HasLater ds later → HasLater (ds ++ d ∷ []) later
 HasLater-few ds d later few h name =
-    h name ∙ ap (λ es. value_under es (lower_name name)) (drop_few 16 ds (omega arith) ∙ sym (drop_few 16 (ds ++ d ∷ []) (short ds few)))
+    h name
+    ∙ ap (λ es. value_under es (lower_name name))
+    (drop_few 16 ds (omega arith) ∙ sym (drop_few 16 (ds ++ d ∷ []) (short ds few)))
   where
     drop_few : (count : ℕ) (es : List Directive) → length es ≤ count → drop count es ≡ []
     drop_few zero [] few = refl

@@ -1,10 +1,14 @@
 -- A response whose Vary has no `*` among its pieces has none that is `*` alone.
-use Rattle.std.proofs.Common.{◌≡◌, ℕ, ◌-◌, Bool, true, false, cond, not, ◌||◌, List, [], ◌∷◌, ◌++◌, length, map, drop, codes, bytes_eq, slice_get, Some, None, option_map, option_and_then, unwrap_or, if◌then◌else◌, suc, refl, sym, ap, ◌∙◌, arith, true≢false}
+use Rattle.std.proofs.Common.{◌≡◌, ℕ, ◌-◌, Bool, true, false, cond, not, ◌||◌, List, []}
+use Rattle.std.proofs.Common.{◌∷◌, ◌++◌, length, map, drop, codes, bytes_eq, slice_get}
+use Rattle.std.proofs.Common.{Some, None, option_map, option_and_then, unwrap_or}
+use Rattle.std.proofs.Common.{if◌then◌else◌, suc, refl, sym, ap, ◌∙◌, arith, true≢false}
 use Rattle.std.specs.List.{list_all, list_any}
 use Rattle.std.proofs.lemmas.List.Folds.{list_any-append}
 use Rattle.std.proofs.lemmas.Slice.Eq.{bytes_eq-Decides}
 use Rattle.std.proofs.lemmas.Bool.Decides.{nat_tests}
-use Rattle.http_cache_fields.specs.Text.{is_text, text_of, is_blank, is_comma, trim, trim_front, trim_back, onto_trimmed}
+use Rattle.http_cache_fields.specs.Text.{is_text, text_of, is_blank, is_comma}
+use Rattle.http_cache_fields.specs.Text.{trim, trim_front, trim_back, onto_trimmed}
 use Rattle.http_cache_fields.specs.Headers.{last_only}
 use Rattle.http_cache_fields.specs.Pieces.{text_lines, pieces_of_line, pieces, pieces_of_values}
 use Rattle.http_cache_fields.proofs.TrimLemmas.{and-left, and-right, and-both}
@@ -30,7 +34,8 @@ module _ (p q : ℕ → Bool) (weaker : (b : ℕ) → p b ≡ true → q b ≡ t
       → list_all q (onto_trimmed p b left) ≡ true → list_all q (b ∷ bs) ≡ true
   back_by b bs [] rest k = and-both (q b) (list_all q bs) (alone b (p b) refl k) (rest refl)
   back_by b bs (c ∷ cs) rest k =
-      and-both (q b) (list_all q bs) (and-left (q b) (list_all q (c ∷ cs)) k) (rest (and-right (q b) (list_all q (c ∷ cs)) k))
+      and-both (q b) (list_all q bs) (and-left (q b) (list_all q (c ∷ cs)) k)
+      (rest (and-right (q b) (list_all q (c ∷ cs)) k))
 
   before-trim_back : (bs : List ℕ) → list_all q (trim_back p bs) ≡ true → list_all q bs ≡ true
   before-trim_back [] e = refl
@@ -45,8 +50,11 @@ has_no_comma b = not (is_comma b)
 -- its one piece is that text
 star-alone : (line : List ℕ) → trim line ≡ codes "*" → pieces_of_line line ≡ codes "*" ∷ []
 star-alone line e =
-    let front : list_all has_no_comma (trim_front is_blank line) ≡ true = before-trim_back is_blank has_no_comma not_comma-blank (trim_front is_blank line) (ap (list_all has_no_comma) e) in
-    let whole : list_all has_no_comma line ≡ true = before-trim_front is_blank has_no_comma not_comma-blank line front in
+    let front : list_all has_no_comma (trim_front is_blank line) ≡ true =
+    before-trim_back is_blank has_no_comma not_comma-blank (trim_front is_blank line)
+    (ap (list_all has_no_comma) e) in
+    let whole : list_all has_no_comma line ≡ true =
+    before-trim_front is_blank has_no_comma not_comma-blank line front in
     ap (map trim) (slice_split-none is_comma line whole) ∙ ap (λ (t : List ℕ). t ∷ []) e
 
 -- ---- the last of several values
@@ -56,7 +64,9 @@ is_star = bytes_eq (codes "*")
 
 -- the first of these values is text that trims to `*`
 abbrev pub begins_with_star : List (List ℕ) → Bool
-begins_with_star vs = unwrap_or (option_map (λ text. bytes_eq (trim text) (codes "*")) (option_and_then text_of (slice_get vs 0))) false
+begins_with_star vs =
+    unwrap_or (option_map (λ text. bytes_eq (trim text) (codes "*"))
+    (option_and_then text_of (slice_get vs 0))) false
 
 pub or-left : (a b : Bool) → (a || b) ≡ false → a ≡ false
 or-left true b e = absurd (true≢false e)
@@ -67,17 +77,22 @@ or-right true b e = absurd (true≢false e)
 or-right false b e = e
 
 -- what isn't among the pieces of a value and others isn't among those of the others
-star-tail : (v : List ℕ) (vs : List (List ℕ)) → list_any is_star (pieces_of_values (v ∷ vs)) ≡ false → list_any is_star (pieces_of_values vs) ≡ false
+star-tail : (v : List ℕ) (vs : List (List ℕ)) → list_any is_star (pieces_of_values (v ∷ vs)) ≡ false
+    → list_any is_star (pieces_of_values vs) ≡ false
 star-tail v vs e = by (is_text v) e
   where
-    by : (t : Bool) → list_any is_star (pieces (cond t (v ∷ text_lines vs) (text_lines vs))) ≡ false → list_any is_star (pieces_of_values vs) ≡ false
-    by true k = or-right (list_any is_star (pieces_of_line v)) (list_any is_star (pieces_of_values vs)) (sym (list_any-append is_star (pieces_of_line v) (pieces_of_values vs)) ∙ k)
+    by : (t : Bool) → list_any is_star (pieces (cond t (v ∷ text_lines vs) (text_lines vs))) ≡ false
+        → list_any is_star (pieces_of_values vs) ≡ false
+    by true k =
+        or-right (list_any is_star (pieces_of_line v)) (list_any is_star (pieces_of_values vs))
+        (sym (list_any-append is_star (pieces_of_line v) (pieces_of_values vs)) ∙ k)
     by false k = k
 
 star-one : (v : List ℕ) → list_any is_star (pieces_of_values (v ∷ [])) ≡ false → begins_with_star (v ∷ []) ≡ false
 star-one v e = by (is_text v) e
   where
-    trimmed : (t : Bool) → bytes_eq (trim v) (codes "*") ≡ t → list_any is_star (pieces_of_line v ++ []) ≡ false → t ≡ false
+    trimmed : (t : Bool) → bytes_eq (trim v) (codes "*") ≡ t
+        → list_any is_star (pieces_of_line v ++ []) ≡ false → t ≡ false
     trimmed true f k =
         let line : pieces_of_line v ≡ codes "*" ∷ [] = star-alone v ((bytes_eq-Decides (trim v) (codes "*")).0 f) in
         absurd (true≢false (ap (λ (ps : List (List ℕ)). list_any is_star (ps ++ [])) (sym line) ∙ k))
@@ -94,7 +109,8 @@ last_only-cons v w vs =
     let f : length (w ∷ vs) - 1 ≡ length vs = omega arith in
     ap (λ n. drop n (v ∷ w ∷ vs)) e ∙ sym (ap (λ n. drop n (w ∷ vs)) f)
 
-pub star-last : (vs : List (List ℕ)) → list_any is_star (pieces_of_values vs) ≡ false → begins_with_star (last_only vs) ≡ false
+pub star-last : (vs : List (List ℕ)) → list_any is_star (pieces_of_values vs) ≡ false
+    → begins_with_star (last_only vs) ≡ false
 star-last [] e = refl
 star-last (v ∷ []) e = star-one v e
 star-last (v ∷ w ∷ vs) e = ap begins_with_star (last_only-cons v w vs) ∙ star-last (w ∷ vs) (star-tail v (w ∷ vs) e)

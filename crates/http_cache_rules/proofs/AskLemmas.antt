@@ -1,5 +1,7 @@
 -- What a request asks, one piece after another.
-use Rattle.std.proofs.Common.{◌≡◌, ℕ, Bool, true, false, cond, ◌||◌, true≢false, List, [], ◌∷◌, ◌++◌, codes, length, Option, Some, None, is_some, option_map, refl, sym, ap, ◌∙◌, bytes_eq, nat_lt}
+use Rattle.std.proofs.Common.{◌≡◌, ℕ, Bool, true, false, cond, ◌||◌, true≢false}
+use Rattle.std.proofs.Common.{List, [], ◌∷◌, ◌++◌, codes, length, Option, Some, None}
+use Rattle.std.proofs.Common.{is_some, option_map, refl, sym, ap, ◌∙◌, bytes_eq, nat_lt}
 use Rattle.std.specs.Option.{option_or}
 use Rattle.std.specs.List.{list_any, find}
 use Rattle.std.proofs.lemmas.List.Folds.{find-append, list_any-append}
@@ -78,7 +80,8 @@ named-by_directive ps n named other =
     mapped None = refl
     mapped (Some q) = refl
 
-    found : (qs : List (List ℕ)) → list_any (λ p. bytes_eq n (name_of p)) qs ≡ is_some (find (λ p. bytes_eq n (name_of p)) qs)
+    found : (qs : List (List ℕ))
+        → list_any (λ p. bytes_eq n (name_of p)) qs ≡ is_some (find (λ p. bytes_eq n (name_of p)) qs)
     found [] = refl
     found (q ∷ qs) = by (bytes_eq n (name_of q)) (found qs)
       where

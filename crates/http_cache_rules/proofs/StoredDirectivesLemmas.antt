@@ -2,7 +2,8 @@
 use Rattle.std.proofs.Common.{◌≡◌, ℕ, Bool, true, false, ◌||◌, List, codes, is_some, refl, ap, ◌∙◌, bytes_eq}
 use Rattle.http_cache_fields.specs.Directives.{Directive, value_under, has, must_revalidate, with_conflict}
 use Rattle.http_cache_fields.specs.Pragma.{no_cache, with_no_cache}
-use Rattle.http_cache_fields.proofs.FirstPieceLemmas.{value_under-set_other, value_under-set_same, value_under-with_conflict}
+use Rattle.http_cache_fields.proofs.FirstPieceLemmas.{value_under-set_other, value_under-set_same}
+use Rattle.http_cache_fields.proofs.FirstPieceLemmas.{value_under-with_conflict}
 
 with_no_cache-other : (said : Bool) (ds : List Directive) (n : List ℕ)
     → bytes_eq n (codes "no-cache") ≡ false → value_under (with_no_cache said ds) n ≡ value_under ds n

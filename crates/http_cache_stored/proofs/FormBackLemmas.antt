@@ -1,9 +1,11 @@
 -- Options and moments that are written read back.
-use Rattle.std.proofs.Common.{◌≡◌, ℕ, ◌+◌, ◌-◌, ◌*◌, ◌/◌, ◌%◌, ◌<◌, ◌≤◌, suc, le-leb, neg_ℤ, ◌+ℤ◌, ℤ, pos, negsuc, true, Some, refl, ap, ◌∙◌, lt-ltb, arith}
+use Rattle.std.proofs.Common.{◌≡◌, ℕ, ◌+◌, ◌-◌, ◌*◌, ◌/◌, ◌%◌, ◌<◌, ◌≤◌, suc, le-leb, neg_ℤ}
+use Rattle.std.proofs.Common.{◌+ℤ◌, ℤ, pos, negsuc, true, Some, refl, ap, ◌∙◌, lt-ltb, arith}
 use Rattle.std.proofs.Math.Facts.{leb_yes}
 use Rattle.jiff_core.specs.Timestamp.{IsTimestampNanos}
 use Rattle.http_cache_rules.specs.Options.{Options}
-use Rattle.http_cache_stored.specs.Form.{given, is_instant, instant_at, wholes_of, fraction_of, duration_of, moment_of, options_of_data}
+use Rattle.http_cache_stored.specs.Form.{given, is_instant, instant_at, wholes_of}
+use Rattle.http_cache_stored.specs.Form.{fraction_of, duration_of, moment_of, options_of_data}
 use Rattle.http_cache_stored.specs.FormData.{AreInRange, whole_data, pair_data, options_data, moment_data}
 
 fraction-back : (n d : ℕ) → n < 4_294_967_296 → 0 < d → d < 4_294_967_296

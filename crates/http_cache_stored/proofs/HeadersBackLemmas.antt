@@ -1,5 +1,8 @@
 -- Headers that are written read back, where their library takes them.
-use Rattle.std.proofs.Common.{◌≡◌, ◌≢◌, ℕ, ◌<◌, Bool, true, false, true≢false, List, [], ◌∷◌, ◌++◌, map, filter, length, Some, None, Ordering, Less, Equal, Greater, bytes_eq, is_eq, inl, inr, refl, sym, ap, ◌∙◌, subst, append-nil, arith}
+use Rattle.std.proofs.Common.{◌≡◌, ◌≢◌, ℕ, ◌<◌, Bool, true, false, true≢false}
+use Rattle.std.proofs.Common.{List, [], ◌∷◌, ◌++◌, map, filter, length, Some, None}
+use Rattle.std.proofs.Common.{Ordering, Less, Equal, Greater, bytes_eq, is_eq, inl}
+use Rattle.std.proofs.Common.{inr, refl, sym, ap, ◌∙◌, subst, append-nil, arith}
 use Rattle.std.specs.Prelude.{T}
 use Rattle.std.specs.List.{AllZip, AllByRecursion}
 use Rattle.std.specs.FinMap as fin
@@ -14,7 +17,8 @@ use Rattle.http_header.specs.HeaderMap.{Entry, Entries, entry_pairs, pairs}
 use Rattle.http_cache_fields.specs.Headers.{Headers}
 use Rattle.http_cache_fields.proofs.HeadersLemmas.{by_name, ties}
 use Rattle.http_cache_stored.specs.Pairs.{Pair, values_under, some_values}
-use Rattle.http_cache_stored.specs.HeaderObject.{members_in, members_data, headers_data, text_data, IsValueText, IsHeaderMember, IsHeaderObject}
+use Rattle.http_cache_stored.specs.HeaderObject.{members_in, members_data, headers_data, text_data}
+use Rattle.http_cache_stored.specs.HeaderObject.{IsValueText, IsHeaderMember, IsHeaderObject}
 use Rattle.http_cache_stored.specs.ReadBack.{IsReadableEntry, AreReadable}
 use Rattle.http_cache_stored.proofs.SomeLemmas.{none_some}
 use Rattle.http_cache_stored.proofs.ZipLemmas.{values_of-items_of}

@@ -1,5 +1,7 @@
 -- The headers that hold a list of pairs.
-use Rattle.std.proofs.Common.{◌≡◌, ℕ, ◌+◌, ◌^◌, ◌≤◌, cond, List, [], ◌∷◌, ◌++◌, length, Option, Some, None, MatchOption, unwrap_or, bytes_eq, append_assoc, lit<, refl, sym, ap, ◌∙◌, subst, inl, inr, arith}
+use Rattle.std.proofs.Common.{◌≡◌, ℕ, ◌+◌, ◌^◌, ◌≤◌, cond, List, [], ◌∷◌, ◌++◌, length}
+use Rattle.std.proofs.Common.{Option, Some, None, MatchOption, unwrap_or, bytes_eq}
+use Rattle.std.proofs.Common.{append_assoc, lit<, refl, sym, ap, ◌∙◌, subst, inl, inr, arith}
 use Rattle.std.proofs.lemmas.Bool.{cases_Bool}
 use Rattle.std.proofs.lemmas.List.{length-append, append-nil, length-set}
 use Rattle.std.proofs.lemmas.Slice.Eq.{bytes_eq-Decides}
@@ -9,12 +11,14 @@ use Rattle.std.specs.Ordering.{eq_by_cmp}
 use Rattle.std.specs.FinMap as fin
 use Rattle.http_header.specs.Token.{lowercase}
 use Rattle.http_header.specs.FieldValue.{FieldValue, plain_value}
-use Rattle.http_header.specs.HeaderMap.{Entry, Entries, append, index_of, value_count, IsUnique, RefusesAppend, ContainsKey}
+use Rattle.http_header.specs.HeaderMap.{Entry, Entries, append, index_of, value_count}
+use Rattle.http_header.specs.HeaderMap.{IsUnique, RefusesAppend, ContainsKey}
 use Rattle.http_header.specs.Places.{IsAt, IsAbsent}
 use Rattle.http_header.proofs.PlacesLemmas.{index_of_cases}
 use Rattle.http_header.proofs.BucketsLemmas.{IsUnique-with_values, IsUnique-push}
 use Rattle.http_cache_fields.specs.Headers.{Headers, headers_of, values, value_count as count_of}
-use Rattle.http_cache_fields.proofs.HeadersLemmas.{by_name, ties, headers_of-append, len-headers_of, value_count-headers_of, same_headers}
+use Rattle.http_cache_fields.proofs.HeadersLemmas.{by_name, ties, headers_of-append, len-headers_of}
+use Rattle.http_cache_fields.proofs.HeadersLemmas.{value_count-headers_of, same_headers}
 use Rattle.http_cache_stored.specs.Pairs.{Pair, values_under, some_values, HoldsPairs, with_pair, with_pairs, Fits}
 
 -- a map that holds the pairs, with room or not

@@ -1,3 +1,4 @@
+-- The lemmas about the JSON form of a policy, and that what is written of one reads back.
 pub mod FormLemmas
 pub mod FormBackLemmas
 pub mod SomeLemmas

@@ -1,5 +1,6 @@
 -- Members of an object and the headers that hold them.
-use Rattle.std.proofs.Common.{◌≡◌, ℕ, ◌<◌, List, [], ◌∷◌, ◌++◌, map, length, String, Global, refl, sym, ap, ◌∙◌, subst, append_assoc, append-nil, arith}
+use Rattle.std.proofs.Common.{◌≡◌, ℕ, ◌<◌, List, [], ◌∷◌, ◌++◌, map, length, String, Global}
+use Rattle.std.proofs.Common.{refl, sym, ap, ◌∙◌, subst, append_assoc, append-nil, arith}
 use Rattle.std.specs.List.{AllZip}
 use Rattle.http_header.specs.FieldValue.{FieldValue}
 use Rattle.http_header.specs.HeaderMap.{Entries, Entry, entry_pairs, pairs}
@@ -8,11 +9,13 @@ use Rattle.serde_json.specs.Find.{as_object}
 use Rattle.serde_json.specs.View.{members_view}
 use Rattle.serde_json.specs.declared.value.Value.{Value}
 use Rattle.http_cache_fields.specs.Headers.{Headers, headers_of}
-use Rattle.http_cache_stored.specs.HeaderObject.{Member, member_of, members_in, IsValueText, IsHeaderMember, IsHeaderObject}
+use Rattle.http_cache_stored.specs.HeaderObject.{Member, member_of, members_in, IsValueText}
+use Rattle.http_cache_stored.specs.HeaderObject.{IsHeaderMember, IsHeaderObject}
 use Rattle.http_cache_stored.specs.Pairs.{Pair, HoldsPairs, with_pairs, Fits}
 use Rattle.http_cache_stored.proofs.SomeLemmas.{some_same}
 use Rattle.http_cache_stored.proofs.ZipLemmas.{zip_cut, zip_same, IsListOf-unique}
-use Rattle.http_cache_stored.proofs.HeldLemmas.{Gathers, gathers_none, gathers_all, holds_gathered, fits_held, HoldsPairs-unique}
+use Rattle.http_cache_stored.proofs.HeldLemmas.{Gathers, gathers_none, gathers_all}
+use Rattle.http_cache_stored.proofs.HeldLemmas.{holds_gathered, fits_held, HoldsPairs-unique}
 use Rattle.http_cache_stored.proofs.AppendLemmas.{with_pairs-after, fits_before, IsValueText-unique}
 
 pub members_in-view : (es : List (String Global × Value)) → members_in (members_view es) ≡ map member_of es

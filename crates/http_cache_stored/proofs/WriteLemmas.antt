@@ -1,5 +1,7 @@
 -- Headers that are put into an object name by name.
-use Rattle.std.proofs.Common.{◌≡◌, ◌≢◌, ℕ, Bool, true, false, cond, List, [], ◌∷◌, map, length, Option, Some, None, Ordering, Less, Equal, Greater, unwrap_or, bytes_eq, inl, inr, true≢false, refl, sym, ap, ◌∙◌, subst, arith}
+use Rattle.std.proofs.Common.{◌≡◌, ◌≢◌, ℕ, Bool, true, false, cond, List, [], ◌∷◌, map, length}
+use Rattle.std.proofs.Common.{Option, Some, None, Ordering, Less, Equal, Greater, unwrap_or}
+use Rattle.std.proofs.Common.{bytes_eq, inl, inr, true≢false, refl, sym, ap, ◌∙◌, subst, arith}
 use Rattle.std.specs.List.{list_any, AllByRecursion}
 use Rattle.std.specs.FinMap as fin
 use Rattle.std.specs.FinMap.Entries.{put as put_entry, by_order}
@@ -11,7 +13,9 @@ use Rattle.http_header.specs.FieldValue.{FieldValue}
 use Rattle.http_header.specs.HeaderMap.{Entries, keys, get_all, IsHeaderMap}
 use Rattle.serde_json.specs.Data.{no_members, put}
 use Rattle.http_cache_fields.specs.Headers.{Headers, headers_of, bytes_of, entry_of}
-use Rattle.http_cache_fields.proofs.HeadersLemmas.{by_name, ties, same_headers, get-headers_of, non_empty, len-headers_of, value_count-headers_of}
+use Rattle.http_cache_fields.proofs.HeadersLemmas.{by_name, ties, same_headers}
+use Rattle.http_cache_fields.proofs.HeadersLemmas.{get-headers_of, non_empty}
+use Rattle.http_cache_fields.proofs.HeadersLemmas.{len-headers_of, value_count-headers_of}
 use Rattle.http_cache_stored.specs.HeaderObject.{texts_data, members_data, IsFilled}
 use Rattle.http_cache_stored.specs.ReadBack.{IsReadableEntry, AreReadable}
 
@@ -105,8 +109,8 @@ readable_put : (k : List ℕ) (vs : List (List ℕ)) (es : Entries (List ℕ)) �
 readable_put k vs [] new h = (new, tt)
 readable_put k vs (e ∷ es) new h = by (by_name k e.0) (readable_put k vs es new h.1)
   where
-    by : (o : Ordering) → AreReadableEntries (put_entry by_name k vs es) → AreReadableEntries (by_order o ((k, vs) ∷ e ∷ es) ((e.0, vs) ∷ es)
-        (e ∷ put_entry by_name k vs es))
+    by : (o : Ordering) → AreReadableEntries (put_entry by_name k vs es)
+        → AreReadableEntries (by_order o ((k, vs) ∷ e ∷ es) ((e.0, vs) ∷ es) (e ∷ put_entry by_name k vs es))
     by Less rest = (new, h)
     by Equal rest = (record { name = h.0.name; values = new.values }, h.1)
     by Greater rest = (h.0, rest)

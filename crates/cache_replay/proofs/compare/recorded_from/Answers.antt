@@ -1,8 +1,12 @@
+-- A recorded answer is an object of two members with a list of texts, and nothing else is.
 use Rattle.std.proofs.Common.{rules, true, false, refl, sym}
 use Rattle.serde_json.specs.View.{view}
 use Rattle.cache_replay.proofs.CompareLemmas.{recorded_by}
 use Rattle.cache_replay.proofs.compare.recorded_from.Goals as goal
-use Rattle.cache_replay.proofs.compare.recorded_from.Goals.{else-has_two_members-via-then-has_two_members+else-are_texts, else-has_two_members-via-else-has_two_members}
+use Rattle.cache_replay.proofs.compare.recorded_from.Goals.{
+  else-has_two_members-via-then-has_two_members+else-are_texts,
+  else-has_two_members-via-else-has_two_members,
+}
 
 pub returns-then-are_texts : goal.returns-then-are_texts
 returns-then-are_texts c =

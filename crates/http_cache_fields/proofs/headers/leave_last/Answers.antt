@@ -1,3 +1,4 @@
+-- A name is left its last value; with as many values as names, each has its last alone already.
 use Rattle.std.proofs.Common.{sym, ap, ◌∙◌}
 use Rattle.http_cache_fields.specs.Headers.{headers_of, set}
 use Rattle.http_cache_fields.proofs.LastLemmas.{leave_last-none, leave_last-some, leave_last-single, holds-from_last}

@@ -1,3 +1,4 @@
+-- A name that is there is never refused a value in place of its own.
 use Rattle.std.proofs.Common.{ap, ◌∙◌}
 use Rattle.http_cache_fields.specs.Headers.{headers_of}
 use Rattle.http_cache_fields.proofs.HeadersLemmas.{headers_of-insert, ContainsKey-from_holds}

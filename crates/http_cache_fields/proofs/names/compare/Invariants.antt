@@ -1,3 +1,4 @@
+-- What is left of two names has the order of the whole names, and grows shorter.
 use Rattle.std.proofs.Common.{◌≡◌, length}
 use Rattle.std.specs.Ordering.{nat_cmp}
 use Rattle.std.specs.Cmp.Lexicographic.{slice_cmp}

@@ -1,4 +1,6 @@
-use Rattle.std.proofs.Common.{◌≡◌, ◌<◌, ◌+◌, ◌++◌, [], ◌∷◌, length, take, bit_and, slice_index_or, rules, sym, subst, ap, ◌∙◌}
+-- The bit that capital letters lack stays, with one byte more, only if lower case changes none.
+use Rattle.std.proofs.Common.{◌≡◌, ◌<◌, ◌+◌, ◌++◌, [], ◌∷◌, length, take}
+use Rattle.std.proofs.Common.{bit_and, slice_index_or, rules, sym, subst, ap, ◌∙◌}
 use Rattle.std.proofs.lemmas.List.{take_more}
 use Rattle.http_cache_fields.proofs.CommonBitLemmas.{HasCommonBit, HasCommonBit-push}
 use Rattle.http_cache_fields.proofs.names.is_lower.Goals as goal

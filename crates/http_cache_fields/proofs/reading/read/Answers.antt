@@ -1,3 +1,4 @@
+-- A piece without a name is passed over, a known name is compared, and a new one goes last.
 use Rattle.std.proofs.Common.{ℕ, List, map, length, true, not, rules, sym, subst, ap, ◌∙◌}
 use Rattle.std.specs.Option.{option_map}
 use Rattle.std.specs.Borrow.{Bor}
@@ -9,7 +10,10 @@ use Rattle.http_cache_fields.specs.Pieces.{pieces_of_values}
 use Rattle.http_cache_fields.specs.Directives.{directives}
 use Rattle.http_cache_fields.specs.Readable.{IsDirective}
 use Rattle.http_cache_fields.proofs.ValidLemmas.{IsPiece, each-pieces_of_values, directive_of-is}
-use Rattle.http_cache_fields.proofs.ReadLemmas.{HasRead, same_value-copied, HasRead-differs, HasRead-agrees, HasRead-adds, HasRead-all, named-push_yes, named-push_no, has_name-yes, has_name-no, unquoted_from_map}
+use Rattle.http_cache_fields.proofs.ReadLemmas.{HasRead, same_value-copied, HasRead-differs}
+use Rattle.http_cache_fields.proofs.ReadLemmas.{HasRead-agrees, HasRead-adds, HasRead-all}
+use Rattle.http_cache_fields.proofs.ReadLemmas.{named-push_yes, named-push_no, has_name-yes}
+use Rattle.http_cache_fields.proofs.ReadLemmas.{has_name-no, unquoted_from_map}
 use Rattle.http_cache_fields.proofs.reading.read.Goals as goal
 
 pub loop-piece-preserved-then-is_empty : goal.loop-piece-preserved-then-is_empty

@@ -1,3 +1,4 @@
+-- While pieces are read, what is read is what the named pieces so far say.
 use Rattle.http_cache_fields.proofs.ReadLemmas.{HasRead, named}
 use Rattle.http_cache_fields.proofs.reading.read.Given as goal
 

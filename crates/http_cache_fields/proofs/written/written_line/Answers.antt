@@ -1,3 +1,4 @@
+-- The line of the directives is text, and it reads back as the same directives.
 use Rattle.std.proofs.Common.{◌≡◌, ◌++◌, ◌<◌, [], ◌∷◌, length, arith, sym, ap, ◌∙◌, take, string_bytes}
 use Rattle.std.specs.Option.{option_map, option_copied}
 use Rattle.std.proofs.lemmas.List.{append-nil}

@@ -1,3 +1,4 @@
+-- What a request asks piece by piece is what its Cache-Control directives ask.
 use Rattle.std.proofs.Common.{ℕ, List, codes, ap, ◌∙◌}
 use Rattle.std.specs.Borrow.{Bor}
 use Rattle.std.proofs.lemmas.Iterator.Consumers.{YieldsList-end, YieldsList-from_first}

@@ -1,3 +1,4 @@
+-- While pieces are read, what is asked is what the pieces so far ask.
 use Rattle.std.proofs.Common.{◌≡◌, map}
 use Rattle.http_cache_rules.specs.Asks.{asked_by_pieces}
 use Rattle.http_cache_rules.proofs.asks.asked_by.Given as goal

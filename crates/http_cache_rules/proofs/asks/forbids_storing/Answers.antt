@@ -1,3 +1,4 @@
+-- A piece is named no-store, in any case, exactly where that is among the directives.
 use Rattle.std.proofs.Common.{codes, rules, tests, refl, ◌∙◌, bytes_eq}
 use Rattle.std.proofs.lemmas.Iterator.Consumers.{YieldsList-from_first}
 use Rattle.std.proofs.lemmas.Iterator.Search.{any_from_yields_List}

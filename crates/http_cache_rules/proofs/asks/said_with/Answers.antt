@@ -1,3 +1,4 @@
+-- What is said under a name stays, and else the first piece of that name says it.
 use Rattle.std.proofs.Common.{rules, Some, sym, ap, ◌∙◌, bytes_eq}
 use Rattle.std.specs.Option.{option_map}
 use Rattle.http_header.specs.Token.{lowercase}
@@ -6,7 +7,8 @@ use Rattle.http_cache_fields.proofs.ReadLemmas.{unquoted_from_map}
 use Rattle.http_cache_rules.specs.DeltaSeconds.{said_by_value, is_said}
 use Rattle.http_cache_rules.proofs.AskLemmas.{said-kept, said-other, said-first}
 use Rattle.http_cache_rules.proofs.asks.said_with.Goals as goal
-use Rattle.http_cache_rules.proofs.asks.said_with.Goals.{then-is_said-via-then-is_said, then-is_said-via-else-is_said+then-not-is_same_name}
+use Rattle.http_cache_rules.proofs.asks.said_with.Goals.{then-is_said-via-then-is_said}
+use Rattle.http_cache_rules.proofs.asks.said_with.Goals.{then-is_said-via-else-is_said+then-not-is_same_name}
 
 pub returns-then-is_said : goal.returns-then-is_said
 returns-then-is_said c = λ ps p said name value.
@@ -23,6 +25,7 @@ pub returns : goal.returns
 returns c = λ ps p said name value.
     let wanted = lowercase c.args.wanted.now in
     c.of_value.ensures
-    ∙ ap (λ v. said_by_value (Some v)) (unquoted_from_map _ (λ x y h. search rules) _ _ c.map.ensures.cases ∙ ap (option_map unquote) value)
+    ∙ ap (λ v. said_by_value (Some v))
+    (unquoted_from_map _ (λ x y h. search rules) _ _ c.map.ensures.cases ∙ ap (option_map unquote) value)
     ∙ said-first wanted ps p (ap is_said (sym said) ∙ sym c.is_said.ensures ∙ c.if-is_said.false)
     (ap (bytes_eq wanted) (sym name) ∙ sym c.is_same_name.ensures ∙ c.if-not-is_same_name.false)

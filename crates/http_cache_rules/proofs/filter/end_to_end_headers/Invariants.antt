@@ -1,3 +1,4 @@
+-- While names are swept, each is done already, or is still to come and untouched.
 use Rattle.std.proofs.Common.{List, ℕ}
 use Rattle.http_cache_fields.specs.Headers.{headers_of}
 use Rattle.http_cache_rules.specs.Filter.{swept_values}

@@ -1,3 +1,4 @@
+-- A tag is opaque once no mark of weakness is in front, and losing a mark changes nothing.
 use Rattle.std.proofs.Common.{ap, ◌∙◌}
 use Rattle.http_cache_rules.specs.Selection.{opaque_tag}
 use Rattle.http_cache_rules.proofs.TagLemmas.{opaque_tag-next, opaque_tag-end}

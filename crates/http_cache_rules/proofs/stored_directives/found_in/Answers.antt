@@ -1,3 +1,4 @@
+-- Each directive is found as it is read, with what a conflict and a Pragma add.
 use Rattle.std.proofs.Common.{◌≡◌, Bool, ◌||◌, codes, refl, sym, ap, ◌∙◌, is_some}
 use Rattle.http_cache_fields.specs.Directives.{has}
 use Rattle.http_cache_rules.specs.DeltaSeconds.{said_by_value}

@@ -1,3 +1,4 @@
+-- A member is read as a name with its values, and is refused only where none would do.
 use Rattle.std.proofs.Common.{◌≡◌, ◌<◌, List, ℕ, map, length, refl, sym, ap, ◌∙◌, subst, arith}
 use Rattle.std.specs.List.{AllZip}
 use Rattle.std.proofs.lemmas.Grind.{common_steps}

@@ -1,4 +1,6 @@
-use Rattle.std.proofs.Common.{rules, ◌≡◌, List, [], ◌∷◌, ◌++◌, map, take, length, ◌<◌, sym, ap, ◌∙◌, subst, Err, Some, None, arith}
+-- Texts are read as values of one name, and one is refused only where not all of them would do.
+use Rattle.std.proofs.Common.{rules, ◌≡◌, List, [], ◌∷◌, ◌++◌, map, take, length}
+use Rattle.std.proofs.Common.{◌<◌, sym, ap, ◌∙◌, subst, Err, Some, None, arith}
 use Rattle.std.specs.List.{AllZip}
 use Rattle.http_header.specs.HeaderMap.{append, RefusesAppend, Entries}
 use Rattle.http_header.specs.FieldValue.{FieldValue, plain_value}

@@ -1,3 +1,4 @@
+-- While texts are read, the headers have the values of the texts so far, and they fit.
 use Rattle.std.proofs.Common.{◌≡◌, ℕ, List, map, take}
 use Rattle.std.specs.List.{AllZip}
 use Rattle.http_header.specs.HeaderMap.{entry_pairs}

@@ -1,4 +1,6 @@
-use Rattle.std.proofs.Common.{◌≡◌, rules, ℕ, String, Global, List, [], ◌∷◌, ◌++◌, map, refl, sym, ap, ◌∙◌, subst, append_assoc, append-nil}
+-- Members are read in turn, and one is refused only where no headers hold what they all say.
+use Rattle.std.proofs.Common.{◌≡◌, rules, ℕ, String, Global, List, [], ◌∷◌, ◌++◌, map}
+use Rattle.std.proofs.Common.{refl, sym, ap, ◌∙◌, subst, append_assoc, append-nil}
 use Rattle.std.specs.List.{AllZip}
 use Rattle.http_header.specs.FieldValue.{FieldValue}
 use Rattle.http_header.specs.HeaderMap.{Entries, entry_pairs}

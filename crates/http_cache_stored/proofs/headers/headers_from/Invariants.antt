@@ -1,3 +1,4 @@
+-- While members are read, the headers are made of those so far, and they fit.
 use Rattle.std.proofs.Common.{◌≡◌, ℕ, List, [], ◌++◌, map}
 use Rattle.std.specs.List.{AllZip}
 use Rattle.http_header.specs.HeaderMap.{Entries, pairs}

@@ -1,3 +1,4 @@
+-- What is read of the members of an object holds of the object, and so does their refusal.
 use Rattle.std.proofs.Common.{List, subst, sym}
 use Rattle.std.specs.List.{AllZip}
 use Rattle.std.proofs.lemmas.Result.{IfOk-weaker}

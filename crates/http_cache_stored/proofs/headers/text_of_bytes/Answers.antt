@@ -1,3 +1,4 @@
+-- The bytes that are written in hexadecimal are each below 256.
 use Rattle.std.proofs.Common.{arith}
 use Rattle.http_cache_stored.proofs.headers.text_of_bytes.Goals as goal
 

@@ -1,3 +1,4 @@
+-- While values are written, the texts so far and those of the values left are the whole list.
 use Rattle.std.proofs.Common.{◌≡◌, ◌++◌, map}
 use Rattle.std.specs.List.{AllByRecursion}
 use Rattle.serde_json.specs.View.{view}

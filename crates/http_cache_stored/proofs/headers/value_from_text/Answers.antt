@@ -1,3 +1,4 @@
+-- A text in hexadecimal is read as the value of the bytes that it writes.
 use Rattle.http_cache_stored.proofs.TextLemmas.{value_passes, text_value}
 use Rattle.http_cache_stored.proofs.headers.value_from_text.Goals as goal
 

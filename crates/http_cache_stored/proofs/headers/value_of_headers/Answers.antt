@@ -1,3 +1,4 @@
+-- The object has what each name holds, and its names and values are such as can be read back.
 use Rattle.std.proofs.Common.{◌≡◌, rules, List, ℕ, string_bytes, sym, ap, ◌∙◌, subst}
 use Rattle.std.specs.List.{AllByRecursion}
 use Rattle.std.specs.FinMap as fin
@@ -7,7 +8,8 @@ use Rattle.serde_json.proofs.Views.{members_view-insert_entry}
 use Rattle.http_header.specs.HeaderMap.{keys, get_all}
 use Rattle.http_cache_fields.specs.Headers.{Headers, headers_of, bytes_of}
 use Rattle.http_cache_stored.specs.ReadBack.{IsReadableEntry}
-use Rattle.http_cache_stored.proofs.WriteLemmas.{with_names, all_names, none_yet, members-insert, readable_none, readable_insert, readable}
+use Rattle.http_cache_stored.proofs.WriteLemmas.{with_names, all_names, none_yet, members-insert}
+use Rattle.http_cache_stored.proofs.WriteLemmas.{readable_none, readable_insert, readable}
 use Rattle.http_cache_stored.proofs.headers.value_of_headers.Goals as goal
 
 pub loop-name-init : goal.loop-name-init

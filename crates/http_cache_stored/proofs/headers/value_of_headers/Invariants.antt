@@ -1,3 +1,4 @@
+-- While names are written, the object is that of the names so far, and the others are left.
 use Rattle.std.proofs.Common.{◌≡◌}
 use Rattle.std.specs.List.{AllByRecursion}
 use Rattle.std.specs.FinMap as fin

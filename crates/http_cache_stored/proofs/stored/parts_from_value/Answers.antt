@@ -1,3 +1,4 @@
+-- A stored form whose headers are refused is that of no exchange.
 use Rattle.std.proofs.Common.{rules}
 use Rattle.serde_json.specs.View.{view}
 use Rattle.http_cache_stored.specs.Stored.{stored_form, IsStoredOf}

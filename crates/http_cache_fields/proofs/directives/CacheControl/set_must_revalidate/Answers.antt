@@ -1,4 +1,6 @@
-use Rattle.std.proofs.Common.{◌≡◌, [], ◌∷◌, ◌++◌, Some, None, rules, tests, sym, subst, ap, ◌∙◌, slice_index_or, slice_set}
+-- must-revalidate is set without a value in its place, or last where no directive has its name.
+use Rattle.std.proofs.Common.{◌≡◌, [], ◌∷◌, ◌++◌, Some, None, rules, tests}
+use Rattle.std.proofs.Common.{sym, subst, ap, ◌∙◌, slice_index_or, slice_set}
 use Rattle.std.specs.List.{position_or_len}
 use Rattle.std.proofs.lemmas.Bool.{ltb-true}
 use Rattle.std.proofs.lemmas.List.{map-append}

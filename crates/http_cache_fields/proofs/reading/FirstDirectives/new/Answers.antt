@@ -1,3 +1,4 @@
+-- With no directives read yet, names are distinct and the map has none to find.
 use Rattle.std.proofs.Common.{List, [], map, rules, sym, subst, ap}
 use Rattle.http_cache_fields.specs.Directives.{Directive}
 use Rattle.http_cache_fields.specs.Shown.{sent_entry}

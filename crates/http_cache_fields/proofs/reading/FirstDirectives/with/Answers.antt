@@ -1,3 +1,4 @@
+-- A directive of a new name goes last, and stands in the map too where 16 are before it.
 use Rattle.std.proofs.Common.{◌≡◌, ◌≤◌, ◌<◌, List, [], ◌∷◌, ◌++◌, map, length, None, arith, sym, subst, ap, ◌∙◌}
 use Rattle.std.specs.Option.{option_copied}
 use Rattle.std.proofs.lemmas.List.{map-append, length-map}
@@ -10,7 +11,8 @@ use Rattle.http_cache_fields.proofs.ReadLemmas.{set_directive-new}
 use Rattle.http_cache_fields.proofs.AreDirectivesLemmas.{AreDirectives-set}
 use Rattle.http_cache_fields.proofs.ReadingLemmas.{HasLater-few, HasLater-more}
 use Rattle.http_cache_fields.proofs.reading.FirstDirectives.with.Goals as goal
-use Rattle.http_cache_fields.proofs.reading.FirstDirectives.with.Goals.{then-len-ge-LOOKED_THROUGH+in_ok-insert, else-len-ge-LOOKED_THROUGH}
+use Rattle.http_cache_fields.proofs.reading.FirstDirectives.with.Goals.{then-len-ge-LOOKED_THROUGH+in_ok-insert}
+use Rattle.http_cache_fields.proofs.reading.FirstDirectives.with.Goals.{else-len-ge-LOOKED_THROUGH}
 
 pub invariant_of-result : goal.invariant_of-result
 invariant_of-result c =
@@ -27,8 +29,8 @@ invariant_of-result c =
           let many : 16 ≤ length ds =
           omega (arith, w.if-len-ge-LOOKED_THROUGH.true, c.len.ensures, size) in
           rw w.later-is
-          (HasLater-more ds (record { 0 = c.args.name }) c.args.value later w.insert.new.self many new w.in_ok-insert.ensures.updates
-          c.self.invariant.found_later)
+          (HasLater-more ds (record { 0 = c.args.name }) c.args.value later w.insert.new.self many new
+          w.in_ok-insert.ensures.updates c.self.invariant.found_later)
       | else-len-ge-LOOKED_THROUGH w ↦
           let few : length ds < 16 =
           omega (arith, w.if-len-ge-LOOKED_THROUGH.false, c.len.ensures, size) in
@@ -37,6 +39,7 @@ invariant_of-result c =
     let valid : AreDirectives (ds ++ d ∷ []) =
     subst AreDirectives (set_directive-new ds d new) (AreDirectives-set ds d c.self.invariant.valid c.requires.form) in
     let put : ds ++ d ∷ [] ≡ map sent_entry c.push.new.self.items =
-    sym (ap (map sent_entry) c.in_ok-push.ensures.items ∙ map-append sent_entry es ((c.args.name, c.args.value) ∷ [])) in
+    sym (ap (map sent_entry) c.in_ok-push.ensures.items
+    ∙ map-append sent_entry es ((c.args.name, c.args.value) ∷ [])) in
     subst (λ (es : List Directive). IsFirst es c.if-len-ge-LOOKED_THROUGH.later) put
     (record { valid = valid; found_later = kept })
