@@ -1,7 +1,11 @@
 -- What is asked of an age is one bound, and what follows of the verdict.
-use Rattle.std.proofs.Common.{◌≡◌, ℕ, ℤ, ◌+◌, ◌*◌, ◌-◌, ◌≤◌, ◌<◌, ◌≤ℤ◌, Bool, true, false, not, ◌&&◌, ◌||◌, true≢false, nat_lt, nat_le, codes, List, Option, Some, None, option_map, option_and_then, unwrap_or, if◌then◌else◌, zero, suc, refl, sym, ap, ◌∙◌, arith}
+use Rattle.std.proofs.Common.{◌≡◌, ℕ, ℤ, ◌+◌, ◌*◌, ◌-◌, ◌≤◌, ◌<◌, ◌≤ℤ◌, Bool, true, false}
+use Rattle.std.proofs.Common.{not, ◌&&◌, ◌||◌, true≢false, nat_lt, nat_le, codes, List}
+use Rattle.std.proofs.Common.{Option, Some, None, option_map, option_and_then, unwrap_or}
+use Rattle.std.proofs.Common.{if◌then◌else◌, zero, suc, refl, sym, ap, ◌∙◌, arith}
 use Rattle.std.proofs.Math.Bool.{and_assoc, and_comm}
-use Rattle.std.proofs.lemmas.Bool.{lt-ltb, ltb-true, and_parts, and_from, or_parts, not-false, not-true, cond-true, false_from_ne_true}
+use Rattle.std.proofs.lemmas.Bool.{lt-ltb, ltb-true, and_parts, and_from, or_parts}
+use Rattle.std.proofs.lemmas.Bool.{not-false, not-true, cond-true, false_from_ne_true}
 use Rattle.std.proofs.lemmas.Bool.Decides.{nat_tests}
 use Rattle.http_cache_fields.specs.Directives.{Directive, has}
 use Rattle.http_cache_rules.specs.Asks.{Asks, asks_of, asked_directives, has_no_cache, number_under, takes_stale}
@@ -12,7 +16,9 @@ use Rattle.http_cache_rules.specs.Lifetimes.{lifetime}
 use Rattle.http_cache_policy.specs.Age.{age_at}
 use Rattle.http_cache_policy.specs.Match.{request_matches}
 use Rattle.http_cache_policy.specs.Verdict.{lets_stale_out, is_let_through, meets, is_fresh_for}
-use Rattle.http_cache_policy.specs.Bound.{lesser, is_below, bound_by_lifetime, bound_by_max_age, bound_to_leave, bound_by_min_fresh, bound, is_fresh_by_bound}
+use Rattle.http_cache_policy.specs.Bound.{lesser, is_below, bound_by_lifetime}
+use Rattle.http_cache_policy.specs.Bound.{bound_by_max_age, bound_to_leave}
+use Rattle.http_cache_policy.specs.Bound.{bound_by_min_fresh, bound, is_fresh_by_bound}
 use Rattle.http_cache_policy.proofs.AgeLemmas.{age_at-rises}
 
 -- ---- one bound each
@@ -38,7 +44,9 @@ least-below (Some (suc least)) life age = grind (arith, nat_tests)
 -- what is let through, by whether max-stale is there and a stale response may answer, and by the
 -- number
 let_through-below : (taken out : Bool) (more : Option ℕ) (life age : ℕ)
-    → (not (nat_le life age) || ((taken && unwrap_or (option_map (λ seconds. nat_lt (age - life) (seconds * 1_000_000_000)) more) true) && out))
+    → (not (nat_le life age)
+    || ((taken && unwrap_or (option_map (λ seconds. nat_lt (age - life) (seconds * 1_000_000_000)) more) true)
+    && out))
     ≡ is_below (if taken && out then option_map (λ seconds. life + seconds * 1_000_000_000) more else Some life) age
 let_through-below true true None life age = grind (arith, nat_tests)
 let_through-below true true (Some n) life age = grind (arith, nat_tests)
@@ -48,7 +56,8 @@ let_through-below false out more life age = grind (arith, nat_tests)
 
 -- ---- the least of them
 
-pub meets-below : (e : Exchange) (asks : Asks) (age : ℕ) → meets e (asked_directives asks) age ≡ is_below (bound e asks) age
+pub meets-below : (e : Exchange) (asks : Asks) (age : ℕ)
+    → meets e (asked_directives asks) age ≡ is_below (bound e asks) age
 unfolding bound
 meets-below e asks age =
     let ds = asked_directives asks in
@@ -57,12 +66,14 @@ meets-below e asks age =
     let least = bound_by_min_fresh e ds in
     (λ i. most-below (number_under ds (codes "max-age")) age i
     && least-below (number_under ds (codes "min-fresh")) (lifetime e) age i
-    && let_through-below (has ds (codes "max-stale")) (lets_stale_out e) (number_under ds (codes "max-stale")) (lifetime e) age i)
+    && let_through-below (has ds (codes "max-stale")) (lets_stale_out e)
+    (number_under ds (codes "max-stale")) (lifetime e) age i)
     ∙ and_comm (is_below most age && is_below least age) (is_below stale age)
     ∙ sym (below-lesser stale (lesser most least) age ∙ ap (λ b. is_below stale age && b) (below-lesser most least age))
 
 -- a stored response answers exactly where its age is below the bound, and all else holds
-pub is_fresh_for-by_bound : (e : Exchange) (request : RequestSeen) (now : ℤ) → is_fresh_for e request now ≡ is_fresh_by_bound e request now
+pub is_fresh_for-by_bound : (e : Exchange) (request : RequestSeen) (now : ℤ)
+    → is_fresh_for e request now ≡ is_fresh_by_bound e request now
 unfolding is_fresh_for is_fresh_by_bound
 is_fresh_for-by_bound e request now =
     let asks = asks_of request.headers in
@@ -83,7 +94,8 @@ is_fresh_for-earlier e request earlier now before met =
     let limit = bound e (asks_of request.headers) in
     let parts = and_parts _ (is_below limit (age_at e now)) (sym (is_fresh_for-by_bound e request now) ∙ met) in
     is_fresh_for-by_bound e request earlier
-    ∙ and_from _ _ parts.0 (below-younger limit (age_at e earlier) (age_at e now) (age_at-rises e earlier now before) parts.1)
+    ∙ and_from _ _ parts.0
+    (below-younger limit (age_at e earlier) (age_at e now) (age_at-rises e earlier now before) parts.1)
 
 -- what doesn't answer at a moment answers at no later one
 pub is_fresh_for-later : (e : Exchange) (request : RequestSeen) (now later : ℤ) → now ≤ℤ later
@@ -92,14 +104,18 @@ is_fresh_for-later e request now later after unmet =
     false_from_ne_true (is_fresh_for e request later)
     (λ met. absurd (true≢false (sym (is_fresh_for-earlier e request now later after met) ∙ unmet)))
 
-lifetime-none : (e : Exchange) → (not (is_storable e) || has (stored_directives e) (codes "no-cache")) ≡ true → lifetime e ≡ 0
+lifetime-none : (e : Exchange)
+    → (not (is_storable e) || has (stored_directives e) (codes "no-cache")) ≡ true → lifetime e ≡ 0
 unfolding lifetime
 lifetime-none e h = cond-true _ 0 _ h
 
 -- what may not be stored, and what is never used without validation, has no lifetime
-alive-storable : (e : Exchange) → 0 < lifetime e → (is_storable e ≡ true) × (has (stored_directives e) (codes "no-cache") ≡ false)
+alive-storable : (e : Exchange) → 0 < lifetime e
+    → (is_storable e ≡ true) × (has (stored_directives e) (codes "no-cache") ≡ false)
 alive-storable e alive =
-    let parts = or_parts (not (is_storable e)) (has (stored_directives e) (codes "no-cache")) (false_from_ne_true _ (λ h. omega (arith, alive, lifetime-none e h))) in
+    let parts =
+    or_parts (not (is_storable e)) (has (stored_directives e) (codes "no-cache"))
+    (false_from_ne_true _ (λ h. omega (arith, alive, lifetime-none e h))) in
     (not-false (is_storable e) parts.0, parts.1)
 
 -- so what is let through may be stored, and isn't stored with no-cache

@@ -1,5 +1,7 @@
 -- What fresh headers hold.
-use Rattle.std.proofs.Common.{◌≡◌, ◌≢◌, ℕ, ℤ, Bool, true, false, List, ◌∷◌, ◌++◌, [], length, bytes_eq, codes, if◌then◌else◌, refl, sym, ap, ◌∙◌, inl, inr, true≢false}
+use Rattle.std.proofs.Common.{◌≡◌, ◌≢◌, ℕ, ℤ, Bool, true, false, List, ◌∷◌}
+use Rattle.std.proofs.Common.{◌++◌, [], length, bytes_eq, codes, if◌then◌else◌}
+use Rattle.std.proofs.Common.{refl, sym, ap, ◌∙◌, inl, inr, true≢false}
 use Rattle.std.specs.Cmp.Lexicographic.{nat_list_cmp_total}
 use Rattle.std.specs.FinMap as fin
 use Rattle.std.proofs.lemmas.Bool.{cases_Bool}
@@ -10,7 +12,8 @@ use Rattle.http_cache_rules.specs.Filter.{is_hop_by_hop, filtered_headers}
 use Rattle.http_cache_rules.proofs.DateUniqueLemmas.{IsDateText-unique}
 use Rattle.http_cache_rules.proofs.FilterLemmas.{filtered_headers-none}
 use Rattle.http_cache_policy.specs.Exchange.{Exchange}
-use Rattle.http_cache_policy.specs.Fresh.{is_guessed_past_a_day, heuristic_warning, warned_headers, age_text, aged_headers, IsFreshHeaders, HasOneAgeAndDate}
+use Rattle.http_cache_policy.specs.Fresh.{is_guessed_past_a_day, heuristic_warning, warned_headers}
+use Rattle.http_cache_policy.specs.Fresh.{age_text, aged_headers, IsFreshHeaders, HasOneAgeAndDate}
 
 apart : (name other : List ℕ) → is_hop_by_hop other ≡ true → is_hop_by_hop name ≡ false → bytes_eq name other ≡ false
 apart name other hop lasts =
@@ -29,7 +32,8 @@ no_hop : (e : Exchange) (now : ℤ) (date name : List ℕ) → is_hop_by_hop nam
 unfolding is_hop_by_hop
 no_hop e now date name hop other =
     get-insert_other (aged_headers e now) (codes "date") (date ∷ []) name dated
-    ∙ get-insert_other (warned_headers e now) (codes "age") (age_text e now ∷ []) name (apart (codes "age") name hop refl)
+    ∙ get-insert_other (warned_headers e now) (codes "age") (age_text e now ∷ []) name
+    (apart (codes "age") name hop refl)
     ∙ by (is_guessed_past_a_day e now)
     ∙ filtered_headers-none e.response_headers name hop
   where
@@ -40,8 +44,15 @@ no_hop e now date name hop other =
           | inr f ↦ f
         ]
 
-    by : (b : Bool) → fin.get (if b then fin.insert (filtered_headers e.response_headers) (codes "warning") (values (filtered_headers e.response_headers) (codes "warning") ++ heuristic_warning ∷ []) else filtered_headers e.response_headers) name ≡ fin.get (filtered_headers e.response_headers) name
-    by true = get-insert_other (filtered_headers e.response_headers) (codes "warning") _ name (apart (codes "warning") name hop refl)
+    stored : Headers
+    stored = filtered_headers e.response_headers
+
+    by : (b : Bool)
+        → fin.get
+        (if b then fin.insert stored (codes "warning") (values stored (codes "warning") ++ heuristic_warning ∷ [])
+        else stored) name
+        ≡ fin.get stored name
+    by true = get-insert_other stored (codes "warning") _ name (apart (codes "warning") name hop refl)
     by false = refl
 
 -- what the headers of a fresh answer are like
@@ -54,7 +65,8 @@ one_age_and_date {e} {now} {h} is = record {
   printable = is.printable;
   date = λ text is_text. dated ∙ ap (λ (t : List ℕ). t ∷ []) (IsDateText-unique now is.date text is.is_date is_text);
   one_date = ap length dated;
-  no_hop_by_hop = λ name hop other. ap (λ (g : Headers). fin.get g name) is.headers ∙ no_hop e now is.date name hop other;
+  no_hop_by_hop = λ name hop other.
+      ap (λ (g : Headers). fin.get g name) is.headers ∙ no_hop e now is.date name hop other;
 }
   where
     dated : values h (codes "date") ≡ is.date ∷ []

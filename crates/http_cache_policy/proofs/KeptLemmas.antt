@@ -17,9 +17,11 @@ kept-settled e =
     (kept_response-settled e.options.ignores_cargo_cult e.response_headers)
 
 -- without cargo cult, a policy has the directives that were read, but for its five
-pub kept-directives : (e : Exchange) → e.options.ignores_cargo_cult ≡ true → has_cargo_cult (cache_control e.response_headers) ≡ true
+pub kept-directives : (e : Exchange)
+    → e.options.ignores_cargo_cult ≡ true → has_cargo_cult (cache_control e.response_headers) ≡ true
     → stored_directives (kept_exchange e) ≡ without_cargo_cult (cache_control e.response_headers)
 unfolding kept_exchange
 kept-directives e ignores marks =
-    ap (λ b. with_pragma (kept_response b e.response_headers) (cache_control (kept_response b e.response_headers))) ignores
+    ap (λ b. with_pragma (kept_response b e.response_headers)
+    (cache_control (kept_response b e.response_headers))) ignores
     ∙ kept_response-directives e.response_headers marks

@@ -1,3 +1,4 @@
+-- The lemmas of this crate.
 pub mod AgeLemmas
 pub mod BoundLemmas
 pub mod FreshLemmas

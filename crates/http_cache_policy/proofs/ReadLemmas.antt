@@ -6,7 +6,8 @@ use Rattle.http_cache_policy.specs.Kept.{kept_exchange}
 use Rattle.http_cache_policy.specs.Stored.{ReadsBack, with_target}
 
 -- what is kept of an exchange for another target
-kept-with_target : (e : Exchange) (target : Uri) → kept_exchange (with_target e target) ≡ with_target (kept_exchange e) target
+kept-with_target : (e : Exchange) (target : Uri)
+    → kept_exchange (with_target e target) ≡ with_target (kept_exchange e) target
 unfolding kept_exchange
 kept-with_target e target = refl
 

@@ -1,5 +1,6 @@
 -- What stays along a run whose responses renew the stored one.
-use Rattle.std.proofs.Common.{◌≡◌, ◌||◌, Bool, true, false, true≢false, List, [], ◌∷◌, ◌++◌, map, length, refl, sym, ap, ◌∙◌, subst}
+use Rattle.std.proofs.Common.{◌≡◌, ◌||◌, Bool, true, false, true≢false, List, []}
+use Rattle.std.proofs.Common.{◌∷◌, ◌++◌, map, length, refl, sym, ap, ◌∙◌, subst}
 use Rattle.std.specs.Prelude.{⊤}
 use Rattle.std.specs.List.{AllByRecursion, list_any}
 use Rattle.std.proofs.lemmas.List.{map-append}
@@ -43,7 +44,8 @@ step-status e (receives r s moment) (Modified parts) f h same = h.0.1.status ∙
 step-status e (receives r s moment) Restarted f h same = absurd h.0
 step-status e restarts o f h same = subst (λ (p : Outcome). HasStatus e.status (outcome_seen p)) (sym h.0) tt
 
-all-push : (P : OutcomeSeen → Type 0) (os : List OutcomeSeen) (o : OutcomeSeen) → AllByRecursion P os → P o → AllByRecursion P (os ++ o ∷ [])
+all-push : (P : OutcomeSeen → Type 0) (os : List OutcomeSeen) (o : OutcomeSeen)
+    → AllByRecursion P os → P o → AllByRecursion P (os ++ o ∷ [])
 all-push P [] o h p = (p, tt)
 all-push P (q ∷ os) o h p = (h.0, all-push P os o h.1 p)
 
@@ -72,10 +74,12 @@ without_replacement : (os : List Outcome) (o : Outcome) → has_replacement (os 
 without_replacement os o h =
     let split =
     both_false (has_replacement os) (is_replacement (outcome_seen o) || false)
-    (sym (ap (list_any is_replacement) (map-append outcome_seen os (o ∷ [])) ∙ list_any-append is_replacement (map outcome_seen os) (outcome_seen o ∷ [])) ∙ h) in
+    (sym (ap (list_any is_replacement) (map-append outcome_seen os (o ∷ []))
+    ∙ list_any-append is_replacement (map outcome_seen os) (outcome_seen o ∷ [])) ∙ h) in
     (split.0, last_alone (is_replacement (outcome_seen o)) split.1)
 
-pub taken-more : (e : Exchange) (steps : List StepSeen) (os : List Outcome) (g : Exchange) (s : StepSeen) (o : Outcome) (f : Exchange)
+pub taken-more : (e : Exchange) (steps : List StepSeen) (os : List Outcome) (g : Exchange)
+    (s : StepSeen) (o : Outcome) (f : Exchange)
     → HasTaken e steps os g → IsStepOf g s o f → (is_replacement (outcome_seen o) ≡ false → IsRenewalOf g f)
     → HasTaken e (steps ++ s ∷ []) (os ++ o ∷ []) f
 taken-more e steps os g s o f so_far step renews = record {
@@ -84,9 +88,13 @@ taken-more e steps os g s o f so_far step renews = record {
       let split = without_replacement os o h in
       let before = so_far.renewed split.0 in
       let renewal = renewal-after e g f before.renewal (renews split.1) in
-      let status = subst (λ n. HasStatus n (outcome_seen o)) before.renewal.status (step-status g s o f step (renews split.1).status) in
+      let status =
+      subst (λ n. HasStatus n (outcome_seen o)) before.renewal.status
+      (step-status g s o f step (renews split.1).status) in
       record {
-        statuses = subst (AllByRecursion (HasStatus e.status)) (sym (map-append outcome_seen os (o ∷ []))) (all-push (HasStatus e.status) (map outcome_seen os) (outcome_seen o) before.statuses status);
+        statuses =
+            subst (AllByRecursion (HasStatus e.status)) (sym (map-append outcome_seen os (o ∷ [])))
+            (all-push (HasStatus e.status) (map outcome_seen os) (outcome_seen o) before.statuses status);
         run = run-push (IsRenewalOf e) e steps os g s o f before.run step renewal;
         renewal = renewal;
       };

@@ -10,7 +10,8 @@ use Rattle.http_cache_policy.specs.Kept.{kept_exchange}
 use Rattle.http_cache_policy.specs.Fresh.{IsFreshParts}
 use Rattle.http_cache_policy.specs.Stale.{IsStaleRequest}
 use Rattle.http_cache_policy.specs.Stored.{writes}
-use Rattle.http_cache_policy.specs.Steps.{StepSeen, asks, receives, restarts, uses, sends, renews, replaces, answer_seen, outcome_seen}
+use Rattle.http_cache_policy.specs.Steps.{StepSeen, asks, receives, restarts, uses, sends}
+use Rattle.http_cache_policy.specs.Steps.{renews, replaces, answer_seen, outcome_seen}
 use Rattle.http_cache_policy.specs.Run.{IsAnswer, IsStepOf, IsRun, IsRunThrough}
 use Rattle.http_cache_policy.specs.declared.before.BeforeRequest.{BeforeRequest}
 use Rattle.http_cache_policy.specs.declared.before.BeforeRequest.TheVariants.{Fresh, Stale}
@@ -26,7 +27,8 @@ response_seen-unique e moment p q h k =
     let headers = IsFreshHeaders-unique e moment (headers_of p.headers) (headers_of q.headers) h.headers k.headers in
     λ i. record { status = status i; headers = headers i }
 
-request_seen-unique : (e : Exchange) (r : RequestSeen) (p q : RequestParts) → IsStaleRequest e r p → IsStaleRequest e r q
+request_seen-unique : (e : Exchange) (r : RequestSeen) (p q : RequestParts)
+    → IsStaleRequest e r p → IsStaleRequest e r q
     → request_seen p ≡ request_seen q
 request_seen-unique e r p q h k =
     let target = h.target ∙ sym k.target in
@@ -63,10 +65,12 @@ step-unique e (receives r s moment) (NotModified q) (Modified t) f g h k = absur
 step-unique e (receives r s moment) (Modified q) (NotModified t) f g h k = absurd (true≢false (k.0.0 ∙ sym h.0.0))
 step-unique e (receives r s moment) (NotModified q) (NotModified t) f g h k =
     let same = h.1 ∙ sym k.1 in
-    (ap renews (response_seen-unique g moment q t (subst (λ (x : Exchange). IsFreshParts x moment q) same h.0.1) k.0.1), same)
+    let fresh = subst (λ (x : Exchange). IsFreshParts x moment q) same h.0.1 in
+    (ap renews (response_seen-unique g moment q t fresh k.0.1), same)
 step-unique e (receives r s moment) (Modified q) (Modified t) f g h k =
     let same = h.1 ∙ sym k.1 in
-    (ap replaces (response_seen-unique g moment q t (subst (λ (x : Exchange). IsFreshParts x moment q) same h.0.1) k.0.1), same)
+    let fresh = subst (λ (x : Exchange). IsFreshParts x moment q) same h.0.1 in
+    (ap replaces (response_seen-unique g moment q t fresh k.0.1), same)
 step-unique e restarts o p f g h k = (
   ap outcome_seen (h.0 ∙ sym k.0),
   h.1.2 ∙ ap kept_exchange (IsStored-unique (writes e) h.1.0 k.1.0 h.1.1 k.1.1) ∙ sym k.1.2,
@@ -87,7 +91,8 @@ run-unique e (s ∷ steps) (o ∷ os) (p ∷ ps) f g h k =
     )
 
 -- one more step at the end
-pub run-push : (P : Exchange → Type 0) (e : Exchange) (steps : List StepSeen) (os : List Outcome) (g : Exchange) (s : StepSeen) (o : Outcome) (f : Exchange)
+pub run-push : (P : Exchange → Type 0) (e : Exchange) (steps : List StepSeen) (os : List Outcome)
+    (g : Exchange) (s : StepSeen) (o : Outcome) (f : Exchange)
     → IsRunThrough P e steps os g → IsStepOf g s o f → P f → IsRunThrough P e (steps ++ s ∷ []) (os ++ o ∷ []) f
 run-push P e [] [] g s o f run step p = (f, subst (λ (x : Exchange). IsStepOf x s o f) run step, p, refl)
 run-push P e [] (q ∷ os) g s o f run step p = absurd run

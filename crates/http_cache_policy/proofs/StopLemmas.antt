@@ -1,5 +1,6 @@
 -- Where a step is refused, it has no outcome.
-use Rattle.std.proofs.Common.{◌≡◌, ℕ, ℤ, ◌<◌, suc, true≢false, List, map, take, drop, length, get_or, inl, inr, sym, ◌∙◌, subst}
+use Rattle.std.proofs.Common.{◌≡◌, ℕ, ℤ, ◌<◌, suc, true≢false, List, map, take}
+use Rattle.std.proofs.Common.{drop, length, get_or, inl, inr, sym, ◌∙◌, subst}
 use Rattle.http_cache_fields.specs.Headers.{Headers, headers_of}
 use Rattle.http_cache_policy.specs.Exchange.{Exchange}
 use Rattle.http_cache_policy.specs.Fresh.{IsFreshHeaders, RefusesFreshHeaders, HasNoDate}
@@ -26,15 +27,19 @@ undated-no_headers : (e : Exchange) (now : ℤ) (h : Headers) → HasNoDate e no
 unfolding HasNoDate
 undated-no_headers e now h undated is = undated.2 is.printable
 
-full-no_answer : (e : Exchange) (r : RequestSeen) (now : ℤ) (answer : BeforeRequest) → RefusesAnswer e r now → ¬ (IsAnswer e r now answer)
+full-no_answer : (e : Exchange) (r : RequestSeen) (now : ℤ) (answer : BeforeRequest)
+    → RefusesAnswer e r now → ¬ (IsAnswer e r now answer)
 unfolding RefusesAnswer
-full-no_answer e r now (Fresh parts) (inl full) is = full-no_headers e now (headers_of parts.headers) full.1 is.fresh.headers
+full-no_answer e r now (Fresh parts) (inl full) is =
+    full-no_headers e now (headers_of parts.headers) full.1 is.fresh.headers
 full-no_answer e r now (Stale parts matched) (inl full) is = true≢false (sym full.0 ∙ sym is.verdict)
 full-no_answer e r now (Fresh parts) (inr full) is = true≢false (is.verdict ∙ full.0)
 full-no_answer e r now (Stale parts matched) (inr full) is = is.stale.fits full.1 full.2
 
-undated-no_answer : (e : Exchange) (r : RequestSeen) (now : ℤ) (answer : BeforeRequest) → HasUndatedAnswer e r now → ¬ (IsAnswer e r now answer)
-undated-no_answer e r now (Fresh parts) undated is = undated-no_headers e now (headers_of parts.headers) undated.1 is.fresh.headers
+undated-no_answer : (e : Exchange) (r : RequestSeen) (now : ℤ) (answer : BeforeRequest)
+    → HasUndatedAnswer e r now → ¬ (IsAnswer e r now answer)
+undated-no_answer e r now (Fresh parts) undated is =
+    undated-no_headers e now (headers_of parts.headers) undated.1 is.fresh.headers
 undated-no_answer e r now (Stale parts matched) undated is = true≢false (sym undated.0 ∙ sym is.verdict)
 
 pub full-no_outcome : (e : Exchange) (step : StepSeen) → RefusesStep e step → HasNoOutcome e step
@@ -44,9 +49,13 @@ full-no_outcome e (asks r now) full (Modified parts) f is = is.0
 full-no_outcome e (asks r now) full Restarted f is = is.0
 full-no_outcome e (receives r s now) full (Asked answer) f is = is.0
 full-no_outcome e (receives r s now) full (NotModified parts) f is =
-    full-no_headers (next_exchange e r s now) now (headers_of parts.headers) full (subst (λ (x : Exchange). IsFreshHeaders x now (headers_of parts.headers)) is.1 is.0.1.headers)
+    let headers = headers_of parts.headers in
+    full-no_headers (next_exchange e r s now) now headers full
+    (subst (λ (x : Exchange). IsFreshHeaders x now headers) is.1 is.0.1.headers)
 full-no_outcome e (receives r s now) full (Modified parts) f is =
-    full-no_headers (next_exchange e r s now) now (headers_of parts.headers) full (subst (λ (x : Exchange). IsFreshHeaders x now (headers_of parts.headers)) is.1 is.0.1.headers)
+    let headers = headers_of parts.headers in
+    full-no_headers (next_exchange e r s now) now headers full
+    (subst (λ (x : Exchange). IsFreshHeaders x now headers) is.1 is.0.1.headers)
 full-no_outcome e (receives r s now) full Restarted f is = is.0
 full-no_outcome e restarts full o f is = full
 
@@ -57,9 +66,13 @@ undated-no_outcome e (asks r now) undated (Modified parts) f is = is.0
 undated-no_outcome e (asks r now) undated Restarted f is = is.0
 undated-no_outcome e (receives r s now) undated (Asked answer) f is = is.0
 undated-no_outcome e (receives r s now) undated (NotModified parts) f is =
-    undated-no_headers (next_exchange e r s now) now (headers_of parts.headers) undated (subst (λ (x : Exchange). IsFreshHeaders x now (headers_of parts.headers)) is.1 is.0.1.headers)
+    let headers = headers_of parts.headers in
+    undated-no_headers (next_exchange e r s now) now headers undated
+    (subst (λ (x : Exchange). IsFreshHeaders x now headers) is.1 is.0.1.headers)
 undated-no_outcome e (receives r s now) undated (Modified parts) f is =
-    undated-no_headers (next_exchange e r s now) now (headers_of parts.headers) undated (subst (λ (x : Exchange). IsFreshHeaders x now (headers_of parts.headers)) is.1 is.0.1.headers)
+    let headers = headers_of parts.headers in
+    undated-no_headers (next_exchange e r s now) now headers undated
+    (subst (λ (x : Exchange). IsFreshHeaders x now headers) is.1 is.0.1.headers)
 undated-no_outcome e (receives r s now) undated Restarted f is = is.0
 undated-no_outcome e restarts undated o f is = undated
 

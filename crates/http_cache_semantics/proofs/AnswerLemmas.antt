@@ -23,7 +23,8 @@ module _ (e : Exchange) (request : RequestSeen) (now : ℤ) where
       → WhereFresh (IsFreshParts e now) answer → WhereStale (λ sent _. IsStaleRequest e request sent) answer
       → ¬ (RefusesAnswer e request now)
   unfolding RefusesAnswer
-  answer-room (Fresh parts) verdict fresh stale (inl refused) = fresh-room e now (headers_of parts.headers) fresh.headers refused.1
+  answer-room (Fresh parts) verdict fresh stale (inl refused) =
+      fresh-room e now (headers_of parts.headers) fresh.headers refused.1
   answer-room (Fresh parts) verdict fresh stale (inr refused) = true≢false (verdict ∙ refused.0)
   answer-room (Stale sent matches) verdict fresh stale (inl refused) = true≢false (sym (verdict ∙ refused.0))
   answer-room (Stale sent matches) verdict fresh stale (inr refused) = stale.fits refused.1 refused.2

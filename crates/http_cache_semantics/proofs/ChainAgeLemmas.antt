@@ -1,5 +1,6 @@
 -- Ages along a chain of caches.
-use Rattle.std.proofs.Common.{◌≡◌, ◌≤◌, ◌≤ℤ◌, ◌-ℤ◌, ◌+◌, ◌-◌, ◌*◌, ◌/◌, ◌^◌, min, ℕ, ℤ, List, [], ◌∷◌, length, take, slice_get, zero, suc, sym, ap, subst, ◌∙◌, arith}
+use Rattle.std.proofs.Common.{◌≡◌, ◌≤◌, ◌≤ℤ◌, ◌-ℤ◌, ◌+◌, ◌-◌, ◌*◌, ◌/◌, ◌^◌, min, ℕ, ℤ, List, []}
+use Rattle.std.proofs.Common.{◌∷◌, length, take, slice_get, zero, suc, sym, ap, subst, ◌∙◌, arith}
 use Rattle.std.specs.Duration.{max_nanos}
 use Rattle.std.proofs.lemmas.Int.{ints}
 use Rattle.std.proofs.lemmas.Option.{slice_get_within}
@@ -34,23 +35,36 @@ not_far_by : (r d later : ℕ)
     ≤ min (min (r + d / 1_000_000_000) (2 ^ 64 - 1) * 1_000_000_000 + later) max_nanos + 999_999_999
 not_far_by r d later = omega arith
 
-module _ (e : Exchange) (now : ℤ) (next : Exchange) (handed : IsHandedOn e now next) (before : e.response_time ≤ℤ now) (later : ℤ) (after : now ≤ℤ later) where
-  age-here : age_at e later ≡ min (received_age e * 1_000_000_000 + (elapsed_time (now -ℤ e.response_time) + elapsed_time (later -ℤ now))) max_nanos
+module _ (e : Exchange) (now : ℤ) (next : Exchange) (handed : IsHandedOn e now next)
+    (before : e.response_time ≤ℤ now) (later : ℤ) (after : now ≤ℤ later) where
+  age-here : age_at e later
+      ≡ min (received_age e * 1_000_000_000
+      + (elapsed_time (now -ℤ e.response_time) + elapsed_time (later -ℤ now))) max_nanos
   unfolding age_at
-  age-here = ap (λ n. min (received_age e * 1_000_000_000 + n) max_nanos) (elapsed-through e.response_time now later before after)
+  age-here =
+      ap (λ n. min (received_age e * 1_000_000_000 + n) max_nanos)
+      (elapsed-through e.response_time now later before after)
 
-  age-next : age_at next later ≡ min (min (received_age e + elapsed_time (now -ℤ e.response_time) / 1_000_000_000) (2 ^ 64 - 1) * 1_000_000_000 + elapsed_time (later -ℤ now)) max_nanos
+  age-next : age_at next later
+      ≡ min
+      (min (received_age e + elapsed_time (now -ℤ e.response_time) / 1_000_000_000) (2 ^ 64 - 1) * 1_000_000_000
+      + elapsed_time (later -ℤ now)) max_nanos
   unfolding age_at
   age-next =
-      (λ i. min (received_age-handed_on e now next handed i * 1_000_000_000 + elapsed_time (later -ℤ response_time-handed_on e now next handed i)) max_nanos)
+      (λ i. min (received_age-handed_on e now next handed i * 1_000_000_000
+      + elapsed_time (later -ℤ response_time-handed_on e now next handed i)) max_nanos)
 
   -- the next cache is no older
   age-handed_on-le : age_at next later ≤ age_at e later
-  age-handed_on-le = rw (age-here, age-next) (no_older_by (received_age e) (elapsed_time (now -ℤ e.response_time)) (elapsed_time (later -ℤ now)))
+  age-handed_on-le =
+      rw (age-here, age-next)
+      (no_older_by (received_age e) (elapsed_time (now -ℤ e.response_time)) (elapsed_time (later -ℤ now)))
 
   -- and less than a second behind
   age-handed_on-near : age_at e later ≤ age_at next later + 999_999_999
-  age-handed_on-near = rw (age-here, age-next) (not_far_by (received_age e) (elapsed_time (now -ℤ e.response_time)) (elapsed_time (later -ℤ now)))
+  age-handed_on-near =
+      rw (age-here, age-next)
+      (not_far_by (received_age e) (elapsed_time (now -ℤ e.response_time)) (elapsed_time (later -ℤ now)))
 
 -- ---- the whole chain
 
@@ -74,15 +88,21 @@ reached-first e = record {
   came = le-refl e.response_time;
 }
 
-reached-next : (e next x : Exchange) (now : ℤ) (hops : ℕ) → e.response_time ≤ℤ now → IsHandedOn e now next → IsReached next hops x → IsReached e (suc hops) x
+reached-next : (e next x : Exchange) (now : ℤ) (hops : ℕ) → e.response_time ≤ℤ now
+    → IsHandedOn e now next → IsReached next hops x → IsReached e (suc hops) x
 reached-next e next x now hops before handed rest =
-    let came : now ≤ℤ x.response_time = subst (λ (m : ℤ). m ≤ℤ x.response_time) (response_time-handed_on e now next handed) rest.came in
+    let came : now ≤ℤ x.response_time =
+    subst (λ (m : ℤ). m ≤ℤ x.response_time) (response_time-handed_on e now next handed) rest.came in
     record {
       aged = record {
         no_older = λ later after.
-            omega (arith, rest.aged.no_older later after, age-handed_on-le e now next handed before later (le-trans now x.response_time later came after));
+            let since = le-trans now x.response_time later came after in
+            let one = age-handed_on-le e now next handed before later since in
+            omega (arith, rest.aged.no_older later after, one);
         not_far_behind = λ later after.
-            omega (arith, rest.aged.not_far_behind later after, age-handed_on-near e now next handed before later (le-trans now x.response_time later came after));
+            let since = le-trans now x.response_time later came after in
+            let one = age-handed_on-near e now next handed before later since in
+            omega (arith, rest.aged.not_far_behind later after, one);
       };
       came = le-trans e.response_time now x.response_time before came;
     }
@@ -93,24 +113,37 @@ none-behind k e x at = absurd (omega (arith, slice_get_within (e ∷ []) (suc k)
 module _ (request : RequestSeen) where
   follow-received : (e : Exchange) (moments : List ℤ) (behind : List Exchange) → Follow request e moments behind
       → (place : ℕ) (x : Exchange) → IsAt (e ∷ behind) place x → HasReceived moments e place x
-  follow-received e moments behind chain zero x at = let same : e ≡ x = cc in subst (HasReceived moments e 0) same (omega (arith, received_age-bound e))
+  follow-received e moments behind chain zero x at =
+      let same : e ≡ x = cc in
+      subst (HasReceived moments e 0) same (omega (arith, received_age-bound e))
   follow-received e moments [] chain (suc place) x at = absurd (none-behind place e x at)
-  follow-received e [] (next ∷ behind) chain (suc place) x at = let none = chain in absurd (omega (arith, ap length none))
+  follow-received e [] (next ∷ behind) chain (suc place) x at =
+      let none = chain in
+      absurd (omega (arith, ap length none))
   follow-received e (now ∷ moments) (next ∷ behind) chain (suc place) x at =
       follow-received next moments behind chain.2 place x at
-      ∙ (λ i. min (received_age-handed_on e now next chain.1 i + whole_seconds (response_time-handed_on e now next chain.1 i) (take place moments)) (2 ^ 64 - 1))
-      ∙ stops_twice (received_age e) (elapsed_time (now -ℤ e.response_time) / 1_000_000_000) (whole_seconds now (take place moments))
+      ∙ (λ i. min (received_age-handed_on e now next chain.1 i
+      + whole_seconds (response_time-handed_on e now next chain.1 i) (take place moments)) (2 ^ 64 - 1))
+      ∙ stops_twice (received_age e) (elapsed_time (now -ℤ e.response_time) / 1_000_000_000)
+      (whole_seconds now (take place moments))
 
-  follow-reached : (e : Exchange) (moments : List ℤ) (behind : List Exchange) → NeverGoDown e.response_time moments → Follow request e moments behind
+  follow-reached : (e : Exchange) (moments : List ℤ) (behind : List Exchange)
+      → NeverGoDown e.response_time moments → Follow request e moments behind
       → (place : ℕ) (x : Exchange) → IsAt (e ∷ behind) place x → IsReached e place x
-  follow-reached e moments behind order chain zero x at = let same : e ≡ x = cc in subst (IsReached e 0) same (reached-first e)
+  follow-reached e moments behind order chain zero x at =
+      let same : e ≡ x = cc in
+      subst (IsReached e 0) same (reached-first e)
   follow-reached e moments [] order chain (suc place) x at = absurd (none-behind place e x at)
-  follow-reached e [] (next ∷ behind) order chain (suc place) x at = let none = chain in absurd (omega (arith, ap length none))
+  follow-reached e [] (next ∷ behind) order chain (suc place) x at =
+      let none = chain in
+      absurd (omega (arith, ap length none))
   follow-reached e (now ∷ moments) (next ∷ behind) order chain (suc place) x at =
-      let later : NeverGoDown next.response_time moments = subst (λ (m : ℤ). NeverGoDown m moments) (sym (response_time-handed_on e now next chain.1)) order.1 in
+      let later : NeverGoDown next.response_time moments =
+      subst (λ (m : ℤ). NeverGoDown m moments) (sym (response_time-handed_on e now next chain.1)) order.1 in
       reached-next e next x now place order.0 chain.1 (follow-reached next moments behind later chain.2 place x at)
 
-  module _ (first : Exchange) (moments : List ℤ) (exchanges : List Exchange) (chain : IsChain request first moments exchanges) where
+  module _ (first : Exchange) (moments : List ℤ) (exchanges : List Exchange)
+      (chain : IsChain request first moments exchanges) where
     there : (place : ℕ) (e : Exchange) → IsAt exchanges place e → IsAt (first ∷ chain.behind) place e
     there place e at = ap (λ es. slice_get es place) (sym chain.are) ∙ at
 
@@ -119,5 +152,7 @@ module _ (request : RequestSeen) where
     received-along_chain place e at = follow-received first moments chain.behind chain.follow place e (there place e at)
 
     -- and is aged like the first
-    pub ages-along_chain : NeverGoDown first.response_time moments → (place : ℕ) (e : Exchange) → IsAt exchanges place e → IsAgedLike first place e
-    ages-along_chain order place e at = (follow-reached first moments chain.behind order chain.follow place e (there place e at)).aged
+    pub ages-along_chain : NeverGoDown first.response_time moments
+        → (place : ℕ) (e : Exchange) → IsAt exchanges place e → IsAgedLike first place e
+    ages-along_chain order place e at =
+        (follow-reached first moments chain.behind order chain.follow place e (there place e at)).aged

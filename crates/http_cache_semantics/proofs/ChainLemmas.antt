@@ -1,5 +1,8 @@
 -- How a chain of caches is built, one cache at a time.
-use Rattle.std.proofs.Common.{◌≡◌, ◌<◌, ◌≤◌, ◌+◌, ◌-◌, ℕ, ℤ, true, false, List, [], ◌∷◌, ◌++◌, map, drop, Some, slice_get, get_or, suc, length, refl, sym, ap, subst, ◌∙◌, inl, inr, true≢false, append_assoc, arith, length-append, length-drop, drop-cons}
+use Rattle.std.proofs.Common.{◌≡◌, ◌<◌, ◌≤◌, ◌+◌, ◌-◌, ℕ, ℤ, true, false, List}
+use Rattle.std.proofs.Common.{[], ◌∷◌, ◌++◌, map, drop, Some, slice_get, get_or, suc}
+use Rattle.std.proofs.Common.{length, refl, sym, ap, subst, ◌∙◌, inl, inr, true≢false}
+use Rattle.std.proofs.Common.{append_assoc, arith, length-append, length-drop, drop-cons}
 use Rattle.std.proofs.lemmas.List.{drop-map, nil_from_length, length-map}
 use Rattle.std.proofs.Math.Seq.{get_or-append_seam}
 use Rattle.jiff.specs.declared.timestamp.Timestamp.{Timestamp}
@@ -10,7 +13,8 @@ use Rattle.http_cache_policy.specs.Kept.{kept_exchange}
 use Rattle.http_cache_policy.specs.Verdict.{is_fresh_for}
 use Rattle.http_cache_policy.specs.Refused.{RefusesAnswer, HasUndatedAnswer}
 use Rattle.http_cache_semantics.specs.Chain.{first_kept, IsHandedOn, Follow, IsChain, IsFor, Meets, nanoseconds}
-use Rattle.http_cache_semantics.specs.ChainLaws.{IsAt, ForEach, NeverGoDown, HasReceived, IsAgedLike, IsExplicit, SaysLike, ExpiresLike}
+use Rattle.http_cache_semantics.specs.ChainLaws.{IsAt, ForEach, NeverGoDown, HasReceived}
+use Rattle.http_cache_semantics.specs.ChainLaws.{IsAgedLike, IsExplicit, SaysLike, ExpiresLike}
 use Rattle.http_cache_semantics.proofs.ChainUniqueLemmas.{handed_on-unique}
 use Rattle.http_cache_semantics.proofs.ChainAgeLemmas.{received-along_chain, ages-along_chain}
 use Rattle.http_cache_semantics.proofs.ChainLifeLemmas.{says-along_chain, expires-along_chain}
@@ -30,15 +34,18 @@ IsFor-handed_on request options e now next handed same = record {
 pub IsFor-first : (request : RequestSeen) (response : ResponseSeen) (options : Options) (received : ℤ)
     → IsFor request options (first_kept request response options received)
 unfolding kept_exchange
-IsFor-first request response options received = record { same_target = refl; same_method = refl; same_headers = refl; same_options = refl }
+IsFor-first request response options received =
+    record { same_target = refl; same_method = refl; same_headers = refl; same_options = refl }
 
 -- the exchanges so far, the last of them, and how what follows it makes all that follows the first
-pub record HasReached (request : RequestSeen) (first : Exchange) (moments rest : List ℤ) (reached : List Exchange) : Type 0 where
+pub record HasReached
+    (request : RequestSeen) (first : Exchange) (moments rest : List ℤ) (reached : List Exchange) : Type 0 where
   pub front : List Exchange
   pub last : Exchange
   pub are : reached ≡ front ++ last ∷ []
   pub is_for : IsFor request first.options last
-  pub goes_on : (behind : List Exchange) → Follow request last rest behind → IsChain request first moments (reached ++ behind)
+  pub goes_on : (behind : List Exchange) → Follow request last rest behind
+      → IsChain request first moments (reached ++ behind)
   pub refused : Meets RefusesAnswer request last rest → Meets RefusesAnswer request first moments
   pub undated : Meets HasUndatedAnswer request last rest → Meets HasUndatedAnswer request first moments
   pub refused_later : Meets RefusesAnswer request first moments → Meets RefusesAnswer request last rest
@@ -64,13 +71,16 @@ module _ (request : RequestSeen) (first : Exchange) (moments : List ℤ) where
   }
 
   -- there is one, and it is the last
-  pub reached-some : (rest : List ℤ) (reached : List Exchange) → HasReached request first moments rest reached → 0 < length reached
+  pub reached-some : (rest : List ℤ) (reached : List Exchange)
+      → HasReached request first moments rest reached → 0 < length reached
   reached-some rest reached so_far = omega (arith, ap length so_far.are, length-append so_far.front (so_far.last ∷ []))
 
-  pub reached-last : (rest : List ℤ) (reached : List Exchange) → (so_far : HasReached request first moments rest reached)
+  pub reached-last : (rest : List ℤ) (reached : List Exchange)
+      → (so_far : HasReached request first moments rest reached)
       → (n : ℕ) (e : Exchange) → n ≡ length reached → e ≡ get_or reached (n - 1) e → e ≡ so_far.last
   reached-last rest reached so_far n e count is =
-      let place : n - 1 ≡ length so_far.front = omega (arith, count, ap length so_far.are, length-append so_far.front (so_far.last ∷ [])) in
+      let place : n - 1 ≡ length so_far.front =
+      omega (arith, count, ap length so_far.are, length-append so_far.front (so_far.last ∷ [])) in
       is ∙ (λ i. get_or (so_far.are i) (place i) e) ∙ get_or-append_seam so_far.front so_far.last [] e
 
   -- where nothing follows the last, the chain is whole
@@ -80,13 +90,19 @@ module _ (request : RequestSeen) (first : Exchange) (moments : List ℤ) where
 
   -- ---- what holds of each cache
 
-  first-in : (exchanges : List Exchange) → IsChain request first moments exchanges → (e : Exchange) → IsAt exchanges 0 e → first ≡ e
-  first-in exchanges chain e at = let head : slice_get (first ∷ chain.behind) 0 ≡ Some e = ap (λ es. slice_get es 0) (sym chain.are) ∙ at in cc
+  first-in : (exchanges : List Exchange) → IsChain request first moments exchanges
+      → (e : Exchange) → IsAt exchanges 0 e → first ≡ e
+  first-in exchanges chain e at =
+      let head : slice_get (first ∷ chain.behind) 0 ≡ Some e =
+      ap (λ es. slice_get es 0) (sym chain.are) ∙ at in
+      cc
 
   module _ (exchanges : List Exchange) (chain : IsChain request first moments exchanges) where
     -- what holds of the first and of each, holds so of the list
-    from-first : (P : Exchange → ℕ → Exchange → Type 0) → ((place : ℕ) (e : Exchange) → IsAt exchanges place e → P first place e) → ForEach exchanges P
-    from-first P each one at place e there = subst (λ (x : Exchange). P x place e) (first-in exchanges chain one at) (each place e there)
+    from-first : (P : Exchange → ℕ → Exchange → Type 0)
+        → ((place : ℕ) (e : Exchange) → IsAt exchanges place e → P first place e) → ForEach exchanges P
+    from-first P each one at place e there =
+        subst (λ (x : Exchange). P x place e) (first-in exchanges chain one at) (each place e there)
 
     pub each-received : ForEach exchanges (HasReceived moments)
     each-received = from-first (HasReceived moments) (received-along_chain request first moments exchanges chain)
@@ -95,17 +111,23 @@ module _ (request : RequestSeen) (first : Exchange) (moments : List ℤ) where
     each-aged order = from-first IsAgedLike (ages-along_chain request first moments exchanges chain order)
 
     pub each-says : kept_exchange first ≡ first → ForEach exchanges (λ one place e. IsExplicit one → SaysLike one e)
-    each-says settled = from-first (λ one place e. IsExplicit one → SaysLike one e)
-        (λ place e there explicit. says-along_chain request first moments exchanges chain settled explicit place e there)
+    each-says settled =
+        from-first (λ one place e. IsExplicit one → SaysLike one e)
+        (λ place e there explicit.
+        says-along_chain request first moments exchanges chain settled explicit place e there)
 
-    pub each-expires : kept_exchange first ≡ first → NeverGoDown first.response_time moments → ForEach exchanges (λ one place e. IsExplicit one → ExpiresLike one place e)
-    each-expires settled order = from-first (λ one place e. IsExplicit one → ExpiresLike one place e)
-        (λ place e there explicit. expires-along_chain request first moments exchanges chain settled explicit order place e there)
+    pub each-expires : kept_exchange first ≡ first → NeverGoDown first.response_time moments
+        → ForEach exchanges (λ one place e. IsExplicit one → ExpiresLike one place e)
+    each-expires settled order =
+        from-first (λ one place e. IsExplicit one → ExpiresLike one place e)
+        (λ place e there explicit.
+        expires-along_chain request first moments exchanges chain settled explicit order place e there)
 
 -- ---- the moments
 
 -- one more
-drop-nanoseconds : (moments : List Timestamp) (place : ℕ) (m : Timestamp) → place < length moments → m ≡ get_or moments place m
+drop-nanoseconds : (moments : List Timestamp) (place : ℕ) (m : Timestamp)
+    → place < length moments → m ≡ get_or moments place m
     → drop place (nanoseconds moments) ≡ m.nanosecond ∷ drop (place + 1) (nanoseconds moments)
 drop-nanoseconds moments place m inside is =
     let f = λ (t : Timestamp). t.nanosecond in
@@ -116,12 +138,15 @@ drop-nanoseconds moments place m inside is =
     ∙ ap (λ n. m.nanosecond ∷ drop n (nanoseconds moments)) up
 
 -- none
-drop-nanoseconds_past : (moments : List Timestamp) (place : ℕ) → length moments ≤ place → drop place (nanoseconds moments) ≡ []
+drop-nanoseconds_past : (moments : List Timestamp) (place : ℕ)
+    → length moments ≤ place → drop place (nanoseconds moments) ≡ []
 drop-nanoseconds_past moments place past =
-    nil_from_length (drop place (nanoseconds moments)) (omega (arith, length-drop place (nanoseconds moments), length-map moments (λ (t : Timestamp). t.nanosecond)))
+    nil_from_length (drop place (nanoseconds moments))
+    (omega (arith, length-drop place (nanoseconds moments), length-map moments (λ (t : Timestamp). t.nanosecond)))
 
 -- a refusal behind a cache that hands its answer on without one is that of a cache behind it
-later : (P : Exchange → RequestSeen → ℤ → Type 0) (request : RequestSeen) (e : Exchange) (now : ℤ) (moments : List ℤ) (next : Exchange)
+later : (P : Exchange → RequestSeen → ℤ → Type 0) (request : RequestSeen) (e : Exchange) (now : ℤ)
+    (moments : List ℤ) (next : Exchange)
     → ¬ (P e request now) → IsHandedOn e now next → Meets P request e (now ∷ moments) → Meets P request next moments
 later P request e now moments next none handed (inl here) = absurd (none here)
 later P request e now moments next none handed (inr (other, met, on, more)) =
@@ -146,7 +171,9 @@ module _ (request : RequestSeen) (first : Exchange) (moments : List Timestamp) (
   rest = drop (place + 1) (nanoseconds moments)
 
   before : HasReached request first (nanoseconds moments) (now ∷ rest) reached
-  before = subst (λ (ms : List ℤ). HasReached request first (nanoseconds moments) ms reached) (drop-nanoseconds moments place m inside here) so_far
+  before =
+      subst (λ (ms : List ℤ). HasReached request first (nanoseconds moments) ms reached)
+      (drop-nanoseconds moments place m inside here) so_far
 
   last-is : e ≡ before.last
   last-is = reached-last request first (nanoseconds moments) (now ∷ rest) reached before n e count is
@@ -171,13 +198,17 @@ module _ (request : RequestSeen) (first : Exchange) (moments : List Timestamp) (
   has_date : ¬ (HasUndatedAnswer e request now) → ¬ (HasUndatedAnswer before.last request now)
   has_date none = subst (λ (x : Exchange). ¬ (HasUndatedAnswer x request now)) last-is none
 
-  pub turn-stops_unrefused : is_fresh_for e request now ≡ false → ¬ (RefusesAnswer e request now) → ¬ (Meets RefusesAnswer request first (nanoseconds moments))
+  pub turn-stops_unrefused : is_fresh_for e request now ≡ false → ¬ (RefusesAnswer e request now)
+      → ¬ (Meets RefusesAnswer request first (nanoseconds moments))
   turn-stops_unrefused stale none = λ met.
-      nowhere RefusesAnswer request before.last now rest (has_room none) (stale-last stale) (before.refused_later met)
+      nowhere RefusesAnswer request before.last now rest (has_room none) (stale-last stale)
+      (before.refused_later met)
 
-  pub turn-stops_dated : is_fresh_for e request now ≡ false → ¬ (HasUndatedAnswer e request now) → ¬ (Meets HasUndatedAnswer request first (nanoseconds moments))
+  pub turn-stops_dated : is_fresh_for e request now ≡ false → ¬ (HasUndatedAnswer e request now)
+      → ¬ (Meets HasUndatedAnswer request first (nanoseconds moments))
   turn-stops_dated stale none = λ met.
-      nowhere HasUndatedAnswer request before.last now rest (has_date none) (stale-last stale) (before.undated_later met)
+      nowhere HasUndatedAnswer request before.last now rest (has_date none) (stale-last stale)
+      (before.undated_later met)
 
   -- or hand its answer on
   pub turn-next : (next : Exchange) → is_fresh_for e request now ≡ true → IsHandedOn e now next
@@ -191,27 +222,40 @@ module _ (request : RequestSeen) (first : Exchange) (moments : List Timestamp) (
         last = next;
         are = refl;
         is_for = IsFor-handed_on request first.options before.last now next on before.is_for;
-        goes_on = λ behind follow. subst (IsChain request first (nanoseconds moments)) (sym (append_assoc reached (next ∷ []) behind)) (before.goes_on (next ∷ behind) (met, on, follow));
+        goes_on = λ behind follow.
+            subst (IsChain request first (nanoseconds moments)) (sym (append_assoc reached (next ∷ []) behind))
+            (before.goes_on (next ∷ behind) (met, on, follow));
         refused = λ more. before.refused (inr (next, met, on, more));
         undated = λ more. before.undated (inr (next, met, on, more));
-        refused_later = λ more. later RefusesAnswer request before.last now rest next (has_room room) on (before.refused_later more);
-        undated_later = λ more. later HasUndatedAnswer request before.last now rest next (has_date dated) on (before.undated_later more);
+        refused_later = λ more.
+            later RefusesAnswer request before.last now rest next (has_room room) on (before.refused_later more);
+        undated_later = λ more.
+            later HasUndatedAnswer request before.last now rest next (has_date dated) on (before.undated_later more);
       }
 
 -- no moment is left
-pub turns-end : (request : RequestSeen) (first : Exchange) (moments : List Timestamp) (place : ℕ) → length moments ≤ place → (reached : List Exchange)
-    → HasReached request first (nanoseconds moments) (drop place (nanoseconds moments)) reached → IsChain request first (nanoseconds moments) reached
+pub turns-end : (request : RequestSeen) (first : Exchange) (moments : List Timestamp) (place : ℕ)
+    → length moments ≤ place → (reached : List Exchange)
+    → HasReached request first (nanoseconds moments) (drop place (nanoseconds moments)) reached
+    → IsChain request first (nanoseconds moments) reached
 turns-end request first moments place past reached so_far =
     whole request first (nanoseconds moments) [] reached
-    (subst (λ (ms : List ℤ). HasReached request first (nanoseconds moments) ms reached) (drop-nanoseconds_past moments place past) so_far) refl
+    (subst (λ (ms : List ℤ). HasReached request first (nanoseconds moments) ms reached)
+    (drop-nanoseconds_past moments place past) so_far) refl
 
 -- and no cache has refused
-pub turns-end_unrefused : (request : RequestSeen) (first : Exchange) (moments : List Timestamp) (place : ℕ) → length moments ≤ place → (reached : List Exchange)
-    → HasReached request first (nanoseconds moments) (drop place (nanoseconds moments)) reached → ¬ (Meets RefusesAnswer request first (nanoseconds moments))
+pub turns-end_unrefused : (request : RequestSeen) (first : Exchange) (moments : List Timestamp) (place : ℕ)
+    → length moments ≤ place → (reached : List Exchange)
+    → HasReached request first (nanoseconds moments) (drop place (nanoseconds moments)) reached
+    → ¬ (Meets RefusesAnswer request first (nanoseconds moments))
 turns-end_unrefused request first moments place past reached so_far = λ met.
-    subst (λ (ms : List ℤ). Meets RefusesAnswer request so_far.last ms) (drop-nanoseconds_past moments place past) (so_far.refused_later met)
+    subst (λ (ms : List ℤ). Meets RefusesAnswer request so_far.last ms)
+    (drop-nanoseconds_past moments place past) (so_far.refused_later met)
 
-pub turns-end_dated : (request : RequestSeen) (first : Exchange) (moments : List Timestamp) (place : ℕ) → length moments ≤ place → (reached : List Exchange)
-    → HasReached request first (nanoseconds moments) (drop place (nanoseconds moments)) reached → ¬ (Meets HasUndatedAnswer request first (nanoseconds moments))
+pub turns-end_dated : (request : RequestSeen) (first : Exchange) (moments : List Timestamp) (place : ℕ)
+    → length moments ≤ place → (reached : List Exchange)
+    → HasReached request first (nanoseconds moments) (drop place (nanoseconds moments)) reached
+    → ¬ (Meets HasUndatedAnswer request first (nanoseconds moments))
 turns-end_dated request first moments place past reached so_far = λ met.
-    subst (λ (ms : List ℤ). Meets HasUndatedAnswer request so_far.last ms) (drop-nanoseconds_past moments place past) (so_far.undated_later met)
+    subst (λ (ms : List ℤ). Meets HasUndatedAnswer request so_far.last ms)
+    (drop-nanoseconds_past moments place past) (so_far.undated_later met)

@@ -1,5 +1,6 @@
 -- Explicit lifetimes along a chain of caches.
-use Rattle.std.proofs.Common.{◌≡◌, ℕ, ℤ, true, List, [], ◌∷◌, length, slice_get, zero, suc, refl, sym, ap, subst, ◌∙◌, arith}
+use Rattle.std.proofs.Common.{◌≡◌, ℕ, ℤ, true, List, [], ◌∷◌, length, slice_get}
+use Rattle.std.proofs.Common.{zero, suc, refl, sym, ap, subst, ◌∙◌, arith}
 use Rattle.std.proofs.lemmas.Option.{slice_get_within}
 use Rattle.http_cache_policy.specs.Messages.{RequestSeen}
 use Rattle.http_cache_policy.specs.Exchange.{Exchange}
@@ -9,17 +10,20 @@ use Rattle.http_cache_policy.specs.Verdict.{is_fresh_for}
 use Rattle.http_cache_semantics.specs.Chain.{IsHandedOn, Follow, IsChain}
 use Rattle.http_cache_semantics.specs.ChainLaws.{IsAt, NeverGoDown, IsExplicit, IsAgedLike, SaysLike, ExpiresLike}
 use Rattle.http_cache_policy.proofs.KeptLemmas.{kept-settled}
-use Rattle.http_cache_semantics.proofs.ExplicitLemmas.{kept-handed, storable-same, directives-same, lifetime-same, explicit-after}
+use Rattle.http_cache_semantics.proofs.ExplicitLemmas.{kept-handed, storable-same, directives-same}
+use Rattle.http_cache_semantics.proofs.ExplicitLemmas.{lifetime-same, explicit-after}
 use Rattle.http_cache_semantics.proofs.ChainAgeLemmas.{ages-along_chain}
 
 module _ (request : RequestSeen) where
-  next-is : (e : Exchange) (now : ℤ) (next : Exchange) → is_fresh_for e request now ≡ true → (handed : IsHandedOn e now next) → kept_exchange e ≡ e → IsExplicit e
+  next-is : (e : Exchange) (now : ℤ) (next : Exchange) → is_fresh_for e request now ≡ true
+      → (handed : IsHandedOn e now next) → kept_exchange e ≡ e → IsExplicit e
       → next ≡ record e { response_headers = handed.headers; response_time = now }
   next-is e now next met handed settled explicit =
       handed.is_kept ∙ kept-handed request e now handed.headers handed.are_fresh met settled explicit
 
   -- so the next one says the same
-  next-says : (e : Exchange) (now : ℤ) (next : Exchange) → is_fresh_for e request now ≡ true → IsHandedOn e now next → kept_exchange e ≡ e → IsExplicit e → SaysLike e next
+  next-says : (e : Exchange) (now : ℤ) (next : Exchange) → is_fresh_for e request now ≡ true
+      → IsHandedOn e now next → kept_exchange e ≡ e → IsExplicit e → SaysLike e next
   next-says e now next met handed settled explicit =
       let h = handed.headers in
       subst (SaysLike e) (sym (next-is e now next met handed settled explicit)) (record {
@@ -29,7 +33,8 @@ module _ (request : RequestSeen) where
       })
 
   -- as explicitly
-  next-explicit : (e : Exchange) (now : ℤ) (next : Exchange) → is_fresh_for e request now ≡ true → IsHandedOn e now next → kept_exchange e ≡ e → IsExplicit e → IsExplicit next
+  next-explicit : (e : Exchange) (now : ℤ) (next : Exchange) → is_fresh_for e request now ≡ true
+      → IsHandedOn e now next → kept_exchange e ≡ e → IsExplicit e → IsExplicit next
   next-explicit e now next met handed settled explicit =
       subst IsExplicit (sym (next-is e now next met handed settled explicit))
       (explicit-after request e now handed.headers handed.are_fresh met settled explicit)
@@ -37,33 +42,49 @@ module _ (request : RequestSeen) where
   next-settled : (e : Exchange) (now : ℤ) (next : Exchange) → IsHandedOn e now next → kept_exchange next ≡ next
   next-settled e now next handed = subst (λ (x : Exchange). kept_exchange x ≡ x) (sym handed.is_kept) (kept-settled _)
 
-  follow-says : (e : Exchange) (moments : List ℤ) (behind : List Exchange) → kept_exchange e ≡ e → IsExplicit e → Follow request e moments behind
+  follow-says : (e : Exchange) (moments : List ℤ) (behind : List Exchange)
+      → kept_exchange e ≡ e → IsExplicit e → Follow request e moments behind
       → (place : ℕ) (x : Exchange) → IsAt (e ∷ behind) place x → SaysLike e x
   follow-says e moments behind settled explicit chain zero x at =
-      let same : e ≡ x = cc in subst (SaysLike e) same (record { storable = refl; directives = refl; lifetime_is = refl })
-  follow-says e moments [] settled explicit chain (suc place) x at = absurd (omega (arith, slice_get_within (e ∷ []) (suc place) x at))
-  follow-says e [] (next ∷ behind) settled explicit chain (suc place) x at = let none = chain in absurd (omega (arith, ap length none))
+      let same : e ≡ x = cc in
+      subst (SaysLike e) same (record { storable = refl; directives = refl; lifetime_is = refl })
+  follow-says e moments [] settled explicit chain (suc place) x at =
+      absurd (omega (arith, slice_get_within (e ∷ []) (suc place) x at))
+  follow-says e [] (next ∷ behind) settled explicit chain (suc place) x at =
+      let none = chain in
+      absurd (omega (arith, ap length none))
   follow-says e (now ∷ moments) (next ∷ behind) settled explicit chain (suc place) x at =
       let here = next-says e now next chain.0 chain.1 settled explicit in
-      let rest = follow-says next moments behind (next-settled e now next chain.1) (next-explicit e now next chain.0 chain.1 settled explicit) chain.2 place x at in
-      record { storable = rest.storable ∙ here.storable; directives = rest.directives ∙ here.directives; lifetime_is = rest.lifetime_is ∙ here.lifetime_is }
+      let rest =
+      follow-says next moments behind (next-settled e now next chain.1)
+      (next-explicit e now next chain.0 chain.1 settled explicit) chain.2 place x at in
+      record {
+        storable = rest.storable ∙ here.storable;
+        directives = rest.directives ∙ here.directives;
+        lifetime_is = rest.lifetime_is ∙ here.lifetime_is;
+      }
 
   -- with like ages, like lifetimes expire alike
-  expires-like : (first : Exchange) (hops : ℕ) (e : Exchange) → SaysLike first e → IsAgedLike first hops e → ExpiresLike first hops e
+  expires-like : (first : Exchange) (hops : ℕ) (e : Exchange)
+      → SaysLike first e → IsAgedLike first hops e → ExpiresLike first hops e
   unfolding time_to_live_at
   expires-like first hops e says aged = record {
     no_sooner = λ now after. omega (arith, says.lifetime_is, aged.no_older now after);
     hardly_later = λ now after. omega (arith, says.lifetime_is, aged.not_far_behind now after);
   }
 
-  module _ (first : Exchange) (moments : List ℤ) (exchanges : List Exchange) (chain : IsChain request first moments exchanges)
+  module _ (first : Exchange) (moments : List ℤ) (exchanges : List Exchange)
+      (chain : IsChain request first moments exchanges)
       (settled : kept_exchange first ≡ first) (explicit : IsExplicit first) where
     -- where the first one's lifetime is explicit, each cache of a chain says the same
     pub says-along_chain : (place : ℕ) (e : Exchange) → IsAt exchanges place e → SaysLike first e
     says-along_chain place e at =
-        follow-says first moments chain.behind settled explicit chain.follow place e (ap (λ es. slice_get es place) (sym chain.are) ∙ at)
+        follow-says first moments chain.behind settled explicit chain.follow place e
+        (ap (λ es. slice_get es place) (sym chain.are) ∙ at)
 
     -- and expires like the first
-    pub expires-along_chain : NeverGoDown first.response_time moments → (place : ℕ) (e : Exchange) → IsAt exchanges place e → ExpiresLike first place e
+    pub expires-along_chain : NeverGoDown first.response_time moments
+        → (place : ℕ) (e : Exchange) → IsAt exchanges place e → ExpiresLike first place e
     expires-along_chain order place e at =
-        expires-like first place e (says-along_chain place e at) (ages-along_chain request first moments exchanges chain order place e at)
+        expires-like first place e (says-along_chain place e at)
+        (ages-along_chain request first moments exchanges chain order place e at)

@@ -11,11 +11,13 @@ use Rattle.http_cache_policy.proofs.FreshUniqueLemmas.{IsFreshHeaders-unique}
 pub handed_on-unique : (e : Exchange) (now : ℤ) (x y : Exchange) → IsHandedOn e now x → IsHandedOn e now y → x ≡ y
 handed_on-unique e now x y a b =
     a.is_kept
-    ∙ ap (λ (h : Headers). kept_exchange (record e { response_headers = h; response_time = now })) (IsFreshHeaders-unique e now a.headers b.headers a.are_fresh b.are_fresh)
+    ∙ ap (λ (h : Headers). kept_exchange (record e { response_headers = h; response_time = now }))
+    (IsFreshHeaders-unique e now a.headers b.headers a.are_fresh b.are_fresh)
     ∙ sym b.is_kept
 
 module _ (request : RequestSeen) where
-  follow-unique : (e : Exchange) (moments : List ℤ) (xs ys : List Exchange) → Follow request e moments xs → Follow request e moments ys → xs ≡ ys
+  follow-unique : (e : Exchange) (moments : List ℤ) (xs ys : List Exchange)
+      → Follow request e moments xs → Follow request e moments ys → xs ≡ ys
   follow-unique e [] xs ys f g = f ∙ sym g
   follow-unique e (now ∷ moments) [] [] f g = refl
   follow-unique e (now ∷ moments) [] (y ∷ ys) f g = absurd (true≢false (sym g.0 ∙ f))
@@ -26,6 +28,10 @@ module _ (request : RequestSeen) where
       (λ i. sym same i ∷ follow-unique x moments xs ys f.2 rest i)
 
   -- a first exchange and the moments have one chain
-  pub chain-unique : (first : Exchange) (moments : List ℤ) (xs ys : List Exchange) → IsChain request first moments xs → IsChain request first moments ys → xs ≡ ys
+  pub chain-unique : (first : Exchange) (moments : List ℤ) (xs ys : List Exchange)
+      → IsChain request first moments xs → IsChain request first moments ys → xs ≡ ys
   chain-unique first moments xs ys c d =
-      c.are ∙ ap (λ (behind : List Exchange). first ∷ behind) (follow-unique first moments c.behind d.behind c.follow d.follow) ∙ sym d.are
+      c.are
+      ∙ ap (λ (behind : List Exchange). first ∷ behind)
+      (follow-unique first moments c.behind d.behind c.follow d.follow)
+      ∙ sym d.are

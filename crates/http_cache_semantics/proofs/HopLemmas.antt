@@ -1,5 +1,7 @@
 -- What a cache hands on under a name, and the age that the next one receives.
-use Rattle.std.proofs.Common.{◌≡◌, ℕ, ℤ, ◌+◌, ◌*◌, ◌-◌, ◌/◌, ◌^◌, ◌<◌, ◌-ℤ◌, min, Bool, true, false, List, [], ◌∷◌, bytes_eq, codes, decimal, slice_get, Option, option_and_then, unwrap_or, if◌then◌else◌, refl, ap, ◌∙◌, arith}
+use Rattle.std.proofs.Common.{◌≡◌, ℕ, ℤ, ◌+◌, ◌*◌, ◌-◌, ◌/◌, ◌^◌, ◌<◌, ◌-ℤ◌, min, Bool, true}
+use Rattle.std.proofs.Common.{false, List, [], ◌∷◌, bytes_eq, codes, decimal, slice_get, Option}
+use Rattle.std.proofs.Common.{option_and_then, unwrap_or, if◌then◌else◌, refl, ap, ◌∙◌, arith}
 use Rattle.std.specs.Duration.{max_nanos}
 use Rattle.http_cache_fields.specs.Text.{text_of}
 use Rattle.http_cache_fields.specs.Number.{number}
@@ -14,13 +16,15 @@ use Rattle.http_cache_rules.specs.ReceivedAge.{received_age_of}
 use Rattle.http_cache_policy.specs.Exchange.{Exchange}
 use Rattle.http_cache_policy.specs.Kept.{kept_exchange}
 use Rattle.http_cache_policy.specs.Age.{received_age, age_at}
-use Rattle.http_cache_policy.specs.Fresh.{is_guessed_past_a_day, heuristic_warning, warned_headers, age_text, aged_headers, IsFreshHeaders}
+use Rattle.http_cache_policy.specs.Fresh.{is_guessed_past_a_day, heuristic_warning}
+use Rattle.http_cache_policy.specs.Fresh.{warned_headers, age_text, aged_headers, IsFreshHeaders}
 use Rattle.http_cache_semantics.specs.Chain.{IsHandedOn}
 use Rattle.http_cache_policy.proofs.FreshLemmas.{get-insert_other, one_age_and_date}
 
 -- what fresh headers hold under a name that a fresh answer doesn't tell anew
 pub values-fresh : (e : Exchange) (now : ℤ) (h : Headers) → IsFreshHeaders e now h → (name : List ℕ)
-    → bytes_eq (codes "warning") name ≡ false → bytes_eq (codes "age") name ≡ false → bytes_eq (codes "date") name ≡ false
+    → bytes_eq (codes "warning") name ≡ false
+    → bytes_eq (codes "age") name ≡ false → bytes_eq (codes "date") name ≡ false
     → values h name ≡ values (filtered_headers e.response_headers) name
 values-fresh e now h fresh name not_warning not_age not_date =
     ap (λ (g : Headers). values g name) fresh.headers
@@ -31,14 +35,17 @@ values-fresh e now h fresh name not_warning not_age not_date =
     stored : Headers
     stored = filtered_headers e.response_headers
 
-    by : (b : Bool) → values (if b then with_further_value stored (codes "warning") heuristic_warning else stored) name ≡ values stored name
+    by : (b : Bool)
+        → values (if b then with_further_value stored (codes "warning") heuristic_warning else stored) name
+        ≡ values stored name
     by true = ap (λ o. unwrap_or o []) (get-insert_other stored (codes "warning") _ name not_warning)
     by false = refl
 
 -- ---- the age that came
 
 -- the age of headers that hold one number under `age`
-received_age_of-decimal : (h : Headers) (n : ℕ) → n < 2 ^ 64 → values h (codes "age") ≡ decimal n ∷ [] → received_age_of h ≡ n
+received_age_of-decimal : (h : Headers) (n : ℕ) → n < 2 ^ 64
+    → values h (codes "age") ≡ decimal n ∷ [] → received_age_of h ≡ n
 received_age_of-decimal h n small is =
     ap (λ (vs : List (List ℕ)). unwrap_or (option_and_then number (option_and_then text_of (slice_get vs 0))) 0) is
     ∙ ap (λ (o : Option (List ℕ)). unwrap_or (option_and_then number o) 0) (text_of-decimal n small)
@@ -66,5 +73,6 @@ received_age-handed_on e now next handed =
     let d = elapsed_time (now -ℤ e.response_time) in
     ap (λ (x : Exchange). received_age_of x.response_headers) handed.is_kept
     ∙ received_age_of-decimal (kept_response e.options.ignores_cargo_cult h) n (seconds_small (r * 1_000_000_000 + d))
-    (kept_response-other e.options.ignores_cargo_cult h (codes "age") refl refl refl ∙ (one_age_and_date handed.are_fresh).age)
+    (kept_response-other e.options.ignores_cargo_cult h (codes "age") refl refl refl
+    ∙ (one_age_and_date handed.are_fresh).age)
     ∙ whole r d

@@ -1,5 +1,8 @@
 -- What stands at the first place that passes a test.
-use Rattle.std.proofs.Common.{◌≡◌, ℕ, ◌+◌, ◌<◌, List, [], ◌∷◌, length, Bool, true, false, true≢false, cond, Option, Some, None, option_map, filter, find, nat_lt, refl, sym, ap, subst, ◌∙◌, position, slice_get, suc, arith, add-one}
+use Rattle.std.proofs.Common.{◌≡◌, ℕ, ◌+◌, ◌<◌, List, [], ◌∷◌, length, Bool}
+use Rattle.std.proofs.Common.{true, false, true≢false, cond, Option, Some, None}
+use Rattle.std.proofs.Common.{option_map, filter, find, nat_lt, refl, sym, ap}
+use Rattle.std.proofs.Common.{subst, ◌∙◌, position, slice_get, suc, arith, add-one}
 use Rattle.std.specs.Prelude.{IsSomeAnd}
 use Rattle.std.specs.List.{position_or_len}
 use Rattle.std.proofs.lemmas.Bool.Decides.{nat_tests}
@@ -47,10 +50,12 @@ position-here p x xs passes = rw (passes, here-test (length xs)) refl
 pub position-further : {X : Type 0} (p : X → Bool) (x : X) (xs : List X) → p x ≡ false
     → position p (x ∷ xs) ≡ option_map (λ i. i + 1) (position p xs)
 position-further p x xs fails =
-    rw (fails, shifted-test (position_or_len p xs) (length xs)) (shifted (nat_lt (position_or_len p xs) (length xs)) (position_or_len p xs))
+    rw (fails, shifted-test (position_or_len p xs) (length xs))
+    (shifted (nat_lt (position_or_len p xs) (length xs)) (position_or_len p xs))
 
 -- a place one further
-pub one_further-Some : (o : Option ℕ) (i : ℕ) → option_map (λ n. n + 1) o ≡ Some i → (j : ℕ) × (o ≡ Some j) × (i ≡ j + 1)
+pub one_further-Some : (o : Option ℕ) (i : ℕ) → option_map (λ n. n + 1) o ≡ Some i
+    → (j : ℕ) × (o ≡ Some j) × (i ≡ j + 1)
 one_further-Some (Some j) i is = let same : i ≡ j + 1 = cc in (j, refl, same)
 one_further-Some None i is = cc
 

@@ -1,5 +1,7 @@
 -- What a choice among stored exchanges is like.
-use Rattle.std.proofs.Common.{◌≡◌, ◌⊎◌, inl, inr, ℕ, ℤ, ◌+◌, ◌&&◌, List, [], ◌∷◌, Bool, true, false, true≢false, Option, Some, None, option_map, find, refl, sym, ap, subst, ◌∙◌, slice_get}
+use Rattle.std.proofs.Common.{◌≡◌, ◌⊎◌, inl, inr, ℕ, ℤ, ◌+◌, ◌&&◌, List, []}
+use Rattle.std.proofs.Common.{◌∷◌, Bool, true, false, true≢false, Option, Some, None}
+use Rattle.std.proofs.Common.{option_map, find, refl, sym, ap, subst, ◌∙◌, slice_get}
 use Rattle.std.specs.Prelude.{IsSomeAnd}
 use Rattle.std.specs.Option.{option_or}
 use Rattle.std.proofs.lemmas.Bool.{and_parts}
@@ -15,18 +17,28 @@ use Rattle.http_cache_policy.specs.Stale.{IsStaleRequest}
 use Rattle.http_cache_policy.specs.declared.before.BeforeRequest.{BeforeRequest}
 use Rattle.http_cache_policy.specs.declared.before.BeforeRequest.TheVariants.{Fresh as FreshAnswer, Stale}
 use Rattle.http_cache_policy.specs.Run.{IsAnswer}
-use Rattle.http_cache_semantics.specs.Variants.{fresh_place, matching_place, chosen_place, IsAtPlace, IsChoice, IsPassedOver, one_further, choice_of, matching, Kind, used, validated, nothing, kind_of, exchange_chosen, IsSameChoice}
+use Rattle.http_cache_semantics.specs.Variants.{fresh_place, matching_place, chosen_place}
+use Rattle.http_cache_semantics.specs.Variants.{IsAtPlace, IsChoice, IsPassedOver, one_further}
+use Rattle.http_cache_semantics.specs.Variants.{choice_of, matching, Kind, used, validated}
+use Rattle.http_cache_semantics.specs.Variants.{nothing, kind_of, exchange_chosen, IsSameChoice}
 use Rattle.http_cache_semantics.specs.declared.variants.Choice.{Choice}
 use Rattle.http_cache_semantics.specs.declared.variants.Choice.TheVariants.{Fresh, Validate, Nothing}
-use Rattle.http_cache_semantics.proofs.PlaceLemmas.{at_place, position-passes, position-fails, position-here, position-further, one_further-Some, one_further-None, slice_get-further, find-at, find-none, find-filter}
+use Rattle.http_cache_semantics.proofs.PlaceLemmas.{at_place, position-passes}
+use Rattle.http_cache_semantics.proofs.PlaceLemmas.{position-fails, position-here}
+use Rattle.http_cache_semantics.proofs.PlaceLemmas.{position-further, one_further-Some}
+use Rattle.http_cache_semantics.proofs.PlaceLemmas.{one_further-None, slice_get-further}
+use Rattle.http_cache_semantics.proofs.PlaceLemmas.{find-at, find-none, find-filter}
 
 -- ---- what is fresh matches
 
-pub fresh-matches : (e : Exchange) (request : RequestSeen) (now : ℤ) → is_fresh_for e request now ≡ true → request_matches e request ≡ true
+pub fresh-matches : (e : Exchange) (request : RequestSeen) (now : ℤ)
+    → is_fresh_for e request now ≡ true → request_matches e request ≡ true
 unfolding is_fresh_for
-fresh-matches e request now fresh = (and_parts (request_matches e request) (satisfies e (asks_of request.headers) now) fresh).0
+fresh-matches e request now fresh =
+    (and_parts (request_matches e request) (satisfies e (asks_of request.headers) now) fresh).0
 
-pub unmatched-stale : (e : Exchange) (request : RequestSeen) (now : ℤ) → request_matches e request ≡ false → is_fresh_for e request now ≡ false
+pub unmatched-stale : (e : Exchange) (request : RequestSeen) (now : ℤ)
+    → request_matches e request ≡ false → is_fresh_for e request now ≡ false
 unfolding is_fresh_for
 unmatched-stale e request now unmatched = ap (λ (b : Bool). b && satisfies e (asks_of request.headers) now) unmatched
 
@@ -67,15 +79,18 @@ none_fresh request now es (Some place) is unmatched =
 none_fresh request now es None is unmatched = is
 
 -- none where none matches
-pub none-chosen : (request : RequestSeen) (now : ℤ) (es : List Exchange) → matching_place request es ≡ None → chosen_place request now es ≡ None
-none-chosen request now es unmatched = rw (none_fresh request now es (fresh_place request now es) refl unmatched) unmatched
+pub none-chosen : (request : RequestSeen) (now : ℤ) (es : List Exchange)
+    → matching_place request es ≡ None → chosen_place request now es ≡ None
+none-chosen request now es unmatched =
+    rw (none_fresh request now es (fresh_place request now es) refl unmatched) unmatched
 
 both_none : (o p : Option ℕ) → option_or o p ≡ None → (o ≡ None) × (p ≡ None)
 both_none (Some j) p is = cc
 both_none None p is = (refl, is)
 
 -- no place is chosen, so none is fresh and none matches
-pub unchosen : (request : RequestSeen) (now : ℤ) (es : List Exchange) → chosen_place request now es ≡ None → IsChoice es request now Nothing
+pub unchosen : (request : RequestSeen) (now : ℤ) (es : List Exchange)
+    → chosen_place request now es ≡ None → IsChoice es request now Nothing
 unchosen request now es none = both_none (fresh_place request now es) (matching_place request es) none
 
 -- the choice where the chosen one is fresh
@@ -100,7 +115,8 @@ pub stale-matches : (request : RequestSeen) (now : ℤ) (es : List Exchange) (pl
     → chosen_place request now es ≡ Some place → slice_get es place ≡ Some e → is_fresh_for e request now ≡ false
     → request_matches e request ≡ true
 stale-matches request now es place e chosen at stale =
-    position-passes (λ e. request_matches e request) es place e (chosen-stale request now es place e chosen at stale).1 at
+    position-passes (λ e. request_matches e request) es place e
+    (chosen-stale request now es place e chosen at stale).1 at
 
 -- where none matches, no place is chosen
 pub unmatched-unchosen : (request : RequestSeen) (now : ℤ) (es : List Exchange) (place : ℕ)
@@ -109,7 +125,8 @@ unmatched-unchosen request now es place chosen unmatched = let no = none-chosen 
 
 -- ---- one exchange more
 
-fresh_place-further : (e : Exchange) (es : List Exchange) (request : RequestSeen) (now : ℤ) → request_matches e request ≡ false
+fresh_place-further : (e : Exchange) (es : List Exchange) (request : RequestSeen) (now : ℤ)
+    → request_matches e request ≡ false
     → fresh_place request now (e ∷ es) ≡ option_map (λ n. n + 1) (fresh_place request now es)
 fresh_place-further e es request now unmatched =
     position-further (λ e. is_fresh_for e request now) e es (unmatched-stale e request now unmatched)
@@ -118,13 +135,18 @@ matching_place-further : (e : Exchange) (es : List Exchange) (request : RequestS
     → matching_place request (e ∷ es) ≡ option_map (λ n. n + 1) (matching_place request es)
 matching_place-further e es request unmatched = position-further (λ e. request_matches e request) e es unmatched
 
-at_further : (P : Exchange → Type 0) (e : Exchange) (es : List Exchange) (i : ℕ) → IsAtPlace es i P → IsAtPlace (e ∷ es) (i + 1) P
+at_further : (P : Exchange → Type 0) (e : Exchange) (es : List Exchange) (i : ℕ)
+    → IsAtPlace es i P → IsAtPlace (e ∷ es) (i + 1) P
 at_further P e es i at = subst (λ (o : Option Exchange). IsSomeAnd o P) (sym (slice_get-further e es i)) at
 
-at_nearer : (P : Exchange → Type 0) (e : Exchange) (es : List Exchange) (i j : ℕ) → i ≡ j + 1 → IsAtPlace (e ∷ es) i P → IsAtPlace es j P
-at_nearer P e es i j is at = subst (λ (o : Option Exchange). IsSomeAnd o P) (ap (slice_get (e ∷ es)) is ∙ slice_get-further e es j) at
+at_nearer : (P : Exchange → Type 0) (e : Exchange) (es : List Exchange) (i j : ℕ) → i ≡ j + 1
+    → IsAtPlace (e ∷ es) i P → IsAtPlace es j P
+at_nearer P e es i j is at =
+    subst (λ (o : Option Exchange). IsSomeAnd o P)
+    (ap (slice_get (e ∷ es)) is ∙ slice_get-further e es j) at
 
-one_further-is : (e : Exchange) (es : List Exchange) (request : RequestSeen) (now : ℤ) → request_matches e request ≡ false
+one_further-is : (e : Exchange) (es : List Exchange) (request : RequestSeen) (now : ℤ)
+    → request_matches e request ≡ false
     → (choice : Choice) → IsChoice es request now choice → IsChoice (e ∷ es) request now (one_further choice)
 one_further-is e es request now unmatched (Fresh place parts) is = (
   fresh_place-further e es request now unmatched ∙ ap (option_map (λ n. n + 1)) is.0,
@@ -140,19 +162,36 @@ one_further-is e es request now unmatched Nothing is = (
   matching_place-further e es request unmatched ∙ ap (option_map (λ n. n + 1)) is.1,
 )
 
-one_further-only : (e : Exchange) (es : List Exchange) (request : RequestSeen) (now : ℤ) → request_matches e request ≡ false
+one_further-only : (e : Exchange) (es : List Exchange) (request : RequestSeen) (now : ℤ)
+    → request_matches e request ≡ false
     → (choice : Choice) → IsChoice (e ∷ es) request now choice
     → (before : Choice) × IsChoice es request now before × (choice ≡ one_further before)
 one_further-only e es request now unmatched (Fresh place parts) is =
-    let nearer = one_further-Some (fresh_place request now es) place (sym (fresh_place-further e es request now unmatched) ∙ is.0) in
-    (Fresh nearer.0 parts, (nearer.1, at_nearer _ e es place nearer.0 nearer.2 is.1), ap (λ (n : ℕ). Fresh n parts) nearer.2)
+    let nearer =
+    one_further-Some (fresh_place request now es) place
+    (sym (fresh_place-further e es request now unmatched) ∙ is.0) in (
+      Fresh nearer.0 parts,
+      (nearer.1, at_nearer _ e es place nearer.0 nearer.2 is.1),
+      ap (λ (n : ℕ). Fresh n parts) nearer.2,
+    )
 one_further-only e es request now unmatched (Validate place sent) is =
-    let stale = one_further-None (fresh_place request now es) (sym (fresh_place-further e es request now unmatched) ∙ is.0) in
-    let nearer = one_further-Some (matching_place request es) place (sym (matching_place-further e es request unmatched) ∙ is.1) in
-    (Validate nearer.0 sent, (stale, nearer.1, at_nearer _ e es place nearer.0 nearer.2 is.2), ap (λ (n : ℕ). Validate n sent) nearer.2)
+    let stale =
+    one_further-None (fresh_place request now es)
+    (sym (fresh_place-further e es request now unmatched) ∙ is.0) in
+    let nearer =
+    one_further-Some (matching_place request es) place
+    (sym (matching_place-further e es request unmatched) ∙ is.1) in (
+      Validate nearer.0 sent,
+      (stale, nearer.1, at_nearer _ e es place nearer.0 nearer.2 is.2),
+      ap (λ (n : ℕ). Validate n sent) nearer.2,
+    )
 one_further-only e es request now unmatched Nothing is =
-    let stale = one_further-None (fresh_place request now es) (sym (fresh_place-further e es request now unmatched) ∙ is.0) in
-    let away = one_further-None (matching_place request es) (sym (matching_place-further e es request unmatched) ∙ is.1) in
+    let stale =
+    one_further-None (fresh_place request now es)
+    (sym (fresh_place-further e es request now unmatched) ∙ is.0) in
+    let away =
+    one_further-None (matching_place request es)
+    (sym (matching_place-further e es request unmatched) ∙ is.1) in
     (Nothing, (stale, away), refl)
 
 pub passed_over : (e : Exchange) (es : List Exchange) → IsPassedOver e es (e ∷ es)
@@ -177,10 +216,12 @@ alone-is e request now (Stale sent false) is = (
   position-further (λ e. request_matches e request) e [] (sym is.matches),
 )
 
-pub single-is : (es : List Exchange) (request : RequestSeen) (now : ℤ) (e : Exchange) → es ≡ e ∷ [] → (answer : BeforeRequest)
+pub single-is : (es : List Exchange) (request : RequestSeen) (now : ℤ) (e : Exchange) → es ≡ e ∷ []
+    → (answer : BeforeRequest)
     → IsAnswer e request now answer → IsChoice es request now (choice_of answer)
 single-is es request now e single answer is =
-    subst (λ (fs : List Exchange). IsChoice fs request now (choice_of answer)) (sym single) (alone-is e request now answer is)
+    subst (λ (fs : List Exchange). IsChoice fs request now (choice_of answer)) (sym single)
+    (alone-is e request now answer is)
 
 -- ---- another order
 
@@ -216,7 +257,8 @@ by_first es request now Nothing is =
     let away = find-none (λ e. request_matches e request) es is.1 in
     rw (stale, away) (record { kind_is = refl; chosen_is = refl })
 
-pub same_choice : (es : List Exchange) (request : RequestSeen) (now : ℤ) (choice : Choice) → IsChoice es request now choice
+pub same_choice : (es : List Exchange) (request : RequestSeen) (now : ℤ) (choice : Choice)
+    → IsChoice es request now choice
     → (fs : List Exchange) → matching request fs ≡ matching request es
     → (other : Choice) → IsChoice fs request now other → IsSameChoice es choice fs other
 same_choice es request now choice is fs same other other_is =

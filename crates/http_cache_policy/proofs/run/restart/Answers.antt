@@ -1,3 +1,4 @@
+-- A restart goes on with what reads back; it is malformed only where the printed target is none.
 use Rattle.std.proofs.Common.{rules, ◌≡◌, Err, refl, sym, ◌∙◌, subst}
 use Rattle.serde_json.specs.Data.{Data}
 use Rattle.http_cache_fields.specs.declared.error.CacheError.TheVariants.{Malformed}
@@ -30,4 +31,5 @@ pub returns-in_err-from_value-clause-lost : goal.returns-in_err-from_value-claus
 returns-in_err-from_value-clause-lost c = λ is target spells.
     let failed : c.from_value.result ≡ Err Malformed = search rules in
     let other : Exchange = with_target c.args.policy.now target in
-    c.from_value.ensures.malformed failed other ((c.in_ok-value.ensures.reads_back other).1 (record { same = refl; target = spells }))
+    c.from_value.ensures.malformed failed other
+    ((c.in_ok-value.ensures.reads_back other).1 (record { same = refl; target = spells }))

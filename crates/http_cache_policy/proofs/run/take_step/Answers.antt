@@ -1,3 +1,4 @@
+-- A restart that is malformed is a step that has no outcome.
 use Rattle.http_cache_policy.proofs.run.take_step.Goals as goal
 
 pub returns-in-Restart-clause-stops : goal.returns-in-Restart-clause-stops

@@ -1,3 +1,4 @@
+-- The next cache keeps what a fresh answer hands it; where an answer comes, none was refused.
 use Rattle.std.proofs.Common.{◌≡◌, ℕ, ℤ, sym, ap, ◌∙◌}
 use Rattle.http_cache_fields.specs.Headers.{Headers, headers_of}
 use Rattle.http_cache_rules.specs.Options.{Options, options_of}
@@ -11,9 +12,11 @@ use Rattle.http_cache_semantics.proofs.AnswerLemmas.{answer-room, answer-dated}
 use Rattle.http_cache_semantics.proofs.chain.hand_on.Goals as goal
 
 -- what is made of fresh headers for the same request is what the next cache keeps
-handed-made : (request : RequestSeen) (options : Options) (e : Exchange) → IsFor request options e → (now : ℤ) (h : Headers) → IsFreshHeaders e now h
+handed-made : (request : RequestSeen) (options : Options) (e : Exchange) → IsFor request options e
+    → (now : ℤ) (h : Headers) → IsFreshHeaders e now h
     → (status : ℕ) → status ≡ e.status → (next : Exchange)
-    → next ≡ kept_exchange (exchange_of request (record { status = status; headers = h }) options now) → IsHandedOn e now next
+    → next ≡ kept_exchange (exchange_of request (record { status = status; headers = h }) options now)
+    → IsHandedOn e now next
 handed-made request options e same now h fresh status same_status next is = record {
   headers = h;
   are_fresh = fresh;
@@ -34,7 +37,9 @@ returns-in-Fresh-clause-next g c =
     let request = g.Req.RequestLike.seen c.args.req.now in
     let parts = rw c.in-Fresh.is at c.in_ok-parts.ensures.fresh in (
       sym (sym (ap is_fresh c.in-Fresh.is) ∙ c.in_ok-parts.ensures.verdict),
-      handed-made request (options_of c.args.opts.now) c.args.policy.now c.requires c.args.moment.nanosecond (headers_of c.in-Fresh.parts.headers) parts.headers c.in-Fresh.parts.status parts.status c.in_ok-next-in-Fresh.next c.in_ok-next-in-Fresh.ensures.value,
+      handed-made request (options_of c.args.opts.now) c.args.policy.now c.requires c.args.moment.nanosecond
+          (headers_of c.in-Fresh.parts.headers) parts.headers c.in-Fresh.parts.status parts.status
+          c.in_ok-next-in-Fresh.next c.in_ok-next-in-Fresh.ensures.value,
     )
 
 pub returns-in-Fresh-clause-room : goal.returns-in-Fresh-clause-room

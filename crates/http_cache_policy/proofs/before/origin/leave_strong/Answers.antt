@@ -1,4 +1,6 @@
-use Rattle.std.proofs.Common.{◌≢◌, ℕ, Bool, List, [], not, filter, codes, is_some, slice_get, unwrap_or, string_bytes, refl, subst, ap, ◌∙◌}
+-- The strong tags make a header value, and where some are left, If-None-Match is there for them.
+use Rattle.std.proofs.Common.{◌≢◌, ℕ, Bool, List, [], not, filter, codes, is_some}
+use Rattle.std.proofs.Common.{slice_get, unwrap_or, string_bytes, refl, subst, ap, ◌∙◌}
 use Rattle.std.specs.FinMap as fin
 use Rattle.http_cache_fields.specs.Text.{begins_with}
 use Rattle.http_cache_fields.specs.Headers.{Headers, headers_of, values}
@@ -12,7 +14,8 @@ is_strong piece = not (begins_with (codes "W/") piece)
 
 pub replace_line-requires-clause-value : goal.replace_line-requires-clause-value
 replace_line-requires-clause-value c =
-    passed-is_value is_strong (values (headers_of c.args.headers.now) (codes "if-none-match")) (string_bytes c.in_ok-tags.tags)
+    passed-is_value is_strong (values (headers_of c.args.headers.now) (codes "if-none-match"))
+    (string_bytes c.in_ok-tags.tags)
     (c.in_ok-tags.ensures ∙ ap (λ ps. join (filter is_strong ps)) c.pieces_under.ensures)
 
 -- the name was there, and is still there without the date
@@ -22,5 +25,6 @@ replace_line-requires-clause-there c =
     let tags = c.in_ok-tags.ensures ∙ ap (λ ps. join (filter is_strong ps)) c.pieces_under.ensures in
     λ (some : string_bytes c.in_ok-tags.tags ≢ []).
     ap (λ o. is_some (slice_get (unwrap_or o []) 0))
-    (ap (λ (g : Headers). fin.get g (codes "if-none-match")) c.take_out.ensures ∙ get-remove_other h (codes "if-modified-since") (codes "if-none-match") refl)
+    (ap (λ (g : Headers). fin.get g (codes "if-none-match")) c.take_out.ensures
+    ∙ get-remove_other h (codes "if-modified-since") (codes "if-none-match") refl)
     ∙ passed-holds is_strong h (codes "if-none-match") (subst (λ (l : List ℕ). l ≢ []) tags some)

@@ -1,3 +1,4 @@
+-- The tags that are asked for and the stored one behind them make a header value.
 use Rattle.std.proofs.Common.{[], ◌∷◌, ◌++◌, codes, ap, ◌∙◌}
 use Rattle.http_cache_fields.specs.Headers.{headers_of, first, values}
 use Rattle.http_cache_fields.specs.Pieces.{join}
@@ -7,6 +8,9 @@ use Rattle.http_cache_policy.proofs.policy.CachePolicy.add_tag.Goals as goal
 pub value_of-requires : goal.value_of-requires
 value_of-requires c =
     let tag = c.in-Some.tag.now in
-    let text = first_text-is_text (first (headers_of c.response_headers.result.now) (codes "etag")) tag c.in-Some.ensures in
+    let stored = first (headers_of c.response_headers.result.now) (codes "etag") in
+    let text = first_text-is_text stored tag c.in-Some.ensures in
     with-is_value (values (headers_of c.args.headers.now) (codes "if-none-match")) tag c.into_bytes.result.items text
-    (ap (λ v. v.items) c.into_bytes.ensures.value ∙ c.in_ok-line.ensures ∙ ap (λ ps. join (ps ++ tag ∷ [])) c.pieces_under.ensures)
+    (ap (λ v. v.items) c.into_bytes.ensures.value
+    ∙ c.in_ok-line.ensures
+    ∙ ap (λ ps. join (ps ++ tag ∷ [])) c.pieces_under.ensures)

@@ -1,3 +1,4 @@
+-- After a 304 the stored status and body headers stay, no name is new; one age and date go out.
 use Rattle.std.proofs.Common.{◌≡◌, Bool, true, List, ℕ, ℤ, Result, Ok, Err, IfOk, length, sym, ap, subst, ◌∙◌}
 use Rattle.std.proofs.lemmas.Result.{IfOk-weaker}
 use Rattle.http_cache_fields.specs.Headers.{headers_of, values, IsAbsent}
@@ -13,7 +14,8 @@ use Rattle.http_cache_policy.proofs.NextLemmas.{next-status, next-adds_none, nex
 use Rattle.http_cache_policy.proofs.policy.CachePolicy.after_response.Given as given
 use Rattle.http_cache_policy.proofs.policy.CachePolicy.after_response.Goals as goal
 
-both_ok : {T E : Type 0} (r : Result T E) {P Q R : T → Type 0} → IfOk r P → IfOk r Q → ((x : T) → P x → Q x → R x) → IfOk r R
+both_ok : {T E : Type 0} (r : Result T E) {P Q R : T → Type 0}
+    → IfOk r P → IfOk r Q → ((x : T) → P x → Q x → R x) → IfOk r R
 both_ok (Ok x) p q k = k x p q
 both_ok (Err e) p q k = tt
 
@@ -55,20 +57,26 @@ module _ (g : given.Over) (c : goal.After-answer_with g) where
       (λ answer which is yes. subst P (sym (is ∙ renewed-is (sym which ∙ yes))) p)
 
 pub returns-clause-policy : goal.returns-clause-policy
-returns-clause-policy g c = IfOk-weaker c.answer_with.result _ _ (λ answer is. is ∙ policy-is g c) c.answer_with.ensures.policy
+returns-clause-policy g c =
+    IfOk-weaker c.answer_with.result _ _ (λ answer is. is ∙ policy-is g c) c.answer_with.ensures.policy
 
 pub returns-clause-one_age_and_date : goal.returns-clause-one_age_and_date
 returns-clause-one_age_and_date g c =
     both_ok c.answer_with.result c.answer_with.ensures.policy c.answer_with.ensures.parts
-    (λ answer is fresh. subst (λ (p : Exchange). HasOneAgeAndDate p (now g c) (headers_of (parts_in answer).headers)) (sym is) (one_age_and_date fresh.headers))
+    (λ answer is fresh.
+    subst (λ (p : Exchange). HasOneAgeAndDate p (now g c) (headers_of (parts_in answer).headers)) (sym is)
+    (one_age_and_date fresh.headers))
 
 pub returns-clause-keeps_status : goal.returns-clause-keeps_status
 returns-clause-keeps_status g c =
-    where_selected g c (λ next. next.status ≡ c.args.self.now.status) (next-status (e g c) (request g c) (response g c) (now g c))
+    where_selected g c (λ next. next.status ≡ c.args.self.now.status)
+    (next-status (e g c) (request g c) (response g c) (now g c))
 
 pub returns-clause-adds_no_name : goal.returns-clause-adds_no_name
 returns-clause-adds_no_name g c =
-    where_selected g c (λ next. (name : List ℕ) → IsAbsent c.args.self.now.response_headers name → IsAbsent next.response_headers name)
+    where_selected g c
+    (λ next. (name : List ℕ) → IsAbsent c.args.self.now.response_headers name
+    → IsAbsent next.response_headers name)
     (next-adds_none (e g c) (request g c) (response g c) (now g c))
 
 pub returns-clause-keeps_body : goal.returns-clause-keeps_body
@@ -79,7 +87,9 @@ returns-clause-keeps_body g c =
     (next-body (e g c) (request g c) (response g c) (now g c))
 
 pub returns-clause-full : goal.returns-clause-full
-returns-clause-full g c = λ is. subst (λ (p : Exchange). RefusesFreshHeaders p (now g c)) (policy-is g c) (c.answer_with.ensures.full is)
+returns-clause-full g c = λ is.
+    subst (λ (p : Exchange). RefusesFreshHeaders p (now g c)) (policy-is g c) (c.answer_with.ensures.full is)
 
 pub returns-clause-unprintable : goal.returns-clause-unprintable
-returns-clause-unprintable g c = λ is. subst (λ (p : Exchange). HasNoDate p (now g c)) (policy-is g c) (c.answer_with.ensures.unprintable is)
+returns-clause-unprintable g c = λ is.
+    subst (λ (p : Exchange). HasNoDate p (now g c)) (policy-is g c) (c.answer_with.ensures.unprintable is)

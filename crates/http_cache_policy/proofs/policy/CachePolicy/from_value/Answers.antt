@@ -1,3 +1,4 @@
+-- A value that is read is of an exchange, and the policy is what is kept of that one.
 use Rattle.std.proofs.Common.{ap, ◌∙◌}
 use Rattle.serde_json.specs.View.{view}
 use Rattle.http_cache_rules.specs.Exchange.{exchange_in}
@@ -10,4 +11,5 @@ returns-clause-reads c = (exchange_in c.in_ok-parts.parts, c.in_ok-parts.ensures
 
 pub returns-clause-value : goal.returns-clause-value
 returns-clause-value c = λ e is.
-    c.in_ok-policy.ensures.value ∙ ap kept_exchange (IsStored-unique (view c.args.value.now) _ e c.in_ok-parts.ensures.found is)
+    c.in_ok-policy.ensures.value
+    ∙ ap kept_exchange (IsStored-unique (view c.args.value.now) _ e c.in_ok-parts.ensures.found is)

@@ -1,3 +1,4 @@
+-- Where cargo cult is ignored, a policy stores the response's directives without it.
 use Rattle.std.proofs.Common.{◌≡◌, ap, ◌∙◌, rules}
 use Rattle.std.proofs.lemmas.Result.{IfOk-weaker}
 use Rattle.http_cache_fields.specs.Headers.{headers_of}
@@ -10,7 +11,8 @@ use Rattle.http_cache_policy.proofs.policy.CachePolicy.new_options.Goals as goal
 pub returns-clause-without_cargo_cult : goal.returns-clause-without_cargo_cult
 returns-clause-without_cargo_cult g c =
     let handed_in : Exchange =
-    exchange_of (g.Req.RequestLike.seen c.args.req.now) (g.Res.ResponseLike.seen c.args.res.now) (options_of c.args.opts) c.args.response_time.nanosecond in
+    exchange_of (g.Req.RequestLike.seen c.args.req.now) (g.Res.ResponseLike.seen c.args.res.now)
+    (options_of c.args.opts) c.args.response_time.nanosecond in
     let parts : Exchange = record {
       target = c.in_ok-uri.field-0;
       method = c.in_ok-clone.field-0;
@@ -22,4 +24,5 @@ returns-clause-without_cargo_cult g c =
     } in
     let same : parts ≡ handed_in = search rules in
     λ ignores marks. IfOk-weaker c.from_details.result _ _
-    (λ policy is. ap stored_directives (is ∙ ap kept_exchange same) ∙ kept-directives handed_in ignores marks) c.from_details.ensures.value
+    (λ policy is. ap stored_directives (is ∙ ap kept_exchange same) ∙ kept-directives handed_in ignores marks)
+    c.from_details.ensures.value

@@ -1,3 +1,4 @@
+-- A request takes the response where it asks for no validation and the age is below the bound.
 use Rattle.std.proofs.Common.{◌≡◌, true, not, ◌&&◌, rules, sym, ap, ◌∙◌}
 use Rattle.http_cache_fields.specs.Headers.{headers_of}
 use Rattle.http_cache_rules.specs.Asks.{asks_of, asked_directives, has_no_cache}

@@ -1,3 +1,4 @@
+-- What is written reads back as the stored exchange, with the target that the printed one spells.
 use Rattle.std.proofs.Common.{◌↔◌, sym, subst}
 use Rattle.serde_json.specs.Data.{Data}
 use Rattle.serde_json.specs.View.{view}
@@ -12,7 +13,8 @@ returns-clause-reads_back c = λ e.
     let stored = c.args.self.now in
     let written : IsWrittenFor (view c.in_ok-value_of_parts.field-0) stored =
     subst (IsWrittenFor (view c.in_ok-value_of_parts.field-0)) c.parts.ensures.value c.in_ok-value_of_parts.ensures in
-    subst (λ (d : Data). IsStored d e ↔ IsReadBack stored e) (sym written.is) (stored-reads_back stored e written.writable)
+    subst (λ (d : Data). IsStored d e ↔ IsReadBack stored e) (sym written.is)
+    (stored-reads_back stored e written.writable)
 
 pub returns-clause-restored : goal.returns-clause-restored
 returns-clause-restored c = λ e is.

@@ -1,3 +1,4 @@
+-- The first fresh one is chosen, else the first that matches; those that don't match don't count.
 use Rattle.std.proofs.Common.{◌≡◌, Some, true, false, sym, ap, ◌∙◌}
 use Rattle.http_cache_policy.specs.Answer.{is_fresh}
 use Rattle.http_cache_policy.specs.Bound.{is_fresh_by_bound}
@@ -6,7 +7,9 @@ use Rattle.http_cache_policy.specs.Verdict.{is_fresh_for}
 use Rattle.http_cache_semantics.specs.Variants.{chosen_place}
 use Rattle.http_cache_semantics.specs.declared.variants.Choice.TheVariants.{Fresh, Validate, Nothing}
 use Rattle.http_cache_semantics.proofs.PlaceLemmas.{at_place}
-use Rattle.http_cache_semantics.proofs.VariantsLemmas.{fresh-matches, fresh-is, stale-is, stale-matches, unchosen, unmatched-unchosen, same_choice}
+use Rattle.http_cache_semantics.proofs.VariantsLemmas.{fresh-matches, fresh-is}
+use Rattle.http_cache_semantics.proofs.VariantsLemmas.{stale-is, stale-matches, unchosen}
+use Rattle.http_cache_semantics.proofs.VariantsLemmas.{unmatched-unchosen, same_choice}
 use Rattle.http_cache_semantics.proofs.variants.Variants.choose.Goals as goal
 
 pub returns-in_default-clause-order : goal.returns-in_default-clause-order
@@ -36,7 +39,8 @@ returns-in-Fresh-clause-choice g c =
     let chosen : chosen_place request now es ≡ Some place = sym (sym c.in-Some.is ∙ c.chosen_place.ensures.value) in
     let e = c.stored_at.result.now in
     let fresh : is_fresh_for e request now ≡ true = sym c.in_ok-parts.ensures.verdict ∙ ap is_fresh c.in-Fresh.is in
-    fresh-is request now es place e c.in-Fresh.parts chosen c.stored_at.ensures fresh (rw c.in-Fresh.is at c.in_ok-parts.ensures.fresh)
+    fresh-is request now es place e c.in-Fresh.parts chosen c.stored_at.ensures fresh
+    (rw c.in-Fresh.is at c.in_ok-parts.ensures.fresh)
 
 pub returns-in-Fresh-clause-usable : goal.returns-in-Fresh-clause-usable
 returns-in-Fresh-clause-usable g c =
@@ -47,8 +51,8 @@ returns-in-Fresh-clause-usable g c =
     let e = c.stored_at.result.now in
     let fresh : is_fresh_for e request now ≡ true = sym c.in_ok-parts.ensures.verdict ∙ ap is_fresh c.in-Fresh.is in
     let below : is_fresh_by_bound e request now ≡ true = sym c.in_ok-parts.ensures.bound ∙ ap is_fresh c.in-Fresh.is in
-    at_place (λ e. (request_matches e request ≡ true) × (is_fresh_by_bound e request now ≡ true)) es place e c.stored_at.ensures
-    (fresh-matches e request now fresh, below)
+    at_place (λ e. (request_matches e request ≡ true) × (is_fresh_by_bound e request now ≡ true)) es place e
+    c.stored_at.ensures (fresh-matches e request now fresh, below)
 
 pub returns-in-Fresh-clause-order : goal.returns-in-Fresh-clause-order
 returns-in-Fresh-clause-order g c =
@@ -60,7 +64,8 @@ returns-in-Fresh-clause-order g c =
     let e = c.stored_at.result.now in
     let fresh : is_fresh_for e request now ≡ true = sym c.in_ok-parts.ensures.verdict ∙ ap is_fresh c.in-Fresh.is in
     same_choice es request now (Fresh place c.in-Fresh.parts)
-    (fresh-is request now es place e c.in-Fresh.parts chosen c.stored_at.ensures fresh (rw c.in-Fresh.is at c.in_ok-parts.ensures.fresh))
+    (fresh-is request now es place e c.in-Fresh.parts chosen c.stored_at.ensures fresh
+    (rw c.in-Fresh.is at c.in_ok-parts.ensures.fresh))
 
 pub returns-in-Fresh-clause-nothing : goal.returns-in-Fresh-clause-nothing
 returns-in-Fresh-clause-nothing g c =
@@ -82,7 +87,8 @@ returns-in-Stale-clause-choice g c =
     let chosen : chosen_place request now es ≡ Some place = sym (sym c.in-Some.is ∙ c.chosen_place.ensures.value) in
     let e = c.stored_at.result.now in
     let stale : is_fresh_for e request now ≡ false = sym c.in_ok-parts.ensures.verdict ∙ ap is_fresh c.in-Stale.is in
-    stale-is request now es place e c.in-Stale.request chosen c.stored_at.ensures stale (rw c.in-Stale.is at c.in_ok-parts.ensures.stale)
+    stale-is request now es place e c.in-Stale.request chosen c.stored_at.ensures stale
+    (rw c.in-Stale.is at c.in_ok-parts.ensures.stale)
 
 pub returns-in-Stale-clause-validates : goal.returns-in-Stale-clause-validates
 returns-in-Stale-clause-validates g c =
@@ -106,7 +112,8 @@ returns-in-Stale-clause-order g c =
     let e = c.stored_at.result.now in
     let stale : is_fresh_for e request now ≡ false = sym c.in_ok-parts.ensures.verdict ∙ ap is_fresh c.in-Stale.is in
     same_choice es request now (Validate place c.in-Stale.request)
-    (stale-is request now es place e c.in-Stale.request chosen c.stored_at.ensures stale (rw c.in-Stale.is at c.in_ok-parts.ensures.stale))
+    (stale-is request now es place e c.in-Stale.request chosen c.stored_at.ensures stale
+    (rw c.in-Stale.is at c.in_ok-parts.ensures.stale))
 
 pub returns-in-Stale-clause-nothing : goal.returns-in-Stale-clause-nothing
 returns-in-Stale-clause-nothing g c =
