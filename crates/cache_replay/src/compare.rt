@@ -4,7 +4,7 @@ ghost use Rattle.serde_json.specs.View.{view};
 ghost use Rattle.serde_json.specs.Find.{as_str};
 ghost use Rattle.cache_replay.specs.Compare.{are_texts, recorded_of, AreLinesOf};
 
-use http_cache_stored::form::holds_members;
+use http_cache_stored::form::has_members;
 use serde_json::Value;
 
 /// A script, and the lines that were recorded for it.
@@ -32,7 +32,7 @@ pub fn recorded_from(value: &Value) -> Option<Recorded<'_>>
 {
     let script = value.get("script")?;
     let lines = value.get("answer")?.as_array()?.as_slice();
-    if holds_members(value, 2) && are_texts(lines) {
+    if has_members(value, 2) && are_texts(lines) {
         Some(Recorded { script, lines })
     } else {
         None

@@ -68,7 +68,7 @@ fn write_out<W: Sink>(writer: &mut W, bytes: &[u8]) -> bool
 {
     let mut rest = bytes;
     while !rest.is_empty() {
-        match writer.put(rest) {
+        match writer.write_some(rest) {
             Ok(0) => return false,
             Ok(n) => rest = &rest[n..],
             Err(_) => return false,

@@ -3,7 +3,7 @@ ghost use Rattle.std.specs.Prelude.{◌≡◌};
 ghost use Rattle.http_cache_fields.specs.Headers.{headers_of};
 ghost use Rattle.http_cache_fields.specs.Pragma.{pragma_forbids, pragma_stands_in};
 
-use crate::headers::{first_text, holds};
+use crate::headers::{contains_key, first_text};
 use http_header::{CACHE_CONTROL, HeaderMap, PRAGMA};
 
 /// Whether the first Pragma asks for validation.
@@ -20,5 +20,5 @@ pub fn pragma_forbids(headers: &HeaderMap) -> bool
 pub fn pragma_stands_in(res: &HeaderMap) -> bool
     ensures { result ≡ pragma_stands_in (headers_of res.now) }
 {
-    !holds(res, CACHE_CONTROL) && pragma_forbids(res)
+    !contains_key(res, CACHE_CONTROL) && pragma_forbids(res)
 }

@@ -47,7 +47,7 @@ abbrev pub IsStepOf : Exchange → StepSeen → Outcome → Exchange → Type 0
 IsStepOf e (asks request moment) outcome f =
     IsAsked (IsAnswer e request moment) outcome × (f ≡ e)
 IsStepOf e (receives request response moment) outcome f =
-    IsReceived (λ holds parts. (holds ≡ selects e response) × IsFreshParts f moment parts) outcome
+    IsReceived (λ not_modified parts. (not_modified ≡ selects e response) × IsFreshParts f moment parts) outcome
     × (f ≡ next_exchange e request response moment)
 IsStepOf e restarts outcome f = (outcome ≡ Restarted) × IsRestored e f
 

@@ -4,7 +4,7 @@ use Rattle.std.specs.FinMap as fin
 use Rattle.http.specs.declared.request.Parts.{Parts}
 use Rattle.http.specs.declared.version.TheConstants.Version.{HTTP_11}
 use Rattle.http_cache_fields.specs.Text.{begins_with}
-use Rattle.http_cache_fields.specs.Headers.{Headers, headers_of, first_text, holds, set, set_unless_empty, RefusesName}
+use Rattle.http_cache_fields.specs.Headers.{Headers, headers_of, first_text, contains_key, set, set_unless_empty, RefusesName}
 use Rattle.http_cache_fields.specs.Pieces.{pieces_under, join}
 use Rattle.http_cache_rules.specs.Filter.{filtered_headers}
 use Rattle.http_cache_policy.specs.Messages.{RequestSeen}
@@ -30,7 +30,7 @@ with_tag (Some tag) h =
 abbrev pub with_date : Option (List ℕ) → Headers → Headers
 with_date None h = h
 with_date (Some date) h =
-    if holds h (codes "if-modified-since") then h else set h (codes "if-modified-since") date
+    if contains_key h (codes "if-modified-since") then h else set h (codes "if-modified-since") date
 
 -- the entity tags that are strong, on one line
 abbrev pub strong_tags : Headers → List ℕ
@@ -49,9 +49,9 @@ with_strong_alone h =
 abbrev pub forbids_weak : Exchange → Headers → Bool
 forbids_weak e h =
     not (bytes_eq e.method (codes "GET"))
-    || holds h (codes "accept-ranges")
-    || holds h (codes "if-match")
-    || holds h (codes "if-unmodified-since")
+    || contains_key h (codes "accept-ranges")
+    || contains_key h (codes "if-match")
+    || contains_key h (codes "if-unmodified-since")
 
 -- headers with the stored entity tag
 abbrev pub with_stored_tag : Exchange → Headers → Headers

@@ -15,7 +15,7 @@ use jiff::Timestamp;
 use std::alloc::Global;
 
 // One place for it, since the prover looks into each policy that is let go.
-fn put(policy: &mut CachePolicy, next: CachePolicy)
+fn set_policy(policy: &mut CachePolicy, next: CachePolicy)
     ensures { policy.new ≡ next }
 {
     *policy = next;
@@ -24,16 +24,16 @@ fn put(policy: &mut CachePolicy, next: CachePolicy)
 // The policy of an answer takes the place of the old one.
 fn take_over(policy: &mut CachePolicy, answer: AfterResponse) -> Outcome
     ensures policy { policy.new ≡ policy_in answer }
-    ensures outcome { IsReceived (λ holds parts.
-        (holds ≡ is_not_modified answer) × (parts ≡ parts_in answer)) result }
+    ensures outcome { IsReceived (λ not_modified parts.
+        (not_modified ≡ is_not_modified answer) × (parts ≡ parts_in answer)) result }
 {
     match answer {
         AfterResponse::NotModified(next, parts) => {
-            put(policy, next);
+            set_policy(policy, next);
             Outcome::NotModified(parts)
         }
         AfterResponse::Modified(next, parts) => {
-            put(policy, next);
+            set_policy(policy, next);
             Outcome::Modified(parts)
         }
     }
@@ -70,7 +70,7 @@ fn restart(alloc: Global, policy: &mut CachePolicy) -> Result<Outcome, CacheErro
     ensures always_printable { result ≢ Err CacheError.DateNotPrintable }
 {
     let value = policy.to_value(alloc)?;
-    put(policy, CachePolicy::from_value(alloc, &value)?);
+    set_policy(policy, CachePolicy::from_value(alloc, &value)?);
     Ok(Outcome::Restarted)
 }
 

@@ -1,5 +1,7 @@
 -- Which row of the table of lifetimes decides.
-use Rattle.std.proofs.Common.{◌≡◌, ℕ, ◌*◌, Bool, true, false, not, ◌&&◌, ◌||◌, List, [], ◌∷◌, ◌++◌, codes, Option, Some, None, is_some, option_map, unwrap_or, if◌then◌else◌, refl, sym, ap, ◌∙◌, true≢false}
+use Rattle.std.proofs.Common.{◌≡◌, ℕ, ◌*◌, Bool, true, false, not, ◌&&◌, ◌||◌, List, [], ◌∷◌, ◌++◌}
+use Rattle.std.proofs.Common.{codes, Option, Some, None, is_some, option_map, unwrap_or}
+use Rattle.std.proofs.Common.{if◌then◌else◌, refl, sym, ap, ◌∙◌, true≢false}
 use Rattle.std.specs.List.{list_any}
 use Rattle.std.specs.Option.{option_or}
 use Rattle.http_cache_fields.specs.Number.{number}
@@ -7,7 +9,9 @@ use Rattle.http_cache_fields.specs.Directives.{has}
 use Rattle.http_cache_rules.specs.DeltaSeconds.{said_by_number, said_by_value, seconds_in}
 use Rattle.http_cache_rules.specs.Exchange.{Exchange, stored_directives}
 use Rattle.http_cache_rules.specs.Storing.{is_storable}
-use Rattle.http_cache_rules.specs.Lifetimes.{Row, applies, first_row, has_own_cookies, varies_always, immutable_floor, zero_rows, seconds_rows, date_rows, lifetime}
+use Rattle.http_cache_rules.specs.Lifetimes.{Row, applies, first_row, has_own_cookies}
+use Rattle.http_cache_rules.specs.Lifetimes.{varies_always, immutable_floor, zero_rows}
+use Rattle.http_cache_rules.specs.Lifetimes.{seconds_rows, date_rows, lifetime}
 use Rattle.http_cache_rules.specs.Lifetimes as table
 
 -- rows of which none applies don't count

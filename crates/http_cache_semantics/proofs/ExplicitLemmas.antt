@@ -3,7 +3,7 @@ use Rattle.std.proofs.Common.{◌≡◌, ◌-◌, ℕ, ℤ, Bool, true, false, n
 use Rattle.std.proofs.Common.{codes, bytes_eq, is_some, slice_get, Option, Some, None, unwrap_or, if◌then◌else◌}
 use Rattle.std.proofs.Common.{refl, sym, ap, ◌∙◌, arith, true≢false}
 use Rattle.std.specs.List.{list_any}
-use Rattle.http_cache_fields.specs.Headers.{Headers, values, holds, last_only}
+use Rattle.http_cache_fields.specs.Headers.{Headers, values, contains_key, last_only}
 use Rattle.http_cache_fields.specs.Pieces.{pieces_of_values, pieces_under}
 use Rattle.http_cache_fields.specs.Directives.{Directive, value_under, has, text_under, set_directive}
 use Rattle.http_cache_fields.specs.Directives.{directives, cache_control}
@@ -97,7 +97,7 @@ held-from_one : (vs : List (List ℕ)) → length vs ≡ 1 → is_some (slice_ge
 held-from_one [] e = absurd (omega (arith, e))
 held-from_one (v ∷ vs) e = refl
 
-plain-where_held : (h : Headers) (ds : List Directive) → holds h (codes "cache-control") ≡ true
+plain-where_held : (h : Headers) (ds : List Directive) → contains_key h (codes "cache-control") ≡ true
     → with_pragma h ds ≡ ds
 unfolding with_pragma
 plain-where_held h ds held = ap (λ b. if not b && pragma_forbids h then set_directive ds no_cache else ds) held
@@ -174,10 +174,10 @@ module _ (request : RequestSeen) (e : Exchange) (now : ℤ) (h : Headers)
       (ap (λ ds. e.options.ignores_cargo_cult && has_cargo_cult ds) reads-same
       ∙ settled-unmarked e.options.ignores_cargo_cult e.response_headers same_headers)
 
-  held-before : holds e.response_headers control ≡ true
+  held-before : contains_key e.response_headers control ≡ true
   held-before = held-from_one (values e.response_headers control) explicit.one_value
 
-  held-after : holds h control ≡ true
+  held-after : contains_key h control ≡ true
   held-after = ap (λ vs. is_some (slice_get vs 0)) control-stays ∙ held-before
 
   pub directives-same : stored_directives handed ≡ stored_directives e
@@ -210,8 +210,8 @@ module _ (request : RequestSeen) (e : Exchange) (now : ℤ) (h : Headers)
 
   explicit-same : has_explicit_expiration handed ≡ has_explicit_expiration e
   explicit-same =
-      explicit-any (stored_directives handed) directives-same (holds h (codes "expires"))
-      ∙ sym (explicit-any ds refl (holds e.response_headers (codes "expires")))
+      explicit-any (stored_directives handed) directives-same (contains_key h (codes "expires"))
+      ∙ sym (explicit-any ds refl (contains_key e.response_headers (codes "expires")))
 
   -- storability, by whether the response says when it expires and by its directives
   abbrev storable_by : Bool → List Directive → Bool
@@ -245,7 +245,7 @@ module _ (request : RequestSeen) (e : Exchange) (now : ℤ) (h : Headers)
   still_no_cookies : has_cookies handed ≡ false
   still_no_cookies =
       ap (λ (xs : List Directive). e.options.shared && has_own_cookies h xs) directives-same
-      ∙ cookies_by shared (holds h (codes "set-cookie")) (holds e.response_headers (codes "set-cookie"))
+      ∙ cookies_by shared (contains_key h (codes "set-cookie")) (contains_key e.response_headers (codes "set-cookie"))
       (not (has ds (codes "public") || has ds (codes "immutable")))
       (λ there. was-there (is_gone (codes "set-cookie")) (values e.response_headers (codes "set-cookie"))
       (sym (ap (λ vs. is_some (slice_get vs 0)) (under (codes "set-cookie") refl refl refl refl)) ∙ there))

@@ -28,7 +28,7 @@ position-fails {X} p xs k x none at =
 -- what holds of it holds at the place
 pub at_place : {X : Type 0} (P : X → Type 0) (xs : List X) (i : ℕ) (x : X)
     → slice_get xs i ≡ Some x → P x → IsSomeAnd (slice_get xs i) P
-at_place {X} P xs i x at holds = subst (λ (o : Option X). IsSomeAnd o P) (sym at) holds
+at_place {X} P xs i x at contains_key = subst (λ (o : Option X). IsSomeAnd o P) (sym at) contains_key
 
 -- ---- one element more in front
 

@@ -9,7 +9,7 @@ ghost use Rattle.http_cache_stored.specs.Stored.{stored_form, IsStored};
 ghost use Rattle.http_cache_stored.specs.ReadBack.{IsWrittenFor};
 
 use crate::form::{
-    holds_members, moment_from_value, options_from_value, value_of_moment, value_of_options,
+    has_members, moment_from_value, options_from_value, value_of_moment, value_of_options,
 };
 use crate::headers::{headers_from_value, value_of_headers};
 use crate::refusal::Unread;
@@ -44,7 +44,7 @@ fn stored_members(value: &Value) -> Option<StoredMembers<'_>>
       response_time = m.response_time.nanosecond;
     }) result ≡ stored_form (view value.now) }
 {
-    if !holds_members(value, 7) {
+    if !has_members(value, 7) {
         return None;
     }
     Some(StoredMembers {

@@ -108,7 +108,7 @@ impl Write for Gate {
 }
 
 impl Sink for Gate {
-    fn put(&mut self, buf: &[u8]) -> io::Result<usize> {
+    fn write_some(&mut self, buf: &[u8]) -> io::Result<usize> {
         self.write(buf)
     }
 }

@@ -7,7 +7,7 @@ use crate::policy::CachePolicy;
 use http::header::{AGE, DATE, HeaderValue, WARNING};
 use http::{HeaderMap, Version, response};
 use http_cache_fields::CacheError;
-use http_cache_fields::headers::{add, put, value_of};
+use http_cache_fields::headers::{append, insert, value_of};
 use http_cache_rules::dates::print_date;
 use http_cache_rules::filter::filter;
 use jiff::Timestamp;
@@ -42,7 +42,7 @@ impl CachePolicy {
             return Ok(out);
         }
         let warning = HeaderValue::from_static("113 - \"rfc7234 5.5.4\"");
-        add(&mut out, WARNING, warning)?;
+        append(&mut out, WARNING, warning)?;
         Ok(out)
     }
 
@@ -65,12 +65,12 @@ impl CachePolicy {
     {
         let mut headers = self.warned_headers(alloc, now)?;
         let age = HeaderValue::from_u64(alloc, self.age(now).as_secs())?;
-        put(&mut headers, AGE, age)?;
+        insert(&mut headers, AGE, age)?;
         let Some(date) = print_date(now) else {
             return Err(CacheError::DateNotPrintable);
         };
         let date = value_of(Vec::from_slice(alloc, &date)?)?;
-        put(&mut headers, DATE, date)?;
+        insert(&mut headers, DATE, date)?;
         Ok(response::Parts {
             status: self.stored_status(),
             version: Version::HTTP_11,

@@ -11,7 +11,7 @@ use http::header::{
 use http::{HeaderMap, request};
 use http_cache_fields::CacheError;
 use http_cache_fields::headers::{
-    copy_of_map, first_text, holds, put, replace_line, take_out, value_of,
+    contains_key, copy_of_map, first_text, insert, remove, replace_line, value_of,
 };
 use http_cache_fields::join::{join_with, join_without};
 use http_cache_fields::pieces::pieces_under;
@@ -22,8 +22,8 @@ use std::alloc::{AllocError, Global};
 fn take_out_conditions(headers: &mut HeaderMap)
     ensures { headers_of headers.new ≡ without_conditions (headers_of headers.old) }
 {
-    take_out(headers, IF_NONE_MATCH);
-    take_out(headers, IF_MODIFIED_SINCE);
+    remove(headers, IF_NONE_MATCH);
+    remove(headers, IF_MODIFIED_SINCE);
 }
 
 // Leaves strong validators alone. No name is new.
@@ -31,7 +31,7 @@ fn leave_strong(alloc: Global, headers: &mut HeaderMap) -> Result<(), AllocError
     ensures { OnOk result (headers_of headers.new ≡ with_strong_alone (headers_of headers.old)) }
 {
     let tags = join_without(alloc, pieces_under(headers, IF_NONE_MATCH), "W/")?;
-    take_out(headers, IF_MODIFIED_SINCE);
+    remove(headers, IF_MODIFIED_SINCE);
     replace_line(headers, IF_NONE_MATCH, tags)
 }
 
@@ -50,7 +50,7 @@ impl CachePolicy {
             return Ok(());
         };
         let line = join_with(alloc, pieces_under(headers, IF_NONE_MATCH), tag)?;
-        put(headers, IF_NONE_MATCH, value_of(line.into_bytes())?)
+        insert(headers, IF_NONE_MATCH, value_of(line.into_bytes())?)
     }
 
     // Asks for the stored date, where none is asked for.
@@ -63,14 +63,14 @@ impl CachePolicy {
         ensures known { IfErr result (λ e.
             (e ≡ CacheError.HeaderMapFull) ⊎ (e ≡ CacheError.Memory)) }
     {
-        if holds(headers, IF_MODIFIED_SINCE) {
+        if contains_key(headers, IF_MODIFIED_SINCE) {
             return Ok(());
         }
         let Some(date) = first_text(self.response_headers(), LAST_MODIFIED) else {
             return Ok(());
         };
         let value = value_of(Vec::from_slice(alloc, date.as_bytes())?)?;
-        put(headers, IF_MODIFIED_SINCE, value)
+        insert(headers, IF_MODIFIED_SINCE, value)
     }
 
     // Whether a weak validator won't do.
@@ -78,9 +78,9 @@ impl CachePolicy {
         ensures { result ≡ forbids_weak self.now (headers_of headers.now) }
     {
         self.stored_method().as_str() != "GET"
-            || holds(headers, ACCEPT_RANGES)
-            || holds(headers, IF_MATCH)
-            || holds(headers, IF_UNMODIFIED_SINCE)
+            || contains_key(headers, ACCEPT_RANGES)
+            || contains_key(headers, IF_MATCH)
+            || contains_key(headers, IF_UNMODIFIED_SINCE)
     }
 
     // Puts the stored validators that will do into the headers that go on.
@@ -117,7 +117,7 @@ impl CachePolicy {
             (e ≡ CacheError.HeaderMapFull) ⊎ (e ≡ CacheError.Memory)) }
     {
         let mut headers = filter(alloc, incoming)?;
-        take_out(&mut headers, IF_RANGE);
+        remove(&mut headers, IF_RANGE);
         if self.is_storable() {
             self.add_validators(alloc, &mut headers)?;
         } else {

@@ -40,7 +40,7 @@ returns-in-Ok-eq0-clause-begun g c =
     let rest = c.loop-rest.rest.now in
     let some : 0 < length rest = grind (arith, common_steps) in
     let before = g.W.Write.contents c.args.writer.now in
-    let after = g.W.Write.contents c.put.new.self in
+    let after = g.W.Write.contents c.write_some.new.self in
     let now = g.W.Write.contents c.loop-rest.writer in
     let none : Appends now after [] =
     subst (λ (n : ℕ). Appends now after (take n rest)) c.in-Ok-eq0.field-0-test c.in-Ok-eq0.ensures.bytes in
@@ -53,6 +53,6 @@ returns-in-Err-clause-begun g c =
     let rest = c.loop-rest.rest.now in
     let some : 0 < length rest = grind (arith, common_steps) in
     let before = g.W.Write.contents c.args.writer.now in
-    let after = g.W.Write.contents c.put.new.self in
+    let after = g.W.Write.contents c.write_some.new.self in
     λ _. begins before after c.args.bytes.now done rest split some
     (Appends-kept before _ after done appended c.in-Err.ensures.bytes)

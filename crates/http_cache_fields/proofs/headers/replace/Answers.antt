@@ -1,7 +1,7 @@
 -- A name that is there is never refused a value in place of its own.
 use Rattle.std.proofs.Common.{ap, ◌∙◌}
 use Rattle.http_cache_fields.specs.Headers.{headers_of}
-use Rattle.http_cache_fields.proofs.HeadersLemmas.{headers_of-insert, ContainsKey-from_holds}
+use Rattle.http_cache_fields.proofs.HeadersLemmas.{headers_of-insert, ContainsKey-from_contains_key}
 use Rattle.http_cache_fields.proofs.headers.replace.Goals as goal
 
 pub returns : goal.returns
@@ -13,5 +13,5 @@ returns g c =
 pub unreachable-requires : goal.unreachable-requires
 unreachable-requires g c =
     let no = c.in-Err.ensures.replaces
-    (ContainsKey-from_holds c.args.map.now (g.K.AsHeaderName.name c.args.name) c.requires.there) in
+    (ContainsKey-from_contains_key c.args.map.now (g.K.AsHeaderName.name c.args.name) c.requires.there) in
     cc

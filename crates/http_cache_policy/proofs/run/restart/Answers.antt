@@ -15,7 +15,7 @@ returns-clause-step c =
       (
         read.0,
         subst (λ (d : Data). Reads d read.0) c.in_ok-value.ensures.value read.1,
-        c.put.ensures ∙ c.in_ok-from_value.ensures.value read.0 read.1,
+        c.set_policy.ensures ∙ c.in_ok-from_value.ensures.value read.0 read.1,
       ),
     )
 
@@ -23,8 +23,10 @@ pub returns-clause-renews : goal.returns-clause-renews
 returns-clause-renews c =
     let read = c.in_ok-from_value.ensures.reads in
     let e = c.args.policy.now in
-    let renewed : c.put.new.policy ≡ with_target e read.0.target =
-    c.put.ensures ∙ c.in_ok-from_value.ensures.value read.0 read.1 ∙ c.in_ok-value.ensures.restored read.0 read.1 in
+    let renewed : c.set_policy.new.policy ≡ with_target e read.0.target =
+    c.set_policy.ensures
+    ∙ c.in_ok-from_value.ensures.value read.0 read.1
+    ∙ c.in_ok-value.ensures.restored read.0 read.1 in
     subst (IsRenewalOf e) (sym renewed) (renewal-same e (with_target e read.0.target) refl refl)
 
 pub returns-in_err-from_value-clause-lost : goal.returns-in_err-from_value-clause-lost

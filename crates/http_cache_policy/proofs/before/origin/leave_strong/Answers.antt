@@ -6,7 +6,7 @@ use Rattle.http_cache_fields.specs.Text.{begins_with}
 use Rattle.http_cache_fields.specs.Headers.{Headers, headers_of, values}
 use Rattle.http_cache_fields.specs.Pieces.{join}
 use Rattle.http_cache_fields.proofs.HeadersLemmas.{get-remove_other}
-use Rattle.http_cache_fields.proofs.JoinLemmas.{passed-is_value, passed-holds}
+use Rattle.http_cache_fields.proofs.JoinLemmas.{passed-is_value, passed-contains_key}
 use Rattle.http_cache_policy.proofs.before.origin.leave_strong.Goals as goal
 
 abbrev is_strong : List ℕ → Bool
@@ -25,6 +25,6 @@ replace_line-requires-clause-there c =
     let tags = c.in_ok-tags.ensures ∙ ap (λ ps. join (filter is_strong ps)) c.pieces_under.ensures in
     λ (some : string_bytes c.in_ok-tags.tags ≢ []).
     ap (λ o. is_some (slice_get (unwrap_or o []) 0))
-    (ap (λ (g : Headers). fin.get g (codes "if-none-match")) c.take_out.ensures
+    (ap (λ (g : Headers). fin.get g (codes "if-none-match")) c.remove.ensures
     ∙ get-remove_other h (codes "if-modified-since") (codes "if-none-match") refl)
-    ∙ passed-holds is_strong h (codes "if-none-match") (subst (λ (l : List ℕ). l ≢ []) tags some)
+    ∙ passed-contains_key is_strong h (codes "if-none-match") (subst (λ (l : List ℕ). l ≢ []) tags some)

@@ -20,18 +20,18 @@ returns-clause-fresh c =
     let printed : c.in_ok-age.age.bytes ≡ age_text e now = ap (λ v. v.bytes) c.in_ok-age.ensures ∙ ap decimal seconds in
     let dated : c.in_ok-date.date.bytes ≡ c.in-Some.date =
     ap (λ v. v.bytes) c.in_ok-date.ensures ∙ c.in_ok-from_slice.ensures.items in
-    let with_age : headers_of c.put.new.map ≡ aged_headers e now =
-    c.in_ok-put.ensures.ok ∙ (λ i. set (before i) (codes "age") (printed i)) in
+    let with_age : headers_of c.insert.new.map ≡ aged_headers e now =
+    c.in_ok-insert.ensures.ok ∙ (λ i. set (before i) (codes "age") (printed i)) in
     record {
       status = c.stored_status.ensures;
       version = refl;
       headers = record {
         warning_fits = c.in_ok-headers.ensures.room;
-        age_fits = subst (λ (h : Headers). ¬ (RefusesName h (codes "age"))) before c.in_ok-put.ensures.room;
+        age_fits = subst (λ (h : Headers). ¬ (RefusesName h (codes "age"))) before c.in_ok-insert.ensures.room;
         printable = c.in-Some.ensures.printable.0 refl;
-        date_fits = subst (λ (h : Headers). ¬ (RefusesName h (codes "date"))) with_age c.in_ok-put-2.ensures.room;
+        date_fits = subst (λ (h : Headers). ¬ (RefusesName h (codes "date"))) with_age c.in_ok-insert-2.ensures.room;
         date = c.in-Some.date;
         is_date = c.in-Some.ensures.text;
-        headers = c.in_ok-put-2.ensures.ok ∙ (λ i. set (with_age i) (codes "date") (dated i));
+        headers = c.in_ok-insert-2.ensures.ok ∙ (λ i. set (with_age i) (codes "date") (dated i));
       };
     }

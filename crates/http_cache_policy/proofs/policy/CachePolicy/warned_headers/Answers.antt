@@ -15,5 +15,5 @@ returns-clause-ok c =
     let bytes : c.from_static-warning.result.bytes ≡ heuristic_warning = search rules in
     let before : headers_of c.in_ok-out.out ≡ stored =
     c.in_ok-out.ensures.ok ∙ ap filtered_headers c.response_headers.ensures in
-    c.in_ok-add.ensures.ok ∙ (λ i. with_further_value (before i) (codes "warning") (bytes i))
+    c.in_ok-append.ensures.ok ∙ (λ i. with_further_value (before i) (codes "warning") (bytes i))
     ∙ sym (ap (λ b. if b then with_further_value stored (codes "warning") heuristic_warning else stored) due)
