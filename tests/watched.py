@@ -20,7 +20,7 @@ def built(name):
 def library_in(folder):
     """The library, compiled into a folder."""
     library = f"{folder}/refuse.so"
-    subprocess.run(["cc", "-O2", "-shared", "-fPIC", "-o", library, ROOT / ".ci/refuse.c"], check=True)
+    subprocess.run(["cc", "-O2", "-shared", "-fPIC", "-o", library, ROOT / "tests/refuse.c"], check=True)
     return library
 
 
