@@ -1,5 +1,6 @@
 -- Each stored response that a run uses has an age.
-use Rattle.std.proofs.Common.{◌≡◌, ℤ, ◌<◌, ◌/◌, ◌^◌, List, [], ◌∷◌, map, Some, is_some, slice_get, option_and_then, codes, sym, ap, ◌∙◌, subst, arith}
+use Rattle.std.proofs.Common.{◌≡◌, ℤ, ◌<◌, ◌/◌, ◌^◌, List, [], ◌∷◌, map, Some, is_some, slice_get}
+use Rattle.std.proofs.Common.{option_and_then, codes, sym, ap, ◌∙◌, subst, arith}
 use Rattle.std.specs.List.{AllByRecursion}
 use Rattle.http_cache_policy.specs.Headers.{Headers, headers_of, first_text}
 use Rattle.http_cache_policy.specs.Text.{text_of}
@@ -21,12 +22,16 @@ unfolding age_at
 seconds_fit e now = omega arith
 
 -- the one value of the age is its text
-first_age : (e : Exchange) (now : ℤ) (h : Headers) → HasOneAgeAndDate e now h → first_text h (codes "age") ≡ Some (age_text e now)
+first_age : (e : Exchange) (now : ℤ) (h : Headers) → HasOneAgeAndDate e now h
+    → first_text h (codes "age") ≡ Some (age_text e now)
 first_age e now h told =
-    ap (λ vs. option_and_then text_of (slice_get vs 0)) told.age ∙ text_of-decimal (age_at e now / 1_000_000_000) (seconds_fit e now)
+    ap (λ vs. option_and_then text_of (slice_get vs 0)) told.age
+    ∙ text_of-decimal (age_at e now / 1_000_000_000) (seconds_fit e now)
 
-step-has_age : (e : Exchange) (step : StepSeen) (o : Outcome) (f : Exchange) → IsStepOf e step o f → HasAge (outcome_seen o)
-step-has_age e (asks r now) (Asked (Fresh parts)) f h = ap is_some (first_age e now (headers_of parts.headers) (one_age_and_date h.0.fresh.headers))
+step-has_age : (e : Exchange) (step : StepSeen) (o : Outcome) (f : Exchange)
+    → IsStepOf e step o f → HasAge (outcome_seen o)
+step-has_age e (asks r now) (Asked (Fresh parts)) f h =
+    ap is_some (first_age e now (headers_of parts.headers) (one_age_and_date h.0.fresh.headers))
 step-has_age e step (Asked (Stale parts matched)) f h = tt
 step-has_age e (receives r s now) (Asked (Fresh parts)) f h = absurd h.0
 step-has_age e restarts o f h = subst (λ (p : Outcome). HasAge (outcome_seen p)) (sym h.0) tt

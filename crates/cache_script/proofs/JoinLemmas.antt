@@ -1,5 +1,6 @@
 -- The lines of outcomes, one more at a time.
-use Rattle.std.proofs.Common.{◌≡◌, ℕ, suc, zero, ◌+◌, ◌<◌, List, [], ◌∷◌, ◌++◌, map, take, length, get_or, sym, ap, ◌∙◌, subst, arith}
+use Rattle.std.proofs.Common.{◌≡◌, ℕ, suc, zero, ◌+◌, ◌<◌, List, [], ◌∷◌, ◌++◌, map, take, length}
+use Rattle.std.proofs.Common.{get_or, sym, ap, ◌∙◌, subst, arith}
 use Rattle.std.specs.List.{AllByRecursion, AllZip, concat}
 use Rattle.std.proofs.lemmas.List.{append-nil}
 use Rattle.std.proofs.lemmas.List.Folds.{concat-append}
@@ -22,7 +23,8 @@ pub one_more : (os : List Outcome) (i : ℕ) (o : Outcome) (text line : List ℕ
 one_more os i o text line lt is so_far one = record {
   lines = so_far.lines ++ line ∷ [];
   each =
-      subst (λ (seen : List OutcomeSeen). AllZip IsLine seen (so_far.lines ++ line ∷ [])) (sym (up_to_next outcome_seen os i o lt is))
+      subst (λ (seen : List OutcomeSeen). AllZip IsLine seen (so_far.lines ++ line ∷ []))
+      (sym (up_to_next outcome_seen os i o lt is))
       (zip_push IsLine (map outcome_seen (take i os)) so_far.lines (outcome_seen o) line so_far.each one);
   joined =
       ap (λ t. t ++ line) so_far.joined

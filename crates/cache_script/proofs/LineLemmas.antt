@@ -1,5 +1,6 @@
 -- The text of a line.
-use Rattle.std.proofs.Common.{◌≡◌, ℕ, ◌-◌, ◌/◌, ◌%◌, List, [], ◌++◌, Bool, replicate, length, decimal, codes, append_assoc, refl, ap, ◌∙◌, arith}
+use Rattle.std.proofs.Common.{◌≡◌, ℕ, ◌-◌, ◌/◌, ◌%◌, List, [], ◌++◌, Bool, replicate, length}
+use Rattle.std.proofs.Common.{decimal, codes, append_assoc, refl, ap, ◌∙◌, arith}
 use Rattle.std.proofs.lemmas.List.{append-nil}
 use Rattle.std.specs.Fmt.{format_spec, styled_decimal, padded_integral, char_count}
 use Rattle.cache_script.specs.Lines.{truth, nine_digits, storable_line}
@@ -8,16 +9,28 @@ use Rattle.cache_script.specs.Lines.{truth, nine_digits, storable_line}
 pub nine : (n : ℕ) → styled_decimal (format_spec 32 0 4 9 18446744073709551615) n ≡ nine_digits n
 unfolding padded_integral char_count
 nine n =
-    ap (λ k. replicate k 48 ++ (decimal n ++ [])) (omega arith) ∙ ap (λ digits. replicate (9 - length (decimal n)) 48 ++ digits) (append-nil (decimal n))
+    ap (λ k. replicate k 48 ++ (decimal n ++ [])) (omega arith)
+    ∙ ap (λ digits. replicate (9 - length (decimal n)) 48 ++ digits) (append-nil (decimal n))
 
 regroup : (a b d e f g k : List ℕ) → a ++ (b ++ (d ++ (e ++ (f ++ (g ++ k))))) ≡ a ++ b ++ d ++ (e ++ f ++ g) ++ k
 regroup a b d e f g k = simp append_assoc refl
 
 -- the pieces of a line are the line
-pub line_of_pieces : (storable : Bool) (seconds nanos left : ℕ) → seconds ≡ left / 1_000_000_000 → nanos ≡ left % 1_000_000_000
-    → codes "storable " ++ (truth storable ++ (codes " ttl " ++ (decimal seconds ++ (codes "." ++ (nine_digits nanos ++ codes "\n"))))) ≡ storable_line storable left
+pub line_of_pieces : (storable : Bool) (seconds nanos left : ℕ)
+    → seconds ≡ left / 1_000_000_000 → nanos ≡ left % 1_000_000_000
+    → codes "storable "
+    ++ (truth storable ++ (codes " ttl " ++ (decimal seconds
+    ++ (codes "." ++ (nine_digits nanos ++ codes "\n")))))
+    ≡ storable_line storable left
 unfolding storable_line
 line_of_pieces storable seconds nanos left e f =
-    ap (λ s. codes "storable " ++ (truth storable ++ (codes " ttl " ++ (decimal s ++ (codes "." ++ (nine_digits nanos ++ codes "\n")))))) e
-    ∙ ap (λ n. codes "storable " ++ (truth storable ++ (codes " ttl " ++ (decimal (left / 1_000_000_000) ++ (codes "." ++ (nine_digits n ++ codes "\n")))))) f
-    ∙ regroup (codes "storable ") (truth storable) (codes " ttl ") (decimal (left / 1_000_000_000)) (codes ".") (nine_digits (left % 1_000_000_000)) (codes "\n")
+    ap (λ s.
+    codes "storable " ++ (truth storable ++ (codes " ttl " ++ (decimal s
+    ++ (codes "." ++ (nine_digits nanos ++ codes "\n"))))))
+    e
+    ∙ ap (λ n.
+    codes "storable " ++ (truth storable ++ (codes " ttl " ++ (decimal (left / 1_000_000_000)
+    ++ (codes "." ++ (nine_digits n ++ codes "\n"))))))
+    f
+    ∙ regroup (codes "storable ") (truth storable) (codes " ttl ") (decimal (left / 1_000_000_000))
+    (codes ".") (nine_digits (left % 1_000_000_000)) (codes "\n")

@@ -31,7 +31,8 @@ AreStepLines-unique : (e : Exchange) (steps : List StepSeen) (x y : List ℕ)
     → AreStepLines e steps x → AreStepLines e steps y → x ≡ y
 AreStepLines-unique e steps x y h k =
     let same = (run-unique e steps h.outcomes k.outcomes h.last k.last h.run k.run).0 in
-    AreLines-unique (map outcome_seen k.outcomes) x y (subst (λ (os : List OutcomeSeen). AreLines os x) same h.lines) k.lines
+    AreLines-unique (map outcome_seen k.outcomes) x y
+    (subst (λ (os : List OutcomeSeen). AreLines os x) same h.lines) k.lines
 
 pub IsOutput-unique : (s : ScriptSeen) (t u : List ℕ) → IsOutput s t → IsOutput s u → t ≡ u
 IsOutput-unique s t u h k =

@@ -1,5 +1,6 @@
 -- A value, and so a text, is one script at most.
-use Rattle.std.proofs.Common.{◌≡◌, ℕ, ℤ, List, Option, Some, None, IsSomeAnd, codes, inl, inr, refl, sym, ap, ◌∙◌, subst}
+use Rattle.std.proofs.Common.{◌≡◌, ℕ, ℤ, List, Option, Some, None, IsSomeAnd, codes, inl, inr, refl}
+use Rattle.std.proofs.Common.{sym, ap, ◌∙◌, subst}
 use Rattle.std.proofs.lemmas.Bool.{cases_Bool}
 use Rattle.serde_json.specs.Data.{Data}
 use Rattle.serde_json.specs.Read.{read as read_text}
@@ -10,7 +11,8 @@ use Rattle.http_cache_stored.specs.Form.{has_members}
 use Rattle.http_cache_stored.specs.Pairs.{Pair, HoldsPairs}
 use Rattle.cache_script.specs.Pairs.{IsPair, IsHeaderList}
 use Rattle.http_cache_policy.specs.Messages.{RequestSeen, ResponseSeen}
-use Rattle.cache_script.specs.Messages.{RequestForm, ResponseForm, request_form, response_form, IsRequestOf, IsResponseOf, IsRequest, IsResponse}
+use Rattle.cache_script.specs.Messages.{RequestForm, ResponseForm, request_form, response_form}
+use Rattle.cache_script.specs.Messages.{IsRequestOf, IsResponseOf, IsRequest, IsResponse}
 use Rattle.http_cache_policy.specs.Steps.{StepSeen, asks, receives, restarts}
 use Rattle.cache_script.specs.Steps.{ask_form, receive_form, AskForm, ReceiveForm, IsAskOf, IsReceiveOf, IsStep}
 use Rattle.cache_script.specs.Script.{ScriptSeen, ScriptForm, script_form, IsScriptOf, IsScriptData, IsScript}

@@ -1,3 +1,4 @@
+-- The text is the script's only output; but for memory, the cache refuses where its steps stop.
 use Rattle.std.proofs.Common.{rules, string_bytes}
 use Rattle.cache_script.specs.Script.{ScriptSeen, script_seen, start_of}
 use Rattle.http_cache_policy.specs.RunRefused.{RefusesStep, HasUndatedStep, LosesTarget, StopsFor}
@@ -16,12 +17,15 @@ returns-in-Ok-output-clause-found c =
 
 pub returns-clause-full : goal.returns-clause-full
 returns-clause-full c = λ e.
-    script_that (λ s. StopsFor RefusesStep (start_of s) s.steps) c.args.bytes.now (script_seen c.in-Ok.script) c.in-Ok.ensures.found (c.in-Err.ensures.full (search rules))
+    script_that (λ s. StopsFor RefusesStep (start_of s) s.steps) c.args.bytes.now
+    (script_seen c.in-Ok.script) c.in-Ok.ensures.found (c.in-Err.ensures.full (search rules))
 
 pub returns-clause-unprintable : goal.returns-clause-unprintable
 returns-clause-unprintable c = λ e.
-    script_that (λ s. StopsFor HasUndatedStep (start_of s) s.steps) c.args.bytes.now (script_seen c.in-Ok.script) c.in-Ok.ensures.found (c.in-Err.ensures.unprintable (search rules))
+    script_that (λ s. StopsFor HasUndatedStep (start_of s) s.steps) c.args.bytes.now
+    (script_seen c.in-Ok.script) c.in-Ok.ensures.found (c.in-Err.ensures.unprintable (search rules))
 
 pub returns-clause-malformed : goal.returns-clause-malformed
 returns-clause-malformed c = λ e.
-    script_that (λ s. StopsFor LosesTarget (start_of s) s.steps) c.args.bytes.now (script_seen c.in-Ok.script) c.in-Ok.ensures.found (c.in-Err.ensures.malformed (search rules))
+    script_that (λ s. StopsFor LosesTarget (start_of s) s.steps) c.args.bytes.now
+    (script_seen c.in-Ok.script) c.in-Ok.ensures.found (c.in-Err.ensures.malformed (search rules))

@@ -1,3 +1,4 @@
+-- The text so far is the lines of the outcomes before the one at hand.
 use Rattle.std.proofs.Common.{map, take, string_bytes}
 use Rattle.http_cache_policy.specs.Steps.{outcome_seen}
 use Rattle.cache_script.specs.Lines.{AreLines}

@@ -1,3 +1,4 @@
+-- The line has the seconds that are left, a point and nine digits for the nanoseconds.
 use Rattle.std.proofs.Common.{◌∙◌}
 use Rattle.std.specs.Duration.{as_nanos}
 use Rattle.std.proofs.lemmas.Result.{IfOk-weaker}
@@ -8,5 +9,8 @@ pub returns : goal.returns
 returns c =
     let nanos = c.subsec_nanos-nanos.result in
     IfOk-weaker c.format.result _ _
-    (λ line h. rw (c.laid_out.ensures, nine nanos) at h ∙ line_of_pieces c.args.storable c.as_secs-seconds.result nanos (as_nanos c.args.left) c.as_secs-seconds.ensures c.subsec_nanos-nanos.ensures)
+    (λ line h.
+    rw (c.laid_out.ensures, nine nanos) at h
+    ∙ line_of_pieces c.args.storable c.as_secs-seconds.result nanos (as_nanos c.args.left)
+    c.as_secs-seconds.ensures c.subsec_nanos-nanos.ensures)
     c.format.ensures.ok

@@ -1,3 +1,4 @@
+-- So far each read gave a byte at least, and all that came is kept and is not too long.
 use Rattle.std.proofs.Common.{◌≤◌, length}
 use Rattle.std.specs.Io.KnownBytes.{Consumes}
 use Rattle.cache_script.specs.Script.{longest_script}

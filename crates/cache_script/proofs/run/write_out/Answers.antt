@@ -1,4 +1,7 @@
-use Rattle.std.proofs.Common.{◌≡◌, ℕ, ◌-◌, ◌<◌, List, [], ◌++◌, Option, arith, length, take, drop, sym, ap, subst, ◌∙◌, append_assoc, append-nil, length-append, take-append-drop}
+-- Each write takes a front of what is left; where one fails, only a beginning has gone out.
+use Rattle.std.proofs.Common.{◌≡◌, ℕ, ◌-◌, ◌<◌, List, [], ◌++◌, Option, arith, length, take, drop}
+use Rattle.std.proofs.Common.{sym, ap, subst, ◌∙◌, append_assoc, append-nil, length-append}
+use Rattle.std.proofs.Common.{take-append-drop}
 use Rattle.std.proofs.lemmas.List.{take_rest}
 use Rattle.std.proofs.lemmas.Grind.{common_steps}
 use Rattle.std.proofs.Math.Seq.{take-append_seam}
@@ -7,9 +10,13 @@ use Rattle.std.specs.Io.KnownBytes.{Appends}
 use Rattle.cache_script.specs.Output.{IsBegun}
 use Rattle.cache_script.proofs.run.write_out.Goals as goal
 
-moves_front : (all done rest : List ℕ) (n : ℕ) → all ≡ done ++ rest → all ≡ (done ++ take n rest) ++ take (length rest - n) (drop n rest)
+moves_front : (all done rest : List ℕ) (n : ℕ) → all ≡ done ++ rest
+    → all ≡ (done ++ take n rest) ++ take (length rest - n) (drop n rest)
 moves_front all done rest n e =
-    e ∙ ap (λ l. done ++ l) (sym (take-append-drop n rest)) ∙ sym (append_assoc done (take n rest) (drop n rest)) ∙ ap (λ l. (done ++ take n rest) ++ l) (sym (take_rest rest n))
+    e
+    ∙ ap (λ l. done ++ l) (sym (take-append-drop n rest))
+    ∙ sym (append_assoc done (take n rest) (drop n rest))
+    ∙ ap (λ l. (done ++ take n rest) ++ l) (sym (take_rest rest n))
 
 -- what went out is a beginning where something is left
 begins : (before after : Option (List ℕ)) (all done rest : List ℕ) → all ≡ done ++ rest → 0 < length rest
@@ -30,7 +37,11 @@ loop-rest-preserved g c =
     let n = c.in-Ok.n in
     let some : 0 < length rest = grind (arith, common_steps) in
     record {
-      split = (done ++ take n rest, moves_front _ done rest n split, Appends-trans _ _ _ _ _ appended c.in-Ok.ensures.bytes);
+      split = (
+        done ++ take n rest,
+        moves_front _ done rest n split,
+        Appends-trans _ _ _ _ _ appended c.in-Ok.ensures.bytes,
+      );
       steady = λ h. (c.in-Ok.ensures.steady (c.loop-rest.invariant.steady h) some).1;
     }
 
