@@ -1,10 +1,10 @@
 //! Each growth of a call refused in turn.
-use cases::hunger::Hunger;
 use growths::{CALLS, Call, Case};
 use http_cache_semantics::CacheError;
 use std::alloc::Global;
 use std::process::Abort;
 use std::test::Fail;
+use test_cases::hunger::Hunger;
 
 // More than any call has growths.
 const MOST_REFUSALS: u32 = 100_000;

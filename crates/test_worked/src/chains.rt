@@ -1,0 +1,192 @@
+//! Chains of caches.
+use http::{request, response};
+use http_cache_semantics::chain::chain;
+use http_cache_semantics::{CacheOptions, CachePolicy};
+use jiff::Timestamp;
+use std::alloc::Global;
+use std::fmt::Write;
+use std::process::Abort;
+use std::test::Fail;
+use test_cases::fixtures::{after, field, request, response};
+use test_cases::scripts::with_further;
+
+// The response's headers and the request's, the moments of the hand-overs, how many caches are
+// reached, the moment at which the first and the last are looked at, and of each of the two whether
+// it may be stored, its age and what is left of its lifetime. Moments count from when the response
+// came, and all is in nanoseconds.
+fn cases() -> &'static str {
+    "Cache-Control: max-age=1000||1500000000|2|3000000000|true 3000000000 997000000000|true 2500000000 997500000000
+     Cache-Control: max-age=1000|||1|3000000000|true 3000000000 997000000000|true 3000000000 997000000000
+     Cache-Control: max-age=1000||1500000000 1002000000000 3000000000|2|3000000000|true 3000000000 997000000000|true 2500000000 997500000000
+     Cache-Control: no-store ~ Cache-Control: max-age=10|Cache-Control: max-stale|1000000000|1|1000000000|false 1000000000 0|false 1000000000 0
+     Age: 18446744073709551615|Cache-Control: max-stale|1000000000|2|1000000000|true 18446744073709551615999999999 0|true 18446744073709551615000000000 0
+     Date: Mon, 01 Jan 2024 00:00:00 GMT ~ Expires: Mon, 01 Jan 2024 00:01:40 GMT||40000000000|2|40000000000|true 40000000000 60000000000|true 40000000000 20000000000
+     Cache-Control: public, max-age=10 ~ Set-Cookie: x=1 ~ X: 1 ~ X: 2||500000000 1900000000 3200000000|4|4000000000|true 4000000000 6000000000|true 2800000000 7200000000
+     Cache-Control: max-age=10 ~ Connection: Cache-Control||1000000000 2000000000|2|1000000000|true 1000000000 9000000000|true 1000000000 0
+     Cache-Control: public, max-age=10 ~ Set-Cookie: x=1 ~ Set-Cookie: y=2 ~ Vary: Accept ~ Vary: Host ~ Connection: Set-Cookie, Vary||1000000000|2|1000000000|true 1000000000 9000000000|true 1000000000 9000000000"
+}
+
+// The moments of a field, with blanks between them.
+fn moments(alloc: Global, text: &str) -> Result<Vec<Timestamp>, Fail> {
+    let mut moments = Vec::new(alloc);
+    for nanos in text.split(' ') {
+        if !nanos.is_empty() {
+            moments.push(after(nanos.parse::<i64>()?)?)?;
+        }
+    }
+    Ok(moments)
+}
+
+fn looks_so(
+    rt: &impl Abort,
+    alloc: Global,
+    case: &str,
+    wanted: &str,
+    policy: &CachePolicy,
+) -> Result<(), Fail> {
+    let now = after(field(case, 4)?.parse::<i64>()?)?;
+    let storable = policy.is_storable();
+    let age = policy.age(now).as_nanos();
+    let left = policy.time_to_live(now).as_nanos();
+    let got = format!(in alloc; "{storable} {age} {left}")?;
+    assert_eq!(rt; got.as_str(), wanted, "at {case}");
+    Ok(())
+}
+
+fn is_chain(
+    rt: &impl Abort,
+    alloc: Global,
+    case: &str,
+    policies: &[CachePolicy],
+) -> Result<(), Fail> {
+    assert_eq!(rt;
+        policies.len(),
+        field(case, 3)?.parse::<usize>()?,
+        "at {case}"
+    );
+    let first = policies.first().ok_or("no policy")?;
+    looks_so(rt, alloc, case, field(case, 5)?, first)?;
+    let last = policies.last().ok_or("no policy")?;
+    looks_so(rt, alloc, case, field(case, 6)?, last)
+}
+
+fn chained(
+    rt: &impl Abort,
+    alloc: Global,
+    case: &str,
+    req: &request::Parts,
+    res: &response::Parts,
+) -> Result<(), Fail> {
+    let received = after(0)?;
+    let moments = moments(alloc, field(case, 2)?)?;
+    let policies = chain(alloc, req, res, CacheOptions::default(), received, &moments)?;
+    is_chain(rt, alloc, case, &policies)
+}
+
+fn contains_key(rt: &impl Abort, alloc: Global, case: &str) -> Result<(), Fail> {
+    let asking = request(alloc, "GET", field(case, 1)?)?;
+    let answer = response(alloc, "200", field(case, 0)?)?;
+    chained(rt, alloc, case, &asking, &answer)
+}
+
+#[test]
+fn chains_of_caches(rt: HostRuntime) -> Result<(), Fail> {
+    for case in cases().lines() {
+        contains_key(&rt, rt.alloc(), case)?;
+    }
+    Ok(())
+}
+
+// Of each policy its age four seconds after the response came, and its stored form.
+fn add_policy(alloc: Global, text: &mut String, policy: &CachePolicy) -> Result<(), Fail> {
+    let age = policy.age(after(4_000_000_000)?).as_nanos();
+    let form = policy.to_value(alloc)?.to_string(alloc)?;
+    writeln!(text, "{age} {form}")?;
+    Ok(())
+}
+
+fn told_of(
+    alloc: Global,
+    req: &request::Parts,
+    res: &response::Parts,
+    moments: &[Timestamp],
+) -> Result<String, Fail> {
+    let mut text = String::new(alloc);
+    match chain(alloc, req, res, CacheOptions::default(), after(0)?, moments) {
+        Ok(policies) => {
+            for policy in policies.as_slice() {
+                add_policy(alloc, &mut text, policy)?;
+            }
+        }
+        Err(e) => write!(text, "{e}")?,
+    }
+    Ok(text)
+}
+
+// The policies of a chain, a line each, or why it is refused.
+fn told(alloc: Global, lines: &str, asked: &str, nanos: &str) -> Result<String, Fail> {
+    let asking = request(alloc, "GET", asked)?;
+    let answer = response(alloc, "200", lines)?;
+    let moments = moments(alloc, nanos)?;
+    told_of(alloc, &asking, &answer, &moments)
+}
+
+#[test]
+fn ages_along_a_chain(rt: HostRuntime) -> Result<(), Fail> {
+    let lines = "Cache-Control: public, max-age=10 ~ Set-Cookie: x=1 ~ X: 1 ~ X: 2";
+    let text = told(rt.alloc(), lines, "", "500000000 1900000000 3200000000")?;
+    let mut ages = ["4000000000 ", "3500000000 ", "3100000000 ", "2800000000 "].iter();
+    for line in text.lines() {
+        let age = ages.next().ok_or("a further policy")?;
+        assert!(rt; line.starts_with(age), "{age}: {line}");
+    }
+    assert!(rt; ages.next().is_none());
+    Ok(())
+}
+
+#[test]
+fn what_the_next_cache_keeps(rt: HostRuntime) -> Result<(), Fail> {
+    let lines =
+        "Cache-Control: public, max-age=10 ~ Set-Cookie: x=1 ~ Set-Cookie: y=2 ~ Vary: Accept ~ Vary: Host ~ Connection: Set-Cookie, Vary";
+    let text = told(rt.alloc(), lines, "", "1000000000")?;
+    let (first, next) = text.split_once("\n").ok_or("one policy")?;
+    assert!(rt; first.contains("\"set-cookie\":") && first.contains("\"vary\":"));
+    assert!(rt; !next.contains("\"set-cookie\":") && !next.contains("\"vary\":"));
+    let lines = "Cache-Control: public ~ Cache-Control: max-age=10";
+    let text = told(rt.alloc(), lines, "", "1000000000")?;
+    let (_, next) = text.split_once("\n").ok_or("one policy")?;
+    assert!(rt; next.contains("\"cache-control\":[\"6d61782d6167653d3130\"],\"date\":"));
+    Ok(())
+}
+
+#[test]
+fn chain_whose_answer_has_no_date(rt: HostRuntime) -> Result<(), Fail> {
+    let lines = "Cache-Control: max-age=10";
+    let text = told(rt.alloc(), lines, "", "1000000000 -3913056001000000000")?;
+    assert_eq!(rt; text.as_str(), "date not printable");
+    Ok(())
+}
+
+// Each cache adds an age and a date, and one that is guessed to be fresh past a day a warning.
+#[test]
+fn full_headers_at_a_middle_cache(rt: HostRuntime) -> Result<(), Fail> {
+    let dated = "Last-Modified: Sat, 23 Sep 2023 00:00:00 GMT";
+    let lines = with_further(rt.alloc(), dated, "24573")?;
+    let two = told(rt.alloc(), lines.as_str(), "", "1000000000")?;
+    assert_eq!(rt; two.lines().count(), 2);
+    let moments = "1000000000 86401000000000 86402000000000";
+    let text = told(rt.alloc(), lines.as_str(), "", moments)?;
+    assert_eq!(rt; text.as_str(), "header map full");
+    Ok(())
+}
+
+#[test]
+fn full_headers_of_the_last_request(rt: HostRuntime) -> Result<(), Fail> {
+    let asked = with_further(rt.alloc(), "", "24576")?;
+    let lines = "Cache-Control: max-age=1 ~ ETag: \"e\"";
+    let two = told(rt.alloc(), lines, asked.as_str(), "500000000")?;
+    assert_eq!(rt; two.lines().count(), 2);
+    let text = told(rt.alloc(), lines, asked.as_str(), "500000000 5000000000")?;
+    assert_eq!(rt; text.as_str(), "header map full");
+    Ok(())
+}

@@ -1,0 +1,152 @@
+//! Several variants of a response, of which one answers.
+use http::{request, response};
+use http_cache_semantics::directives::GetHeaderStr;
+use http_cache_semantics::{CachePolicy, Choice, Variants};
+use std::alloc::{AllocError, Global};
+use std::fmt::Write;
+use std::process::Abort;
+use std::test::Fail;
+use test_cases::fixtures::{after, field, request, response};
+
+// What is done in turn: a policy is added for a request with its headers and those of its response,
+// the policy at a place is taken out, or a request with headers asks so many seconds after the
+// responses came, and what is chosen. Requests for the origin are told by their headers.
+fn steps() -> &'static str {
+    r#"ask|Accept: a|5|nothing
+       add|Accept: a|Cache-Control: max-age=100 ~ ETag: "1" ~ Vary: Accept|1
+       add|Accept: b|Cache-Control: max-age=100 ~ ETag: "1" ~ Vary: Accept|2
+       ask|Accept: a|5|fresh 1 age 5
+       ask|Accept: b|5|fresh 0 age 5
+       ask|Accept: c|5|nothing
+       add|Accept: a|Cache-Control: max-age=1 ~ ETag: "3" ~ Vary: Accept|3
+       ask|Accept: a|5|fresh 2 age 5
+       ask|Accept: a|200|validate 0 accept: a if-none-match: "3" of 2
+       ask|Accept: b|200|validate 1 accept: b if-none-match: "1" of 2
+       remove|0|1|2
+       ask|Accept: a|200|validate 1 accept: a if-none-match: "1" of 2
+       add|Accept: a|Cache-Control: max-age=100 ~ Vary: Accept|3
+       ask|Accept: a|5|fresh 0 age 5
+       ask|Accept: a ~ Cache-Control: no-cache|5|validate 0 accept: a if-none-match: none of 2
+       remove|3|0|3
+       remove|1|100|2
+       ask|Accept: b|5|nothing
+       ask|Accept: a|200|validate 0 accept: a if-none-match: none of 1
+       remove|0|100|1
+       remove|0|100|0
+       ask|Accept: a|5|nothing"#
+}
+
+fn text<'a>(headers: &'a http::HeaderMap, name: &str) -> &'a str {
+    headers.get_str(name).unwrap_or("none")
+}
+
+fn add_choice(told: &mut String, choice: &Choice) -> Result<(), AllocError> {
+    match choice {
+        Choice::Fresh { place, parts } => {
+            write!(told, "fresh {place} age {}", text(&parts.headers, "age"))
+        }
+        Choice::Validate { place, request } => {
+            let accept = text(&request.headers, "accept");
+            let tags = text(&request.headers, "if-none-match");
+            let count = request.headers.len();
+            write!(
+                told,
+                "validate {place} accept: {accept} if-none-match: {tags} of {count}"
+            )
+        }
+        Choice::Nothing => told.push_str("nothing"),
+    }
+}
+
+fn asked(
+    alloc: Global,
+    variants: &Variants,
+    asking: &request::Parts,
+    seconds: &str,
+) -> Result<String, Fail> {
+    let now = after(seconds.parse::<i64>()?.saturating_mul(1_000_000_000))?;
+    let mut told = String::new(alloc);
+    add_choice(&mut told, &variants.choose(alloc, asking, now)?)?;
+    Ok(told)
+}
+
+fn policy_of(
+    alloc: Global,
+    asking: &request::Parts,
+    answer: &response::Parts,
+) -> Result<CachePolicy, Fail> {
+    Ok(CachePolicy::new(alloc, asking, answer, after(0)?)?)
+}
+
+fn policy(alloc: Global, asked: &str, told: &str) -> Result<CachePolicy, Fail> {
+    let asking = request(alloc, "GET", asked)?;
+    let answer = response(alloc, "200", told)?;
+    policy_of(alloc, &asking, &answer)
+}
+
+fn put(variants: &mut Variants, policy: CachePolicy) -> Result<(), Fail> {
+    match variants.add(policy) {
+        Ok(()) => Ok(()),
+        Err((_, e)) => Err(e)?,
+    }
+}
+
+// The seconds that the policy had left which was taken out, or 0 where there was none.
+fn taken(variants: &mut Variants, place: usize) -> Result<u64, Fail> {
+    match variants.remove(place) {
+        Some(policy) => Ok(policy.time_to_live(after(0)?).as_secs()),
+        None => Ok(0),
+    }
+}
+
+fn take_step(
+    rt: &impl Abort,
+    alloc: Global,
+    variants: &mut Variants,
+    step: &str,
+) -> Result<(), Fail> {
+    let (first, second, wanted) = (field(step, 1)?, field(step, 2)?, field(step, 3)?);
+    if step.trim_start().starts_with("ask") {
+        let asking = request(alloc, "GET", first)?;
+        let told = asked(alloc, variants, &asking, second)?;
+        assert_eq!(rt; told.as_str(), wanted, "at {step}");
+        return Ok(());
+    }
+    if step.trim_start().starts_with("add") {
+        put(variants, policy(alloc, first, second)?)?;
+    } else {
+        let left = taken(variants, first.parse::<usize>()?)?;
+        assert_eq!(rt; left, second.parse::<u64>()?, "at {step}");
+    }
+    let len = wanted.parse::<usize>()?;
+    assert_eq!(rt; variants.len(), len, "at {step}");
+    assert_eq!(rt; variants.is_empty(), len == 0, "at {step}");
+    assert_eq!(rt; variants.policy_at(len).is_none(), true, "at {step}");
+    Ok(())
+}
+
+#[test]
+fn choices_among_variants(rt: HostRuntime) -> Result<(), Fail> {
+    let mut variants = Variants::new(rt.alloc());
+    for step in steps().lines() {
+        take_step(&rt, rt.alloc(), &mut variants, step)?;
+    }
+    Ok(())
+}
+
+// The seconds that the policy at a place has left.
+fn left_at(variants: &Variants, place: usize) -> Result<u64, Fail> {
+    let policy = variants.policy_at(place).ok_or("no policy")?;
+    Ok(policy.time_to_live(after(0)?).as_secs())
+}
+
+#[test]
+fn the_newest_variant_comes_first(rt: HostRuntime) -> Result<(), Fail> {
+    let mut variants = Variants::new(rt.alloc());
+    for told in ["Cache-Control: max-age=1", "Cache-Control: max-age=2"] {
+        put(&mut variants, policy(rt.alloc(), "", told)?)?;
+    }
+    assert_eq!(rt; left_at(&variants, 0)?, 2);
+    assert_eq!(rt; left_at(&variants, 1)?, 1);
+    Ok(())
+}
