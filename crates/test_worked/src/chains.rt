@@ -83,7 +83,7 @@ fn chained(
     is_chain(rt, alloc, case, &policies)
 }
 
-fn contains_key(rt: &impl Abort, alloc: Global, case: &str) -> Result<(), Fail> {
+fn holds(rt: &impl Abort, alloc: Global, case: &str) -> Result<(), Fail> {
     let asking = request(alloc, "GET", field(case, 1)?)?;
     let answer = response(alloc, "200", field(case, 0)?)?;
     chained(rt, alloc, case, &asking, &answer)
@@ -92,7 +92,7 @@ fn contains_key(rt: &impl Abort, alloc: Global, case: &str) -> Result<(), Fail> 
 #[test]
 fn chains_of_caches(rt: HostRuntime) -> Result<(), Fail> {
     for case in cases().lines() {
-        contains_key(&rt, rt.alloc(), case)?;
+        holds(&rt, rt.alloc(), case)?;
     }
     Ok(())
 }

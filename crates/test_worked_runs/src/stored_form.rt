@@ -92,7 +92,7 @@ fn changed(alloc: Global, case: &str) -> Result<String, Fail> {
     Ok(format!(in alloc; "{front}{new}{back}")?)
 }
 
-fn contains_key(rt: &impl Abort, alloc: Global, case: &str) -> Result<(), Fail> {
+fn holds(rt: &impl Abort, alloc: Global, case: &str) -> Result<(), Fail> {
     let text = changed(alloc, case)?;
     let wanted = match field(case, 2)? {
         "same" => text.as_str(),
@@ -107,7 +107,7 @@ fn contains_key(rt: &impl Abort, alloc: Global, case: &str) -> Result<(), Fail> 
 #[test]
 fn changed_forms(rt: HostRuntime) -> Result<(), Fail> {
     for case in cases().lines() {
-        contains_key(&rt, rt.alloc(), case)?;
+        holds(&rt, rt.alloc(), case)?;
     }
     Ok(())
 }

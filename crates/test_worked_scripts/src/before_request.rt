@@ -86,7 +86,7 @@ fn script(alloc: Global, case: &str) -> Result<String, Fail> {
     exchange.script(alloc, step.as_str())
 }
 
-fn contains_key(rt: &impl Abort, alloc: Global, case: &str) -> Result<(), Fail> {
+fn holds(rt: &impl Abort, alloc: Global, case: &str) -> Result<(), Fail> {
     let script = script(alloc, case)?;
     let answer = field(case, 5)?;
     let wanted = format!(in alloc; "\n{answer}\n")?;
@@ -96,7 +96,7 @@ fn contains_key(rt: &impl Abort, alloc: Global, case: &str) -> Result<(), Fail> 
 #[test]
 fn answers_to_requests(rt: HostRuntime) -> Result<(), Fail> {
     for case in cases().lines() {
-        contains_key(&rt, rt.alloc(), case)?;
+        holds(&rt, rt.alloc(), case)?;
     }
     Ok(())
 }

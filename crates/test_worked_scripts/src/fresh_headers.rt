@@ -31,7 +31,7 @@ fn script(alloc: Global, case: &str) -> Result<String, Fail> {
     stored(field(case, 0)?).script(alloc, step.as_str())
 }
 
-fn contains_key(rt: &impl Abort, alloc: Global, case: &str) -> Result<(), Fail> {
+fn holds(rt: &impl Abort, alloc: Global, case: &str) -> Result<(), Fail> {
     let script = script(alloc, case)?;
     let headers = header_lines(alloc, field(case, 3)?)?;
     let wanted = format!(in alloc; "\n  status 200\n{headers}  state ")?;
@@ -41,7 +41,7 @@ fn contains_key(rt: &impl Abort, alloc: Global, case: &str) -> Result<(), Fail> 
 #[test]
 fn headers_of_fresh_answers(rt: HostRuntime) -> Result<(), Fail> {
     for case in cases().lines() {
-        contains_key(&rt, rt.alloc(), case)?;
+        holds(&rt, rt.alloc(), case)?;
     }
     Ok(())
 }

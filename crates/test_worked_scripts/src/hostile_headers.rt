@@ -226,7 +226,7 @@ fn wanted(alloc: Global, case: &str) -> Result<String, Fail> {
     Ok(format!(in alloc; "\n{outcome}\n{head}{lines}{state}end\n")?)
 }
 
-fn contains_key(rt: &impl Abort, alloc: Global, case: &str) -> Result<(), Fail> {
+fn holds(rt: &impl Abort, alloc: Global, case: &str) -> Result<(), Fail> {
     let script = script(alloc, case)?;
     let wanted = wanted(alloc, case)?;
     tells(rt, alloc, case, script.as_str(), wanted.as_str())
@@ -235,7 +235,7 @@ fn contains_key(rt: &impl Abort, alloc: Global, case: &str) -> Result<(), Fail> 
 #[test]
 fn values_of_each_kind(rt: HostRuntime) -> Result<(), Fail> {
     for case in cases().lines() {
-        contains_key(&rt, rt.alloc(), case)?;
+        holds(&rt, rt.alloc(), case)?;
     }
     Ok(())
 }

@@ -31,7 +31,7 @@ fn script(alloc: Global, case: &str) -> Result<String, Fail> {
     exchange.script(alloc, step.as_str())
 }
 
-fn contains_key(rt: &impl Abort, alloc: Global, case: &str) -> Result<(), Fail> {
+fn holds(rt: &impl Abort, alloc: Global, case: &str) -> Result<(), Fail> {
     let script = script(alloc, case)?;
     let headers = header_lines(alloc, field(case, 3)?)?;
     let state = field(case, 4)?;
@@ -42,7 +42,7 @@ fn contains_key(rt: &impl Abort, alloc: Global, case: &str) -> Result<(), Fail> 
 #[test]
 fn kept_headers_and_seconds_to_live(rt: HostRuntime) -> Result<(), Fail> {
     for case in cases().lines() {
-        contains_key(&rt, rt.alloc(), case)?;
+        holds(&rt, rt.alloc(), case)?;
     }
     Ok(())
 }

@@ -49,7 +49,7 @@ fn wanted(alloc: Global, case: &str) -> Result<String, Fail> {
     )?)
 }
 
-fn contains_key(rt: &impl Abort, alloc: Global, case: &str) -> Result<(), Fail> {
+fn holds(rt: &impl Abort, alloc: Global, case: &str) -> Result<(), Fail> {
     let script = script(alloc, case)?;
     let wanted = wanted(alloc, case)?;
     tells(rt, alloc, case, script.as_str(), wanted.as_str())
@@ -58,7 +58,7 @@ fn contains_key(rt: &impl Abort, alloc: Global, case: &str) -> Result<(), Fail> 
 #[test]
 fn requests_for_the_origin(rt: HostRuntime) -> Result<(), Fail> {
     for case in cases().lines() {
-        contains_key(&rt, rt.alloc(), case)?;
+        holds(&rt, rt.alloc(), case)?;
     }
     Ok(())
 }
