@@ -1,7 +1,8 @@
 //! Cases as scripts.
 //!
-//! A table is a text with one case a line and `|` between its fields. Headers are written
-//! `Name: value`, with `~` between them.
+//! A table is a text with `|` between the fields of a case and `~` between headers, which are
+//! written `Name: value`. Each case has a line; where cases go over several, blank lines separate
+//! them. Blanks and ends of lines around a field, a name or a value don't count.
 use crate::fixtures::START;
 use hex::encode;
 use std::alloc::Global;
@@ -43,7 +44,9 @@ impl Exchange<'_> {
         let request = request(alloc, self.method, self.asked)?;
         let response = response(alloc, self.status, self.told)?;
         Ok(format!(in alloc;
-            "{{\"options\":{{\"shared\":{shared},\"cache_heuristic\":[{above},{below}],\"immutable_min_time_to_live\":[86400,0],\"ignore_cargo_cult\":{cargo}}},\"received\":[{START},0],\"request\":{request},\"response\":{response},\"steps\":[{steps}]}}"
+            "{{\"options\":{{\"shared\":{shared},\"cache_heuristic\":[{above},{below}],\
+             \"immutable_min_time_to_live\":[86400,0],\"ignore_cargo_cult\":{cargo}}},\"received\":[{START},0],\
+             \"request\":{request},\"response\":{response},\"steps\":[{steps}]}}"
         )?)
     }
 }

@@ -15,15 +15,33 @@ use test_cases::scripts::with_further;
 // it may be stored, its age and what is left of its lifetime. Moments count from when the response
 // came, and all is in nanoseconds.
 fn cases() -> &'static str {
-    "Cache-Control: max-age=1000||1500000000|2|3000000000|true 3000000000 997000000000|true 2500000000 997500000000
-     Cache-Control: max-age=1000|||1|3000000000|true 3000000000 997000000000|true 3000000000 997000000000
-     Cache-Control: max-age=1000||1500000000 1002000000000 3000000000|2|3000000000|true 3000000000 997000000000|true 2500000000 997500000000
-     Cache-Control: no-store ~ Cache-Control: max-age=10|Cache-Control: max-stale|1000000000|1|1000000000|false 1000000000 0|false 1000000000 0
-     Age: 18446744073709551615|Cache-Control: max-stale|1000000000|2|1000000000|true 18446744073709551615999999999 0|true 18446744073709551615000000000 0
-     Date: Mon, 01 Jan 2024 00:00:00 GMT ~ Expires: Mon, 01 Jan 2024 00:01:40 GMT||40000000000|2|40000000000|true 40000000000 60000000000|true 40000000000 20000000000
-     Cache-Control: public, max-age=10 ~ Set-Cookie: x=1 ~ X: 1 ~ X: 2||500000000 1900000000 3200000000|4|4000000000|true 4000000000 6000000000|true 2800000000 7200000000
-     Cache-Control: max-age=10 ~ Connection: Cache-Control||1000000000 2000000000|2|1000000000|true 1000000000 9000000000|true 1000000000 0
-     Cache-Control: public, max-age=10 ~ Set-Cookie: x=1 ~ Set-Cookie: y=2 ~ Vary: Accept ~ Vary: Host ~ Connection: Set-Cookie, Vary||1000000000|2|1000000000|true 1000000000 9000000000|true 1000000000 9000000000"
+    "Cache-Control: max-age=1000||1500000000|
+     2|3000000000|true 3000000000 997000000000|true 2500000000 997500000000
+
+     Cache-Control: max-age=1000|||
+     1|3000000000|true 3000000000 997000000000|true 3000000000 997000000000
+
+     Cache-Control: max-age=1000||1500000000 1002000000000 3000000000|
+     2|3000000000|true 3000000000 997000000000|true 2500000000 997500000000
+
+     Cache-Control: no-store ~ Cache-Control: max-age=10|Cache-Control: max-stale|1000000000|
+     1|1000000000|false 1000000000 0|false 1000000000 0
+
+     Age: 18446744073709551615|Cache-Control: max-stale|1000000000|
+     2|1000000000|true 18446744073709551615999999999 0|true 18446744073709551615000000000 0
+
+     Date: Mon, 01 Jan 2024 00:00:00 GMT ~ Expires: Mon, 01 Jan 2024 00:01:40 GMT||40000000000|
+     2|40000000000|true 40000000000 60000000000|true 40000000000 20000000000
+
+     Cache-Control: public, max-age=10 ~ Set-Cookie: x=1 ~ X: 1 ~ X: 2||500000000 1900000000 3200000000|
+     4|4000000000|true 4000000000 6000000000|true 2800000000 7200000000
+
+     Cache-Control: max-age=10 ~ Connection: Cache-Control||1000000000 2000000000|
+     2|1000000000|true 1000000000 9000000000|true 1000000000 0
+
+     Cache-Control: public, max-age=10 ~ Set-Cookie: x=1 ~ Set-Cookie: y=2 ~ Vary: Accept ~ Vary: Host ~
+         Connection: Set-Cookie, Vary||1000000000|
+     2|1000000000|true 1000000000 9000000000|true 1000000000 9000000000"
 }
 
 // The moments of a field, with blanks between them.
@@ -91,7 +109,7 @@ fn holds(rt: &impl Abort, alloc: Global, case: &str) -> Result<(), Fail> {
 
 #[test]
 fn chains_of_caches(rt: HostRuntime) -> Result<(), Fail> {
-    for case in cases().lines() {
+    for case in cases().split("\n\n") {
         holds(&rt, rt.alloc(), case)?;
     }
     Ok(())
@@ -147,7 +165,8 @@ fn ages_along_a_chain(rt: HostRuntime) -> Result<(), Fail> {
 #[test]
 fn what_the_next_cache_keeps(rt: HostRuntime) -> Result<(), Fail> {
     let lines =
-        "Cache-Control: public, max-age=10 ~ Set-Cookie: x=1 ~ Set-Cookie: y=2 ~ Vary: Accept ~ Vary: Host ~ Connection: Set-Cookie, Vary";
+        "Cache-Control: public, max-age=10 ~ Set-Cookie: x=1 ~ Set-Cookie: y=2 ~ Vary: Accept ~ Vary: Host ~ \
+         Connection: Set-Cookie, Vary";
     let text = told(rt.alloc(), lines, "", "1000000000")?;
     let (first, next) = text.split_once("\n").ok_or("one policy")?;
     assert!(rt; first.contains("\"set-cookie\":") && first.contains("\"vary\":"));

@@ -88,7 +88,8 @@ fn by_dates() -> &'static str {
      |1704067200500|Last-Modified: Sun, 31 Dec 2023 23:58:20 GMT|10000
      2/3|1704067200500|Last-Modified: Sun, 31 Dec 2023 23:58:20 GMT|66000
      |1704067200000|Date: Mon, 01 Jan 2024 00:00:10 GMT~Expires: Mon, 01 Jan 2024 00:00:05 GMT|0
-     |1704067200000|Cache-Control: immutable~Date: Mon, 01 Jan 2024 00:00:10 GMT~Expires: Mon, 01 Jan 2024 00:00:05 GMT|86400000
+     |1704067200000|Cache-Control: immutable~Date: Mon, 01 Jan 2024 00:00:10 GMT~\
+         Expires: Mon, 01 Jan 2024 00:00:05 GMT|86400000
      |1704067200000|Cache-Control: immutable~Expires: Wed, 31 Dec 1969 23:59:50 GMT|86400000
      |1704067200000|Cache-Control: immutable~Last-Modified: Mon, 01 Jan 2024 00:00:01 GMT|86400000
      |1704067200000|Cache-Control: immutable~Last-Modified: Sat, 23 Sep 2023 00:00:00 GMT|864000000
@@ -98,7 +99,8 @@ fn by_dates() -> &'static str {
      |1704067200000|Last-Modified: Tue, 02 Jan 2024 00:00:00 GMT|0
      |1704067200000|Cache-Control: immutable~Last-Modified: Tue, 02 Jan 2024 00:00:00 GMT|86400000
      |1704067200000|Cache-Control: max-age=ÿ~Pragma: no-cache~Last-Modified: Sat, 23 Sep 2023 00:00:00 GMT|864000000
-     |1704067200000|Cache-Control: max-age=ÿ~Cache-Control: max-age=5~Pragma: no-cache~Last-Modified: Sat, 23 Sep 2023 00:00:00 GMT|5000
+     |1704067200000|Cache-Control: max-age=ÿ~Cache-Control: max-age=5~Pragma: no-cache~\
+         Last-Modified: Sat, 23 Sep 2023 00:00:00 GMT|5000
      |1704067200000|Cache-Control: immutable~Expires: ÿ|86400000
      |1704067200000|Expires: é~Last-Modified: Sat, 23 Sep 2023 00:00:00 GMT|864000000
      |1704067200000|Date: Tue, 01 Jan 2024 00:00:10 GMT~Expires: Mon, 01 Jan 2024 00:01:40 GMT|100000

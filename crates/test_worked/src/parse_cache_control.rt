@@ -63,7 +63,6 @@ fn directives_by_name(rt: HostRuntime) -> Result<(), Fail> {
     assert_eq!(rt; read.get("B"), Some(Some("X")));
     assert_eq!(rt; read.get("b"), Some(Some("X")));
     assert_eq!(rt; read.get("A"), Some(None));
-    assert_eq!(rt; read.text("B"), Some("X"));
     assert_eq!(rt; read.entry_at(1), Some(("b", Some("X"))));
     assert!(rt; read.entry_at(2).is_none());
     Ok(())

@@ -1,5 +1,5 @@
 //! The replay over readers and writers in memory.
-use cache_replay::lines::{Line, LineReader};
+use cache_replay::reader::{Line, LineReader};
 use cache_replay::run::{Tally, run};
 use std::alloc::Global;
 use std::io;
@@ -44,11 +44,22 @@ impl Write for Broken {
 }
 
 fn head() -> &'static str {
-    "{\"options\":{\"shared\":true,\"cache_heuristic\":[1,10],\"immutable_min_time_to_live\":[86400,0],\"ignore_cargo_cult\":false},\"received\":[1704067200,0],\"request\":{\"uri\":\"/a\",\"method\":\"GET\",\"headers\":[]},\"response\":{\"status\":200,\"headers\":[[\"Cache-Control\",\"max-age=10\"]]},\"steps\":"
+    concat!(
+        r#"{"options":{"shared":true,"cache_heuristic":[1,10],"immutable_min_time_to_live":[86400,0],"#,
+        r#""ignore_cargo_cult":false},"received":[1704067200,0],"request":{"uri":"/a","method":"GET","headers":[]},"#,
+        r#""response":{"status":200,"headers":[["Cache-Control","max-age=10"]]},"steps":"#,
+    )
 }
 
 fn steps() -> &'static str {
-    "[{\"ask\":{\"uri\":\"/a\",\"method\":\"GET\",\"headers\":[]},\"at\":[1704067205,500000000]},\"restart\",{\"ask\":{\"uri\":\"http://h:1/a?b\",\"method\":\"GET\",\"headers\":[[\"X\",\"2\"],[\"A\",\"\"]]},\"at\":[1704067210,0]},{\"receive\":{\"uri\":\"/a\",\"method\":\"GET\",\"headers\":[]},\"response\":{\"status\":304,\"headers\":[]},\"at\":[1704067210,0]},{\"receive\":{\"uri\":\"/b\",\"method\":\"GET\",\"headers\":[]},\"response\":{\"status\":500,\"headers\":[[\"B\",\"2\"],[\"Age\",\"4\"]]},\"at\":[1704067220,0]}]}"
+    concat!(
+        r#"[{"ask":{"uri":"/a","method":"GET","headers":[]},"at":[1704067205,500000000]},"restart","#,
+        r#"{"ask":{"uri":"http://h:1/a?b","method":"GET","headers":[["X","2"],["A",""]]},"at":[1704067210,0]},"#,
+        r#"{"receive":{"uri":"/a","method":"GET","headers":[]},"#,
+        r#""response":{"status":304,"headers":[]},"at":[1704067210,0]},"#,
+        r#"{"receive":{"uri":"/b","method":"GET","headers":[]},"#,
+        r#""response":{"status":500,"headers":[["B","2"],["Age","4"]]},"at":[1704067220,0]}]}"#,
+    )
 }
 
 // Lines of each kind but the last, which tells how a script ended.
@@ -181,10 +192,14 @@ fn compares(
 }
 
 fn cases() -> &'static str {
-    "[\"storable true ttl 10.000000000\",\"  state storable true age 0 ttl 10000000000 stale false\"]|1 scripts agree, 0 differ
-     [\"storable true ttl 10.000000000\"]|line 1 differs at line 2 of its answer~  wanted no line~  got:   state storable true age 0 ttl 10000000000 stale false~0 scripts agree, 1 differ
-     [\"storable true ttl 10.000000000\",\"  state storable true age 0 ttl 10000000000 stale false\",\"end\"]|line 1 differs at line 3 of its answer~  wanted: end~  got no line~0 scripts agree, 1 differ
-     [\"storable true ttl 11.000000000\"]|line 1 differs at line 1 of its answer~  wanted: storable true ttl 11.000000000~  got: storable true ttl 10.000000000~0 scripts agree, 1 differ
+    "[\"storable true ttl 10.000000000\",\"  state storable true age 0 ttl 10000000000 stale false\"]|\
+         1 scripts agree, 0 differ
+     [\"storable true ttl 10.000000000\"]|line 1 differs at line 2 of its answer~  wanted no line~  \
+         got:   state storable true age 0 ttl 10000000000 stale false~0 scripts agree, 1 differ
+     [\"storable true ttl 10.000000000\",\"  state storable true age 0 ttl 10000000000 stale false\",\"end\"]|\
+         line 1 differs at line 3 of its answer~  wanted: end~  got no line~0 scripts agree, 1 differ
+     [\"storable true ttl 11.000000000\"]|line 1 differs at line 1 of its answer~  \
+         wanted: storable true ttl 11.000000000~  got: storable true ttl 10.000000000~0 scripts agree, 1 differ
      [1]|line 1 has no recorded answer~0 scripts agree, 1 differ
      {}|line 1 has no recorded answer~0 scripts agree, 1 differ"
 }

@@ -1,6 +1,6 @@
 //! Whole runs by `replay`, told as text.
-use cache_replay::replay::replay as full_answer;
-use cache_script::{Script, ScriptStep, Unread, script_from_bytes};
+use cache_replay::full_answer::write_full_answer;
+use cache_script::{Script, ScriptStep, UnreadScript, script_from_bytes};
 use http_cache_semantics::chain::{Outcome, replay};
 use http_cache_semantics::directives::GetHeaderStr;
 use http_cache_semantics::{BeforeRequest, CachePolicy};
@@ -14,13 +14,16 @@ use test_cases::scripts::{ask, receive, stored, with_further};
 // The headers of a stored response, steps and what comes of them. A moment is so many nanoseconds
 // after the response; the last of them lie in 1899.
 fn cases() -> &'static str {
-    r#"Cache-Control: max-age=10||
-       Cache-Control: max-age=10|restart; restart; ask 5500000000|restarted;restarted;fresh 200 age 5;
-       Cache-Control: max-age=10|ask 5500000000; restart; ask 10000000000; receive 304 10000000000; ask 19000000000; receive 500 20000000000; restart|fresh 200 age 5;restarted;stale true;not modified 200;fresh 200 age 9;modified 500;restarted;
-       Cache-Control: no-store~Vary: *|restart; ask 0; receive 304 0; ask 0|restarted;stale false;not modified 200;stale false;
-       Cache-Control: max-age=10|ask 0; ask -3913056001000000000; restart|date not printable
-       Cache-Control: max-age=10|receive 304 -3913056001000000000; restart|date not printable
-       Cache-Control: no-cache|ask -3913056001000000000; restart|stale true;restarted;"#
+    "Cache-Control: max-age=10||
+     Cache-Control: max-age=10|restart; restart; ask 5500000000|restarted;restarted;fresh 200 age 5;
+     Cache-Control: max-age=10|ask 5500000000; restart; ask 10000000000; receive 304 10000000000; ask 19000000000; \
+         receive 500 20000000000; restart|\
+         fresh 200 age 5;restarted;stale true;not modified 200;fresh 200 age 9;modified 500;restarted;
+     Cache-Control: no-store~Vary: *|restart; ask 0; receive 304 0; ask 0|\
+         restarted;stale false;not modified 200;stale false;
+     Cache-Control: max-age=10|ask 0; ask -3913056001000000000; restart|date not printable
+     Cache-Control: max-age=10|receive 304 -3913056001000000000; restart|date not printable
+     Cache-Control: no-cache|ask -3913056001000000000; restart|stale true;restarted;"
 }
 
 fn add_outcome(text: &mut String, outcome: &Outcome) -> Result<(), AllocError> {
@@ -88,15 +91,15 @@ fn script(alloc: Global, case: &str) -> Result<String, Fail> {
 fn run(alloc: Global, text: &str) -> Result<String, Fail> {
     match script_from_bytes(alloc, text.as_bytes()) {
         Ok(script) => told_of(alloc, &script),
-        Err(Unread::NoScript) => Ok(String::from_str(alloc, "no script")?),
-        Err(Unread::Memory) => Ok(String::from_str(alloc, "no memory")?),
+        Err(UnreadScript::NoScript) => Ok(String::from_str(alloc, "no script")?),
+        Err(UnreadScript::Memory) => Ok(String::from_str(alloc, "no memory")?),
     }
 }
 
 // Whether each step that asks is told alike by the calls that take no memory.
 fn is_told_alike(alloc: Global, text: &str) -> Result<bool, Fail> {
     let mut answer = String::new(alloc);
-    full_answer(
+    write_full_answer(
         alloc,
         &mut answer,
         script_from_bytes(alloc, text.as_bytes()),

@@ -9,7 +9,11 @@ use std::time::Duration;
 use test_cases::fixtures::{after, field, policy};
 
 fn stored() -> &'static str {
-    r#"{"method":"GET","opts":{"cache_heuristic":[1,10],"ignore_cargo_cult":false,"immutable_min_time_to_live":[86400,0],"shared":true},"req":{},"res":{"cache-control":["6d61782d6167653d3130"]},"response_time":[1704067200,0],"status":200,"uri":"/a"}"#
+    concat!(
+        r#"{"method":"GET","opts":{"cache_heuristic":[1,10],"ignore_cargo_cult":false,"#,
+        r#""immutable_min_time_to_live":[86400,0],"shared":true},"req":{},"#,
+        r#""res":{"cache-control":["6d61782d6167653d3130"]},"response_time":[1704067200,0],"status":200,"uri":"/a"}"#,
+    )
 }
 
 fn written(alloc: Global, policy: &CachePolicy) -> Result<String, Fail> {
@@ -141,7 +145,12 @@ fn lifetime_of_a_form(rt: HostRuntime) -> Result<(), Fail> {
 
 // A policy whose response came before 1970, with a value that is empty.
 fn before_1970() -> &'static str {
-    r#"{"method":"GET","opts":{"cache_heuristic":[1,10],"ignore_cargo_cult":false,"immutable_min_time_to_live":[86400,0],"shared":true},"req":{"host":["6578616d706c652e6f7267"]},"res":{"cache-control":["6d61782d6167653d3630"],"x-none":[""]},"response_time":[-1,500000000],"status":200,"uri":"/a?b=1"}"#
+    concat!(
+        r#"{"method":"GET","opts":{"cache_heuristic":[1,10],"ignore_cargo_cult":false,"#,
+        r#""immutable_min_time_to_live":[86400,0],"shared":true},"req":{"host":["6578616d706c652e6f7267"]},"#,
+        r#""res":{"cache-control":["6d61782d6167653d3630"],"x-none":[""]},"#,
+        r#""response_time":[-1,500000000],"status":200,"uri":"/a?b=1"}"#,
+    )
 }
 
 #[test]

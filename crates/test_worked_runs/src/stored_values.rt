@@ -7,7 +7,15 @@ use std::test::Fail;
 
 // A stored policy.
 fn text() -> &'static str {
-    r#"{"method":"GET","opts":{"cache_heuristic":[1,10],"ignore_cargo_cult":true,"immutable_min_time_to_live":[86400,999999999],"shared":false},"req":{"accept":["6162636465666768696a6b6c6d6e6f707172737475767778797a","30313233343536373839"],"host":["6578616d706c652e6f7267"]},"res":{"cache-control":["6d61782d6167653d3630302c207075626c6963","6e6f2d7472616e73666f726d"],"etag":["2261626364656667686970616263646566676869706162636422"],"x-none":[""]},"response_time":[-1704067200,500000000],"status":203,"uri":"http://example.org:8080/path/to/it?a=1&b=2"}"#
+    concat!(
+        r#"{"method":"GET","opts":{"cache_heuristic":[1,10],"ignore_cargo_cult":true,"#,
+        r#""immutable_min_time_to_live":[86400,999999999],"shared":false},"#,
+        r#""req":{"accept":["6162636465666768696a6b6c6d6e6f707172737475767778797a","30313233343536373839"],"#,
+        r#""host":["6578616d706c652e6f7267"]},"#,
+        r#""res":{"cache-control":["6d61782d6167653d3630302c207075626c6963","6e6f2d7472616e73666f726d"],"#,
+        r#""etag":["2261626364656667686970616263646566676869706162636422"],"x-none":[""]},"#,
+        r#""response_time":[-1704067200,500000000],"status":203,"uri":"http://example.org:8080/path/to/it?a=1&b=2"}"#,
+    )
 }
 
 // What is put in place of one byte: a text for each change.

@@ -1,5 +1,5 @@
 //! The full answers to scripts, as text. A test holds texts alone, which are cheap to prove.
-use cache_replay::replay::replay;
+use cache_replay::full_answer::write_full_answer;
 use cache_script::script_from_bytes;
 use std::alloc::Global;
 use std::fmt::Write;
@@ -9,7 +9,7 @@ use std::test::Fail;
 // The full answer to a script, and how it ended.
 fn answer(alloc: Global, script: &str) -> Result<String, Fail> {
     let mut text = String::new(alloc);
-    let end = replay(
+    let end = write_full_answer(
         alloc,
         &mut text,
         script_from_bytes(alloc, script.as_bytes()),

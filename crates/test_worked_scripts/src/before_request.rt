@@ -27,7 +27,8 @@ fn cases() -> &'static str {
      |Cache-Control: max-age=18446744073709551615|GET|Cache-Control: min-fresh=18446744073709551615|0|fresh age 0
      |Cache-Control: max-age=18446744073709551615|GET|Cache-Control: min-fresh=18446744073709551615|1|stale matches true
      |Cache-Control: max-age=10|GET|Cache-Control: max-stale=18446744073709551615, max-age=20|20000000000|fresh age 20
-     |Cache-Control: max-age=10|GET|Cache-Control: max-stale=18446744073709551615, max-age=20|20000000001|stale matches true
+     |Cache-Control: max-age=10|GET|Cache-Control: max-stale=18446744073709551615, max-age=20|20000000001|\
+         stale matches true
      |Cache-Control: no-store|GET|Cache-Control: max-stale=soon|0|stale matches true
      |Cache-Control: no-store|GET|Cache-Control: max-stale=soon|7000000000000000|stale matches true
      |Cache-Control: no-store|GET|Cache-Control: max-stale=soon|-3913056001000000000|stale matches true
@@ -40,7 +41,8 @@ fn cases() -> &'static str {
      |Cache-Control: proxy-revalidate, max-age=10|GET|Cache-Control: Max-Stale|0|fresh age 0
      |Cache-Control: proxy-revalidate, max-age=10|GET|Cache-Control: Max-Stale|7000000000000000|fresh age 7000000
      |Cache-Control: proxy-revalidate, max-age=10|GET|Cache-Control: Max-Stale|-3913056000000000000|fresh age 0
-     |Cache-Control: proxy-revalidate, max-age=10|GET|Cache-Control: Max-Stale|251698140000999999999|fresh age 251698140000
+     |Cache-Control: proxy-revalidate, max-age=10|GET|Cache-Control: Max-Stale|251698140000999999999|\
+         fresh age 251698140000
      |Cache-Control: Max-Age=10|GET||9999999999|fresh age 9
      |Cache-Control: max-age=10|GET|Cache-Control: No-Cache|0|stale matches true
      |Cache-Control: max-age=100|GET|Cache-Control: Max-Age=5|5000000001|stale matches true

@@ -10,20 +10,53 @@ use test_cases::scripts::{ask, header_lines, stored, with_further};
 // The stored headers, those of the asking request, the nanoseconds since the response came, and
 // the headers of the fresh answer.
 fn cases() -> &'static str {
-    r#"Cache-Control: max-age=100 ~ Connection: close, X-A ~ X-A: 1 ~ X-B: 1 ~ X-B: 2 ~ Warning: 110 - "s", 214 - "x" ~ Te: x||3000000000|age: 3 ~ cache-control: max-age=100 ~ date: Mon, 01 Jan 2024 00:00:03 +0000 ~ warning: 214 - "x" ~ x-b: 2
-       Cache-Control: max-age=100 ~ Connection: Warning ~ Warning: 214 - "x"||0|age: 0 ~ cache-control: max-age=100 ~ date: Mon, 01 Jan 2024 00:00:00 +0000 ~ warning: 214 - "x"
-       Cache-Control: max-age=100 ~ Warning: 214 a ~ Warning: 1, 1000, 2||0|age: 0 ~ cache-control: max-age=100 ~ date: Mon, 01 Jan 2024 00:00:00 +0000 ~ warning: 214 a, 2
-       Cache-Control: max-age=100 ~ Warning: 1, 1000 ~ Warning: 199 a, 10||0|age: 0 ~ cache-control: max-age=100 ~ date: Mon, 01 Jan 2024 00:00:00 +0000
-       Cache-Control: max-age=100 ~ connection: x-SMALL, X-OTHER, x y, , CACHE-CONTROL ~ Connection: x-last ~ X-Small: 1 ~ x-other: 1 ~ X-Last: 1 ~ X-Kept: 1||0|age: 0 ~ date: Mon, 01 Jan 2024 00:00:00 +0000 ~ x-kept: 1
-       Cache-Control: max-age=100 ~ Keep-Alive: 1 ~ Proxy-Authenticate: 1 ~ Proxy-Authorization: 1 ~ TE: 1 ~ Trailer: 1 ~ Transfer-Encoding: 1 ~ Upgrade: 1 ~ Trailers: 1||0|age: 0 ~ cache-control: max-age=100 ~ date: Mon, 01 Jan 2024 00:00:00 +0000 ~ trailers: 1
-       Cache-Control: max-age=100 ~ Age: 7 ~ Age: 8 ~ Date: Mon, 01 Jan 2024 00:00:00 GMT ~ Date: x||1500000000|age: 8 ~ cache-control: max-age=100 ~ date: Mon, 01 Jan 2024 00:00:01 +0000
-       Cache-Control: max-age=100 ~ Set-Cookie: a ~ Cache-Control: public ~ Set-Cookie: b||0|age: 0 ~ cache-control: public ~ date: Mon, 01 Jan 2024 00:00:00 +0000 ~ set-cookie: b
-       Last-Modified: Sat, 23 Sep 2023 00:00:00 GMT||86400000000000|age: 86400 ~ date: Tue, 02 Jan 2024 00:00:00 +0000 ~ last-modified: Sat, 23 Sep 2023 00:00:00 GMT
-       Last-Modified: Sat, 23 Sep 2023 00:00:00 GMT||86400000000001|age: 86400 ~ date: Tue, 02 Jan 2024 00:00:00 +0000 ~ last-modified: Sat, 23 Sep 2023 00:00:00 GMT ~ warning: 113 - "rfc7234 5.5.4"
-       Last-Modified: Sat, 23 Sep 2023 00:00:00 GMT ~ Warning: 214 - "x"||86400000000001|age: 86400 ~ date: Tue, 02 Jan 2024 00:00:00 +0000 ~ last-modified: Sat, 23 Sep 2023 00:00:00 GMT ~ warning: 214 - "x" ~ warning: 113 - "rfc7234 5.5.4"
-       Last-Modified: Sat, 23 Sep 2023 00:00:00 GMT ~ Expires: Wed, 01 Jan 2025 00:00:00 GMT||86400000000001|age: 86400 ~ date: Tue, 02 Jan 2024 00:00:00 +0000 ~ expires: Wed, 01 Jan 2025 00:00:00 GMT ~ last-modified: Sat, 23 Sep 2023 00:00:00 GMT
-       Cache-Control: max-age=864000||86400000000001|age: 86400 ~ cache-control: max-age=864000 ~ date: Tue, 02 Jan 2024 00:00:00 +0000
-       Cache-Control: immutable|Cache-Control: max-stale|86400000000001|age: 86400 ~ cache-control: immutable ~ date: Tue, 02 Jan 2024 00:00:00 +0000"#
+    r#"Cache-Control: max-age=100 ~ Connection: close, X-A ~ X-A: 1 ~ X-B: 1 ~ X-B: 2 ~ Warning: 110 - "s", 214 - "x" ~
+           Te: x||3000000000|
+       age: 3 ~ cache-control: max-age=100 ~ date: Mon, 01 Jan 2024 00:00:03 +0000 ~ warning: 214 - "x" ~ x-b: 2
+
+       Cache-Control: max-age=100 ~ Connection: Warning ~ Warning: 214 - "x"||0|
+       age: 0 ~ cache-control: max-age=100 ~ date: Mon, 01 Jan 2024 00:00:00 +0000 ~ warning: 214 - "x"
+
+       Cache-Control: max-age=100 ~ Warning: 214 a ~ Warning: 1, 1000, 2||0|
+       age: 0 ~ cache-control: max-age=100 ~ date: Mon, 01 Jan 2024 00:00:00 +0000 ~ warning: 214 a, 2
+
+       Cache-Control: max-age=100 ~ Warning: 1, 1000 ~ Warning: 199 a, 10||0|
+       age: 0 ~ cache-control: max-age=100 ~ date: Mon, 01 Jan 2024 00:00:00 +0000
+
+       Cache-Control: max-age=100 ~ connection: x-SMALL, X-OTHER, x y, , CACHE-CONTROL ~ Connection: x-last ~
+           X-Small: 1 ~ x-other: 1 ~ X-Last: 1 ~ X-Kept: 1||0|
+       age: 0 ~ date: Mon, 01 Jan 2024 00:00:00 +0000 ~ x-kept: 1
+
+       Cache-Control: max-age=100 ~ Keep-Alive: 1 ~ Proxy-Authenticate: 1 ~ Proxy-Authorization: 1 ~ TE: 1 ~
+           Trailer: 1 ~ Transfer-Encoding: 1 ~ Upgrade: 1 ~ Trailers: 1||0|
+       age: 0 ~ cache-control: max-age=100 ~ date: Mon, 01 Jan 2024 00:00:00 +0000 ~ trailers: 1
+
+       Cache-Control: max-age=100 ~ Age: 7 ~ Age: 8 ~ Date: Mon, 01 Jan 2024 00:00:00 GMT ~ Date: x||1500000000|
+       age: 8 ~ cache-control: max-age=100 ~ date: Mon, 01 Jan 2024 00:00:01 +0000
+
+       Cache-Control: max-age=100 ~ Set-Cookie: a ~ Cache-Control: public ~ Set-Cookie: b||0|
+       age: 0 ~ cache-control: public ~ date: Mon, 01 Jan 2024 00:00:00 +0000 ~ set-cookie: b
+
+       Last-Modified: Sat, 23 Sep 2023 00:00:00 GMT||86400000000000|
+       age: 86400 ~ date: Tue, 02 Jan 2024 00:00:00 +0000 ~ last-modified: Sat, 23 Sep 2023 00:00:00 GMT
+
+       Last-Modified: Sat, 23 Sep 2023 00:00:00 GMT||86400000000001|
+       age: 86400 ~ date: Tue, 02 Jan 2024 00:00:00 +0000 ~ last-modified: Sat, 23 Sep 2023 00:00:00 GMT ~
+           warning: 113 - "rfc7234 5.5.4"
+
+       Last-Modified: Sat, 23 Sep 2023 00:00:00 GMT ~ Warning: 214 - "x"||86400000000001|
+       age: 86400 ~ date: Tue, 02 Jan 2024 00:00:00 +0000 ~ last-modified: Sat, 23 Sep 2023 00:00:00 GMT ~
+           warning: 214 - "x" ~ warning: 113 - "rfc7234 5.5.4"
+
+       Last-Modified: Sat, 23 Sep 2023 00:00:00 GMT ~ Expires: Wed, 01 Jan 2025 00:00:00 GMT||86400000000001|
+       age: 86400 ~ date: Tue, 02 Jan 2024 00:00:00 +0000 ~ expires: Wed, 01 Jan 2025 00:00:00 GMT ~
+           last-modified: Sat, 23 Sep 2023 00:00:00 GMT
+
+       Cache-Control: max-age=864000||86400000000001|
+       age: 86400 ~ cache-control: max-age=864000 ~ date: Tue, 02 Jan 2024 00:00:00 +0000
+
+       Cache-Control: immutable|Cache-Control: max-stale|86400000000001|
+       age: 86400 ~ cache-control: immutable ~ date: Tue, 02 Jan 2024 00:00:00 +0000"#
 }
 
 fn script(alloc: Global, case: &str) -> Result<String, Fail> {
@@ -40,7 +73,7 @@ fn holds(rt: &impl Abort, alloc: Global, case: &str) -> Result<(), Fail> {
 
 #[test]
 fn headers_of_fresh_answers(rt: HostRuntime) -> Result<(), Fail> {
-    for case in cases().lines() {
+    for case in cases().split("\n\n") {
         holds(&rt, rt.alloc(), case)?;
     }
     Ok(())

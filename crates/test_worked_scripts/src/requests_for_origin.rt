@@ -10,24 +10,59 @@ use test_cases::scripts::{Exchange, ask, header_lines, stored, with_further};
 // asking request, the nanoseconds since the response came, whether it matches, and the headers that
 // go to the origin.
 fn cases() -> &'static str {
-    r#"GET|Accept: a|Cache-Control: max-age=100 ~ Vary: Accept|GET|Accept: b ~ Te: x|0|false|accept: b ~ te: x
-       GET|Accept: a|Cache-Control: max-age=100 ~ Vary: Accept|HEAD|Accept: b ~ Te: x|0|false|accept: b
-       GET||Cache-Control: max-age=100 ~ ETag: "c"|HEAD|Te: x|0|false|if-none-match: "c"
-       GET||Cache-Control: max-age=0 ~ ETag: "c"|GET|If-None-Match: , "a", , "b"|0|true|if-none-match: "a", , "b", "c"
-       GET||Cache-Control: max-age=0 ~ ETag: "c"|GET|If-None-Match: "x" ~ If-None-Match: "a"|0|true|if-none-match: "a", "c"
-       GET||Cache-Control: max-age=0 ~ ETag: "c", W/"d"|GET||0|true|if-none-match: "c", W/"d"
-       GET||Cache-Control: max-age=0 ~ ETag:|GET||0|true|if-none-match:
-       GET||Cache-Control: max-age=0 ~ ETag: ÿ|GET|If-None-Match: "a"|0|true|if-none-match: "a"
-       GET||Cache-Control: max-age=1 ~ ETag: W/"v" ~ Last-Modified: Sat, 23 Sep 2023 00:00:00 GMT|GET||5000000000|true|if-modified-since: Sat, 23 Sep 2023 00:00:00 GMT ~ if-none-match: W/"v"
-       GET||Cache-Control: max-age=1 ~ ETag: W/"v" ~ Last-Modified: Sat, 23 Sep 2023 00:00:00 GMT|GET|If-Match: "z"|5000000000|true|if-match: "z"
-       GET||Cache-Control: max-age=1 ~ ETag: W/"v" ~ Last-Modified: Sat, 23 Sep 2023 00:00:00 GMT|GET|If-Unmodified-Since: z|5000000000|true|if-unmodified-since: z
-       GET||Cache-Control: max-age=1 ~ ETag: W/"v" ~ Last-Modified: Sat, 23 Sep 2023 00:00:00 GMT|GET|Accept-Ranges: z|5000000000|true|accept-ranges: z
-       GET||Cache-Control: max-age=1 ~ ETag: W/"v"|GET|If-Match: "z" ~ Connection: if-match|5000000000|true|if-none-match: W/"v"
-       GET||Cache-Control: max-age=1 ~ Last-Modified: x|GET|If-Modified-Since: y|5000000000|true|if-modified-since: y
-       GET||Cache-Control: max-age=1 ~ Last-Modified: x|GET|If-Range: y|5000000000|true|if-modified-since: x
-       GET||Cache-Control: no-store ~ ETag: "e"|GET|If-None-Match: "a" ~ If-Modified-Since: x ~ If-Range: "a" ~ X: 1|0|true|x: 1
-       HEAD||Cache-Control: max-age=0 ~ ETag: "c" ~ Last-Modified: Sat, 23 Sep 2023 00:00:00 GMT|HEAD|If-None-Match: "a", W/"b"|0|true|if-none-match: "a", "c"
-       HEAD||Cache-Control: max-age=0 ~ ETag: W/"c"|HEAD|If-None-Match: W/"a"|0|true|"#
+    r#"GET|Accept: a|Cache-Control: max-age=100 ~ Vary: Accept|
+       GET|Accept: b ~ Te: x|0|false|accept: b ~ te: x
+
+       GET|Accept: a|Cache-Control: max-age=100 ~ Vary: Accept|
+       HEAD|Accept: b ~ Te: x|0|false|accept: b
+
+       GET||Cache-Control: max-age=100 ~ ETag: "c"|
+       HEAD|Te: x|0|false|if-none-match: "c"
+
+       GET||Cache-Control: max-age=0 ~ ETag: "c"|
+       GET|If-None-Match: , "a", , "b"|0|true|if-none-match: "a", , "b", "c"
+
+       GET||Cache-Control: max-age=0 ~ ETag: "c"|
+       GET|If-None-Match: "x" ~ If-None-Match: "a"|0|true|if-none-match: "a", "c"
+
+       GET||Cache-Control: max-age=0 ~ ETag: "c", W/"d"|
+       GET||0|true|if-none-match: "c", W/"d"
+
+       GET||Cache-Control: max-age=0 ~ ETag:|
+       GET||0|true|if-none-match:
+
+       GET||Cache-Control: max-age=0 ~ ETag: ÿ|
+       GET|If-None-Match: "a"|0|true|if-none-match: "a"
+
+       GET||Cache-Control: max-age=1 ~ ETag: W/"v" ~ Last-Modified: Sat, 23 Sep 2023 00:00:00 GMT|
+       GET||5000000000|true|if-modified-since: Sat, 23 Sep 2023 00:00:00 GMT ~ if-none-match: W/"v"
+
+       GET||Cache-Control: max-age=1 ~ ETag: W/"v" ~ Last-Modified: Sat, 23 Sep 2023 00:00:00 GMT|
+       GET|If-Match: "z"|5000000000|true|if-match: "z"
+
+       GET||Cache-Control: max-age=1 ~ ETag: W/"v" ~ Last-Modified: Sat, 23 Sep 2023 00:00:00 GMT|
+       GET|If-Unmodified-Since: z|5000000000|true|if-unmodified-since: z
+
+       GET||Cache-Control: max-age=1 ~ ETag: W/"v" ~ Last-Modified: Sat, 23 Sep 2023 00:00:00 GMT|
+       GET|Accept-Ranges: z|5000000000|true|accept-ranges: z
+
+       GET||Cache-Control: max-age=1 ~ ETag: W/"v"|
+       GET|If-Match: "z" ~ Connection: if-match|5000000000|true|if-none-match: W/"v"
+
+       GET||Cache-Control: max-age=1 ~ Last-Modified: x|
+       GET|If-Modified-Since: y|5000000000|true|if-modified-since: y
+
+       GET||Cache-Control: max-age=1 ~ Last-Modified: x|
+       GET|If-Range: y|5000000000|true|if-modified-since: x
+
+       GET||Cache-Control: no-store ~ ETag: "e"|
+       GET|If-None-Match: "a" ~ If-Modified-Since: x ~ If-Range: "a" ~ X: 1|0|true|x: 1
+
+       HEAD||Cache-Control: max-age=0 ~ ETag: "c" ~ Last-Modified: Sat, 23 Sep 2023 00:00:00 GMT|
+       HEAD|If-None-Match: "a", W/"b"|0|true|if-none-match: "a", "c"
+
+       HEAD||Cache-Control: max-age=0 ~ ETag: W/"c"|
+       HEAD|If-None-Match: W/"a"|0|true|"#
 }
 
 fn script(alloc: Global, case: &str) -> Result<String, Fail> {
@@ -57,7 +92,7 @@ fn holds(rt: &impl Abort, alloc: Global, case: &str) -> Result<(), Fail> {
 
 #[test]
 fn requests_for_the_origin(rt: HostRuntime) -> Result<(), Fail> {
-    for case in cases().lines() {
+    for case in cases().split("\n\n") {
         holds(&rt, rt.alloc(), case)?;
     }
     Ok(())

@@ -113,25 +113,45 @@ impl Sink for Gate {
     }
 }
 
-const SCRIPT: &str =
-    r#"{"options":{"shared":true,"cache_heuristic":[1,10],"immutable_min_time_to_live":[86400,0],"ignore_cargo_cult":false},"received":[1704067200,0],"request":{"uri":"/a","method":"GET","headers":[]},"response":{"status":200,"headers":[["Cache-Control","max-age=10"]]},"steps":[]}"#;
+const SCRIPT: &str = concat!(
+    r#"{"options":{"shared":true,"cache_heuristic":[1,10],"immutable_min_time_to_live":[86400,0],"#,
+    r#""ignore_cargo_cult":false},"received":[1704067200,0],"request":{"uri":"/a","method":"GET","headers":[]},"#,
+    r#""response":{"status":200,"headers":[["Cache-Control","max-age=10"]]},"steps":[]}"#,
+);
 
 const LINE: &[u8] = b"storable true ttl 10.000000000\n";
 
-const STEPS: &str =
-    r#""steps":[{"ask":{"uri":"/a","method":"GET","headers":[["A","1"],["a","2"]]},"at":[1704067205,500000000]},"restart",{"receive":{"uri":"/b","method":"GET","headers":[]},"response":{"status":304,"headers":[]},"at":[-1,0]}]"#;
+const STEPS: &str = concat!(
+    r#""steps":["#,
+    r#"{"ask":{"uri":"/a","method":"GET","headers":[["A","1"],["a","2"]]},"at":[1704067205,500000000]},"restart","#,
+    r#"{"receive":{"uri":"/b","method":"GET","headers":[]},"response":{"status":304,"headers":[]},"at":[-1,0]}]"#,
+);
 
-const ASKS: &str =
-    r#"{"ask":{"uri":"/a","method":"GET","headers":[]},"at":[1704067205,500000000]},{"ask":{"uri":"/a","method":"GET","headers":[]},"at":[1704067210,0]}"#;
+const ASKS: &str = concat!(
+    r#"{"ask":{"uri":"/a","method":"GET","headers":[]},"at":[1704067205,500000000]},"#,
+    r#"{"ask":{"uri":"/a","method":"GET","headers":[]},"at":[1704067210,0]}"#,
+);
 
 const LINES: &[u8] = b"storable true ttl 10.000000000\nfresh age 5\nstale matches true\n";
 
 /// Steps of every kind.
-const WHOLE: &str =
-    r#"{"ask":{"uri":"/a","method":"GET","headers":[]},"at":[1704067205,500000000]},"restart",{"ask":{"uri":"/a","method":"GET","headers":[]},"at":[1704067210,0]},{"receive":{"uri":"/a","method":"GET","headers":[]},"response":{"status":304,"headers":[]},"at":[1704067210,0]},{"ask":{"uri":"/a","method":"GET","headers":[]},"at":[1704067219,0]},{"receive":{"uri":"/b","method":"GET","headers":[]},"response":{"status":500,"headers":[]},"at":[1704067220,0]}"#;
+const WHOLE: &str = concat!(
+    r#"{"ask":{"uri":"/a","method":"GET","headers":[]},"at":[1704067205,500000000]},"restart","#,
+    r#"{"ask":{"uri":"/a","method":"GET","headers":[]},"at":[1704067210,0]},"#,
+    r#"{"receive":{"uri":"/a","method":"GET","headers":[]},"#,
+    r#""response":{"status":304,"headers":[]},"at":[1704067210,0]},"#,
+    r#"{"ask":{"uri":"/a","method":"GET","headers":[]},"at":[1704067219,0]},"#,
+    r#"{"receive":{"uri":"/b","method":"GET","headers":[]},"#,
+    r#""response":{"status":500,"headers":[]},"at":[1704067220,0]}"#,
+);
 
-const WHOLE_LINES: &[u8] =
-    b"storable true ttl 10.000000000\nfresh age 5\nrestarted\nstale matches true\nnot-modified status 200\nfresh age 9\nmodified status 500\n";
+const WHOLE_LINES: &[u8] = b"storable true ttl 10.000000000\n\
+    fresh age 5\n\
+    restarted\n\
+    stale matches true\n\
+    not-modified status 200\n\
+    fresh age 9\n\
+    modified status 500\n";
 
 /// Steps, and all that is written.
 const RUNS: [(&str, &[u8]); 6] = [
@@ -155,13 +175,23 @@ const RUNS: [(&str, &[u8]); 6] = [
 /// Steps whose answers have no date, the last of them: the year of -2208988801 is 1899.
 const UNDATED: [&str; 3] = [
     r#"{"ask":{"uri":"/a","method":"GET","headers":[]},"at":[-2208988801,0]}"#,
-    r#"{"ask":{"uri":"/a","method":"GET","headers":[]},"at":[1704067205,0]},{"ask":{"uri":"/a","method":"GET","headers":[]},"at":[-2208988801,0]}"#,
-    r#""restart",{"receive":{"uri":"/a","method":"GET","headers":[]},"response":{"status":500,"headers":[]},"at":[-2208988801,0]}"#,
+    concat!(
+        r#"{"ask":{"uri":"/a","method":"GET","headers":[]},"at":[1704067205,0]},"#,
+        r#"{"ask":{"uri":"/a","method":"GET","headers":[]},"at":[-2208988801,0]}"#,
+    ),
+    concat!(
+        r#""restart","#,
+        r#"{"receive":{"uri":"/a","method":"GET","headers":[]},"#,
+        r#""response":{"status":500,"headers":[]},"at":[-2208988801,0]}"#,
+    ),
 ];
 
 /// A request that finds the stored response, and one that doesn't by a name of 200 letters.
-const VARIED: &str =
-    r#"{"ask":{"uri":"/a","method":"GET","headers":[["Cache-Control","max-age=5, min-fresh=5"]]},"at":[1704067205,0]},{"ask":{"uri":"/a","method":"GET","headers":[["NAME","1"]]},"at":[1704067205,0]}"#;
+const VARIED: &str = concat!(
+    r#"{"ask":{"uri":"/a","method":"GET","headers":[["Cache-Control","max-age=5, min-fresh=5"]]},"#,
+    r#""at":[1704067205,0]},"#,
+    r#"{"ask":{"uri":"/a","method":"GET","headers":[["NAME","1"]]},"at":[1704067205,0]}"#,
+);
 
 /// What stands in the script, and what makes it none in its place.
 const CHANGES: [(&str, &str); 23] = [
