@@ -1,6 +1,7 @@
 /* Loaded in front of a program, refuses one of its requests, or tells of each.
-   REFUSE is a letter and a number n. m: the n-th request for memory is refused; r, w: the n-th read of standard
-   input, write to standard output fails; i, j: it is interrupted; s, t: each is of at most n bytes.
+   REFUSE is a letter and a number n. m: the n-th request for memory is refused; a: so is each behind it, until the
+   program writes; r, w: the n-th read of standard input, write to standard output fails; i, j: it is interrupted;
+   s, t: each is of at most n bytes.
    REFUSE_LOG is a descriptor to which each request that is met is told, a line each. */
 #include <errno.h>
 #include <stddef.h>
@@ -15,7 +16,7 @@ extern void __libc_free(void *);
 
 static char kind;
 static long number, memory, reads, writes;
-static int log_to = -1;
+static int refusing, log_to = -1;
 
 __attribute__((constructor)) static void begin(void) {
   const char *asked = getenv("REFUSE"), *to = getenv("REFUSE_LOG");
@@ -30,7 +31,9 @@ __attribute__((constructor)) static void begin(void) {
 
 static int is_refused(void) {
   memory++;
-  if (kind != 'm' || memory != number)
+  if (kind == 'a' && memory == number)
+    refusing = 1;
+  if (!refusing && (kind != 'm' || memory != number))
     return 0;
   errno = ENOMEM;
   return 1;
@@ -93,6 +96,7 @@ ssize_t read(int from, void *to, size_t size) {
 
 ssize_t write(int to, const void *from, size_t size) {
   if (to == 1) {
+    refusing = 0;
     if (fails(++writes, 'w', 'j'))
       return -1;
     size = at_most(size, 't');

@@ -1,12 +1,19 @@
 //! Makes each call of the library, or the one whose place it is given, and names it: those that may
-//! take memory, and behind them those that take none. One that is refused is made again, once it is
-//! seen that nothing has changed.
+//! take memory, and behind them those that take none. One that is refused is told, and made again,
+//! once it is seen that nothing has changed.
 //!
-//! It is for runs with one request for memory refused. Without that, no call is refused.
+//! It is for runs with requests for memory refused. Without that, no call is refused.
 #![tactic(auto)]
 
-use growths::{CALLS, Call, Case, LOOKS, Look, Sight};
+mod answers;
+mod call;
+mod case;
+mod look;
+
+use call::{CALLS, Call};
+use case::Case;
 use http_cache_semantics::CacheError;
+use look::{LOOKS, Look, Sight};
 use std::alloc::Global;
 use std::process::ExitCode;
 use std::{env, io};
@@ -44,11 +51,15 @@ fn again(alloc: Global, case: &Case, call: Call, e: CacheError) -> End {
     }
 }
 
-fn made(alloc: Global, case: &Case, call: Call) -> End {
-    match case.is_right(alloc, call) {
+// What is told of a refusal ends it, where all requests up to a write are refused.
+fn made(rt: &HostRuntime, case: &Case, call: Call) -> End {
+    match case.is_right(rt.alloc(), call) {
         Ok(true) => End::Answered,
         Ok(false) => End::Wrong,
-        Err(e) => again(alloc, case, call, e),
+        Err(e) => {
+            let _ = println!(rt; "refused");
+            again(rt.alloc(), case, call, e)
+        }
     }
 }
 
@@ -57,7 +68,7 @@ fn end_of(rt: &HostRuntime, call: Call) -> End {
     match Case::new(rt.alloc(), call) {
         Ok(case) => {
             let _ = println!(rt; "{call:?}");
-            made(rt.alloc(), &case, call)
+            made(rt, &case, call)
         }
         Err(CacheError::Memory) => End::Unmade,
         Err(_) => End::Wrong,
@@ -80,7 +91,7 @@ fn end_of_look(rt: &HostRuntime, look: Look) -> End {
     }
 }
 
-// At most one request is refused, so at most one call ends otherwise than at once.
+// What is refused ends with the first call that is, so no other ends otherwise than at once.
 fn end_of_all(rt: &HostRuntime) -> End {
     for call in CALLS {
         let end = end_of(rt, call);

@@ -188,10 +188,10 @@ pub fn replaces(answer: &AfterResponse, now: Timestamp) -> bool {
 /// The directives of the response, with those of cargo cult.
 pub fn are_directives(read: &CacheControl) -> bool {
     read.len() == 5
-        && read.text("max-age") == Some("10")
-        && read.text("pre-check") == Some("1")
-        && read.text("post-check") == Some("2")
-        && read.text("a") == Some("b c")
+        && read.get("max-age") == Some(Some("10"))
+        && read.get("pre-check") == Some(Some("1"))
+        && read.get("post-check") == Some(Some("2"))
+        && read.get("a") == Some(Some("b c"))
         && read.get("public") == Some(None)
 }
 

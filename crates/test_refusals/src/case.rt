@@ -5,7 +5,7 @@ use crate::answers::{
     is_unstorable_at, renews, replaces,
 };
 use crate::call::Call;
-use cache_script::{Script, Step, Unread, script_from_bytes};
+use cache_script::{Script, Step, UnreadScript, script_from_bytes};
 use http_cache_semantics::chain::{chain, replay};
 use http_cache_semantics::directives::{CacheControl, format_cache_control, parse_cache_control};
 use http_cache_semantics::{
@@ -15,35 +15,94 @@ use jiff::Timestamp;
 use serde_json::Value;
 use std::alloc::Global;
 
-const SCRIPT: &str =
-    r#"{"options":{"shared":true,"cache_heuristic":[1,10],"immutable_min_time_to_live":[86400,0],"ignore_cargo_cult":true},"received":[1704067200,0],"request":{"uri":"/a","method":"GET","headers":[["Accept","a"]]},"response":{"status":200,"headers":[["Cache-Control","max-age=10, pre-check=1, post-check=2, a=\"b c\", public"],["Connection","X-Gone"],["ETag","\"c\""],["Last-Modified","Sat, 23 Sep 2023 00:00:00 GMT"],["Vary","Accept"],["Warning","110 - \"s\", 214 - \"x\""],["X","1"],["X","2"],["X-Gone","1"]]},"steps":[{"ask":{"uri":"/a","method":"GET","headers":[["Accept","a"]]},"at":[1704067205,500000000]},"restart",{"ask":{"uri":"/a","method":"GET","headers":[["Accept","a"],["If-None-Match","\"z\""],["If-Range","y"],["TE","x"]]},"at":[1704067210,0]},{"receive":{"uri":"/a","method":"GET","headers":[["Accept","a"]]},"response":{"status":304,"headers":[["ETag","\"c\""],["X","3"]]},"at":[1704067210,0]},{"ask":{"uri":"/a","method":"GET","headers":[["Accept","a"]]},"at":[1704067219,0]},{"receive":{"uri":"/a","method":"GET","headers":[["Accept","a"]]},"response":{"status":500,"headers":[["Cache-Control","max-age=3"],["X","4"]]},"at":[1704067220,0]},{"ask":{"uri":"/a","method":"GET","headers":[["Accept","b"],["TE","x"]]},"at":[1704067205,0]},{"ask":{"uri":"/a","method":"HEAD","headers":[["Accept","b"],["TE","x"]]},"at":[1704067205,0]}]}"#;
+const SCRIPT: &str = concat!(
+    r#"{"options":{"shared":true,"cache_heuristic":[1,10],"immutable_min_time_to_live":[86400,0],"#,
+    r#""ignore_cargo_cult":true},"received":[1704067200,0],"#,
+    r#""request":{"uri":"/a","method":"GET","headers":[["Accept","a"]]},"response":{"status":200,"#,
+    r#""headers":[["Cache-Control","max-age=10, pre-check=1, post-check=2, a=\"b c\", public"],"#,
+    r#"["Connection","X-Gone"],["ETag","\"c\""],["Last-Modified","Sat, 23 Sep 2023 00:00:00 GMT"],["Vary","Accept"],"#,
+    r#"["Warning","110 - \"s\", 214 - \"x\""],["X","1"],["X","2"],["X-Gone","1"]]},"steps":["#,
+    r#"{"ask":{"uri":"/a","method":"GET","headers":[["Accept","a"]]},"at":[1704067205,500000000]},"restart","#,
+    r#"{"ask":{"uri":"/a","method":"GET","headers":[["Accept","a"],["If-None-Match","\"z\""],["If-Range","y"],"#,
+    r#"["TE","x"]]},"at":[1704067210,0]},"#,
+    r#"{"receive":{"uri":"/a","method":"GET","headers":[["Accept","a"]]},"#,
+    r#""response":{"status":304,"headers":[["ETag","\"c\""],["X","3"]]},"at":[1704067210,0]},"#,
+    r#"{"ask":{"uri":"/a","method":"GET","headers":[["Accept","a"]]},"at":[1704067219,0]},"#,
+    r#"{"receive":{"uri":"/a","method":"GET","headers":[["Accept","a"]]},"#,
+    r#""response":{"status":500,"headers":[["Cache-Control","max-age=3"],["X","4"]]},"at":[1704067220,0]},"#,
+    r#"{"ask":{"uri":"/a","method":"GET","headers":[["Accept","b"],["TE","x"]]},"at":[1704067205,0]},"#,
+    r#"{"ask":{"uri":"/a","method":"HEAD","headers":[["Accept","b"],["TE","x"]]},"at":[1704067205,0]}]}"#,
+);
 
 /// The longest example.
-const EXAMPLE: &str =
-    r#"{"options":{"shared":true,"cache_heuristic":[1,10],"immutable_min_time_to_live":[86400,0],"ignore_cargo_cult":false},"received":[1704067200,0],"request":{"uri":"/a","method":"GET","headers":[]},"response":{"status":200,"headers":[["Cache-Control","max-age=10"]]},"steps":[{"ask":{"uri":"/a","method":"GET","headers":[]},"at":[1704067205,500000000]},"restart",{"ask":{"uri":"/a","method":"GET","headers":[]},"at":[1704067210,0]},{"receive":{"uri":"/a","method":"GET","headers":[]},"response":{"status":304,"headers":[]},"at":[1704067210,0]},{"ask":{"uri":"/a","method":"GET","headers":[]},"at":[1704067219,0]},{"receive":{"uri":"/b","method":"GET","headers":[]},"response":{"status":500,"headers":[]},"at":[1704067220,0]}]}"#;
+const EXAMPLE: &str = concat!(
+    r#"{"options":{"shared":true,"cache_heuristic":[1,10],"immutable_min_time_to_live":[86400,0],"#,
+    r#""ignore_cargo_cult":false},"received":[1704067200,0],"request":{"uri":"/a","method":"GET","headers":[]},"#,
+    r#""response":{"status":200,"headers":[["Cache-Control","max-age=10"]]},"steps":["#,
+    r#"{"ask":{"uri":"/a","method":"GET","headers":[]},"at":[1704067205,500000000]},"restart","#,
+    r#"{"ask":{"uri":"/a","method":"GET","headers":[]},"at":[1704067210,0]},"#,
+    r#"{"receive":{"uri":"/a","method":"GET","headers":[]},"#,
+    r#""response":{"status":304,"headers":[]},"at":[1704067210,0]},"#,
+    r#"{"ask":{"uri":"/a","method":"GET","headers":[]},"at":[1704067219,0]},"#,
+    r#"{"receive":{"uri":"/b","method":"GET","headers":[]},"#,
+    r#""response":{"status":500,"headers":[]},"at":[1704067220,0]}]}"#,
+);
 
 /// The stored form of its policy.
-const EXAMPLE_FORM: &str =
-    r#"{"method":"GET","opts":{"cache_heuristic":[1,10],"ignore_cargo_cult":false,"immutable_min_time_to_live":[86400,0],"shared":true},"req":{},"res":{"cache-control":["6d61782d6167653d3130"]},"response_time":[1704067200,0],"status":200,"uri":"/a"}"#;
+const EXAMPLE_FORM: &str = concat!(
+    r#"{"method":"GET","opts":{"cache_heuristic":[1,10],"ignore_cargo_cult":false,"#,
+    r#""immutable_min_time_to_live":[86400,0],"shared":true},"req":{},"#,
+    r#""res":{"cache-control":["6d61782d6167653d3130"]},"response_time":[1704067200,0],"status":200,"uri":"/a"}"#,
+);
 
 /// The stored form of the first one's policy.
-const FORM: &str =
-    r#"{"method":"GET","opts":{"cache_heuristic":[1,10],"ignore_cargo_cult":true,"immutable_min_time_to_live":[86400,0],"shared":true},"req":{"accept":["61"]},"res":{"cache-control":["6d61782d6167653d31302c20613d22622063222c207075626c6963"],"connection":["582d476f6e65"],"etag":["226322"],"last-modified":["5361742c2032332053657020323032332030303a30303a303020474d54"],"vary":["416363657074"],"warning":["313130202d202273222c20323134202d20227822"],"x":["31","32"],"x-gone":["31"]},"response_time":[1704067200,0],"status":200,"uri":"/a"}"#;
+const FORM: &str = concat!(
+    r#"{"method":"GET","opts":{"cache_heuristic":[1,10],"ignore_cargo_cult":true,"#,
+    r#""immutable_min_time_to_live":[86400,0],"shared":true},"req":{"accept":["61"]},"#,
+    r#""res":{"cache-control":["6d61782d6167653d31302c20613d22622063222c207075626c6963"],"#,
+    r#""connection":["582d476f6e65"],"etag":["226322"],"#,
+    r#""last-modified":["5361742c2032332053657020323032332030303a30303a303020474d54"],"vary":["416363657074"],"#,
+    r#""warning":["313130202d202273222c20323134202d20227822"],"x":["31","32"],"x-gone":["31"]},"#,
+    r#""response_time":[1704067200,0],"status":200,"uri":"/a"}"#,
+);
 
 /// Exchanges that differ by what Vary names, and then one that is newer, with requests that ask for it
 /// after five seconds and after two hundred.
 const VARIANTS: [&str; 3] = [
-    r#"{"options":{"shared":true,"cache_heuristic":[1,10],"immutable_min_time_to_live":[86400,0],"ignore_cargo_cult":false},"received":[1704067200,0],"request":{"uri":"/a","method":"GET","headers":[["Accept","a"]]},"response":{"status":200,"headers":[["Cache-Control","max-age=100"],["ETag","\"1\""],["Vary","Accept"]]},"steps":[]}"#,
-    r#"{"options":{"shared":true,"cache_heuristic":[1,10],"immutable_min_time_to_live":[86400,0],"ignore_cargo_cult":false},"received":[1704067200,0],"request":{"uri":"/a","method":"GET","headers":[["Accept","b"]]},"response":{"status":200,"headers":[["Cache-Control","max-age=100"],["ETag","\"1\""],["Vary","Accept"]]},"steps":[]}"#,
+    concat!(
+        r#"{"options":{"shared":true,"cache_heuristic":[1,10],"immutable_min_time_to_live":[86400,0],"#,
+        r#""ignore_cargo_cult":false},"received":[1704067200,0],"#,
+        r#""request":{"uri":"/a","method":"GET","headers":[["Accept","a"]]},"#,
+        r#""response":{"status":200,"headers":[["Cache-Control","max-age=100"],["ETag","\"1\""],["Vary","Accept"]]},"#,
+        r#""steps":[]}"#,
+    ),
+    concat!(
+        r#"{"options":{"shared":true,"cache_heuristic":[1,10],"immutable_min_time_to_live":[86400,0],"#,
+        r#""ignore_cargo_cult":false},"received":[1704067200,0],"#,
+        r#""request":{"uri":"/a","method":"GET","headers":[["Accept","b"]]},"#,
+        r#""response":{"status":200,"headers":[["Cache-Control","max-age=100"],["ETag","\"1\""],["Vary","Accept"]]},"#,
+        r#""steps":[]}"#,
+    ),
     VALIDATED_VARIANT,
 ];
 
-const VALIDATED_VARIANT: &str =
-    r#"{"options":{"shared":true,"cache_heuristic":[1,10],"immutable_min_time_to_live":[86400,0],"ignore_cargo_cult":false},"received":[1704067200,0],"request":{"uri":"/a","method":"GET","headers":[["Accept","a"]]},"response":{"status":200,"headers":[["Cache-Control","max-age=1"],["ETag","\"3\""],["Vary","Accept"]]},"steps":[{"ask":{"uri":"/a","method":"GET","headers":[["Accept","a"]]},"at":[1704067205,0]},{"ask":{"uri":"/a","method":"GET","headers":[["Accept","a"]]},"at":[1704067400,0]}]}"#;
+const VALIDATED_VARIANT: &str = concat!(
+    r#"{"options":{"shared":true,"cache_heuristic":[1,10],"immutable_min_time_to_live":[86400,0],"#,
+    r#""ignore_cargo_cult":false},"received":[1704067200,0],"#,
+    r#""request":{"uri":"/a","method":"GET","headers":[["Accept","a"]]},"#,
+    r#""response":{"status":200,"headers":[["Cache-Control","max-age=1"],["ETag","\"3\""],["Vary","Accept"]]},"#,
+    r#""steps":["#,
+    r#"{"ask":{"uri":"/a","method":"GET","headers":[["Accept","a"]]},"at":[1704067205,0]},"#,
+    r#"{"ask":{"uri":"/a","method":"GET","headers":[["Accept","a"]]},"at":[1704067400,0]}]}"#,
+);
 
 /// The stored form of the newest one's policy.
-const VALIDATED_VARIANT_FORM: &str =
-    r#"{"method":"GET","opts":{"cache_heuristic":[1,10],"ignore_cargo_cult":false,"immutable_min_time_to_live":[86400,0],"shared":true},"req":{"accept":["61"]},"res":{"cache-control":["6d61782d6167653d31"],"etag":["223322"],"vary":["416363657074"]},"response_time":[1704067200,0],"status":200,"uri":"/a"}"#;
+const VALIDATED_VARIANT_FORM: &str = concat!(
+    r#"{"method":"GET","opts":{"cache_heuristic":[1,10],"ignore_cargo_cult":false,"#,
+    r#""immutable_min_time_to_live":[86400,0],"shared":true},"req":{"accept":["61"]},"#,
+    r#""res":{"cache-control":["6d61782d6167653d31"],"etag":["223322"],"vary":["416363657074"]},"#,
+    r#""response_time":[1704067200,0],"status":200,"uri":"/a"}"#,
+);
 
 /// "private" and "public", as the stored form has them.
 const WORDS: (&str, &str) = ("70726976617465", "7075626c6963");
@@ -59,8 +118,8 @@ pub struct Case {
 fn script_of(alloc: Global, text: &str) -> Result<Script, CacheError> {
     match script_from_bytes(alloc, text.as_bytes()) {
         Ok(script) => Ok(script),
-        Err(Unread::Memory) => Err(CacheError::Memory),
-        Err(Unread::NoScript) => Err(CacheError::Malformed),
+        Err(UnreadScript::Memory) => Err(CacheError::Memory),
+        Err(UnreadScript::NoScript) => Err(CacheError::Malformed),
     }
 }
 
