@@ -6,7 +6,7 @@ use Rattle.std.specs.Io.BufRead.{first_piece, drop_through, DropsThrough}
 use Rattle.http_cache_stored.proofs.ZipLemmas.{zip_push}
 use Rattle.cache_replay.specs.declared.run.Tally.{Tally}
 use Rattle.cache_replay.specs.declared.run.Verdict.{Verdict}
-use Rattle.cache_replay.specs.declared.run.Verdict.TheVariants.{Agrees, Differs, Refused, Answered}
+use Rattle.cache_replay.specs.declared.run.Verdict.TheVariants.{Agrees, Differs, Unreadable, Answered}
 use Rattle.cache_replay.specs.Lines.{AreFirstLines}
 use Rattle.cache_replay.specs.Verdicts.{HasVerdict, agreeing, differing, IsTallyTo}
 
@@ -34,7 +34,7 @@ one_more_line bytes (line ∷ lines) rest read some =
 pub one_at_most : (v : Verdict) → agreeing v + differing v < 2
 one_at_most Agrees = omega arith
 one_at_most Differs = omega arith
-one_at_most Refused = omega arith
+one_at_most Unreadable = omega arith
 one_at_most Answered = omega arith
 
 pub next_tally : (known before after : Option (List ℕ)) (v : Verdict) (old new : Tally)

@@ -7,7 +7,7 @@ use Rattle.serde_json.specs.Read.{read as read_text}
 use Rattle.serde_json.specs.Find.{get}
 use Rattle.cache_replay.specs.declared.run.Tally.{Tally}
 use Rattle.cache_replay.specs.declared.run.Verdict.{Verdict}
-use Rattle.cache_replay.specs.declared.run.Verdict.TheVariants.{Agrees, Differs, Refused, Answered}
+use Rattle.cache_replay.specs.declared.run.Verdict.TheVariants.{Agrees, Differs, Unreadable, Answered}
 use Rattle.cache_replay.specs.Compare.{recorded_of, AreLinesOf}
 use Rattle.cache_replay.specs.Lines.{AreFirstLines}
 
@@ -15,21 +15,21 @@ use Rattle.cache_replay.specs.Lines.{AreFirstLines}
 abbrev pub IsComparison : List Data → List ℕ → Verdict → Type 0
 IsComparison recorded text Agrees = AreLinesOf recorded text
 IsComparison recorded text Differs = ¬ (AreLinesOf recorded text)
-IsComparison recorded text Refused = ⊥
+IsComparison recorded text Unreadable = ⊥
 IsComparison recorded text Answered = ⊥
 
 -- the verdict on a value, by the text of the full answer to the script in it
 abbrev pub IsVerdictOn : Data → List ℕ → Verdict → Type 0
 IsVerdictOn d text Agrees = IsSomeAnd (recorded_of d) (λ r. IsComparison r.lines text Agrees)
 IsVerdictOn d text Differs = IsSomeAnd (recorded_of d) (λ r. IsComparison r.lines text Differs)
-IsVerdictOn d text Refused = IsSome (get (codes "answer") d) × (recorded_of d ≡ None)
+IsVerdictOn d text Unreadable = IsSome (get (codes "answer") d) × (recorded_of d ≡ None)
 IsVerdictOn d text Answered = get (codes "answer") d ≡ None
 
 -- the verdict on a line; one may be refused for want of memory
 abbrev pub IsLineVerdict : List ℕ → List ℕ → Verdict → Type 0
 IsLineVerdict line text Agrees = IsSomeAnd (read_text line) (λ d. IsVerdictOn d text Agrees)
 IsLineVerdict line text Differs = IsSomeAnd (read_text line) (λ d. IsVerdictOn d text Differs)
-IsLineVerdict line text Refused = ⊤
+IsLineVerdict line text Unreadable = ⊤
 IsLineVerdict line text Answered =
     IsUtf8 line → IfSome (read_text line) (λ d. IsVerdictOn d text Answered)
 
@@ -41,14 +41,14 @@ HasVerdict line verdict = (text : List ℕ) × IsLineVerdict line text verdict
 abbrev pub agreeing : Verdict → ℕ
 agreeing Agrees = 1
 agreeing Differs = 0
-agreeing Refused = 0
+agreeing Unreadable = 0
 agreeing Answered = 0
 
 -- how many lines more differ
 abbrev pub differing : Verdict → ℕ
 differing Agrees = 0
 differing Differs = 1
-differing Refused = 1
+differing Unreadable = 1
 differing Answered = 0
 
 -- the first lines of an input have verdicts, which the tally counts, and this is left behind them

@@ -3,7 +3,7 @@
 #![tactic(auto)]
 
 mod compare;
-pub mod lines;
-pub mod replay;
+pub mod full_answer;
+pub mod reader;
 pub mod run;
 mod shown;

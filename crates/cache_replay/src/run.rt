@@ -3,11 +3,12 @@ ghost use Rattle.std.specs.Prelude.{◌≡◌, ◌≢◌, ◌<◌, ◌+◌, ◌-
 ghost use Rattle.std.specs.Io.KnownBytes.{IsAtEnd};
 ghost use Rattle.std.specs.Io.BufRead.{first_piece, DropsThrough};
 ghost use Rattle.serde_json.specs.View.{view};
-ghost use Rattle.cache_replay.specs.Verdicts.{IsComparison, IsVerdictOn, IsLineVerdict, HasVerdict, agreeing, differing, IsTallyOf};
+ghost use Rattle.cache_replay.specs.Verdicts.{IsComparison, IsVerdictOn, IsLineVerdict, HasVerdict, agreeing};
+ghost use Rattle.cache_replay.specs.Verdicts.{differing, IsTallyOf};
 
 use crate::compare::{Difference, Recorded, first_difference, recorded_from};
-use crate::lines::{Line, LineReader};
-use crate::replay::{End, replay};
+use crate::full_answer::{End, write_full_answer};
+use crate::reader::{Line, LineReader};
 use cache_script::{script_from_bytes, script_from_value};
 use serde_json::Value;
 use std::alloc::Global;
@@ -46,7 +47,7 @@ enum Verdict {
     Agrees,
     Differs,
     // It has an answer that isn't a recorded one, or couldn't be read.
-    Refused,
+    Unreadable,
     // There was nothing to compare.
     Answered,
 }
@@ -57,7 +58,7 @@ impl Verdict {
     {
         match self {
             Verdict::Agrees => 1,
-            Verdict::Differs | Verdict::Refused | Verdict::Answered => 0,
+            Verdict::Differs | Verdict::Unreadable | Verdict::Answered => 0,
         }
     }
 
@@ -65,7 +66,7 @@ impl Verdict {
         ensures { result ≡ differing self }
     {
         match self {
-            Verdict::Differs | Verdict::Refused => 1,
+            Verdict::Differs | Verdict::Unreadable => 1,
             Verdict::Agrees | Verdict::Answered => 0,
         }
     }
@@ -102,7 +103,7 @@ fn compare<W: Write>(
     ensures { IfOk result
         (IsComparison (map view recorded.entry.lines.now) (string_bytes text.new)) }
 {
-    let end = replay(alloc, text, script_from_value(alloc, recorded.script));
+    let end = write_full_answer(alloc, text, script_from_value(alloc, recorded.script));
     if end != End::Done {
         add_end(text, end)?;
     }
@@ -124,7 +125,7 @@ fn answer<W: Write>(
 ) -> io::Result<Verdict>
     ensures { IfOk result (λ verdict. verdict ≡ Verdict.Answered) }
 {
-    let end = replay(alloc, text, script_from_bytes(alloc, line));
+    let end = write_full_answer(alloc, text, script_from_bytes(alloc, line));
     add_end(text, end)?;
     writer.write_all(text.as_bytes())?;
     Ok(Verdict::Answered)
@@ -137,10 +138,10 @@ fn add_end(text: &mut String, end: End) -> io::Result<()> {
 }
 
 fn refuse<W: Write>(writer: &mut W, number: u64, why: &str) -> io::Result<Verdict>
-    ensures { IfOk result (λ verdict. verdict ≡ Verdict.Refused) }
+    ensures { IfOk result (λ verdict. verdict ≡ Verdict.Unreadable) }
 {
     writeln!(writer, "line {number} {why}")?;
-    Ok(Verdict::Refused)
+    Ok(Verdict::Unreadable)
 }
 
 fn judge<W: Write>(

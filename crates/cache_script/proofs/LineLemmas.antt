@@ -1,9 +1,9 @@
 -- The text of a line.
-use Rattle.std.proofs.Common.{◌≡◌, ℕ, ◌-◌, ◌/◌, ◌%◌, List, [], ◌++◌, Bool, replicate, length}
+use Rattle.std.proofs.Common.{◌≡◌, ℕ, ◌-◌, ◌/◌, ◌%◌, List, [], ◌++◌, Bool, true, false, replicate, length}
 use Rattle.std.proofs.Common.{decimal, codes, append_assoc, refl, ap, ◌∙◌, arith}
 use Rattle.std.proofs.lemmas.List.{append-nil}
 use Rattle.std.specs.Fmt.{format_spec, styled_decimal, padded_integral, char_count}
-use Rattle.cache_script.specs.Lines.{truth, nine_digits, storable_line}
+use Rattle.cache_script.specs.Lines.{truth, nine_digits, storable_line, updated_line}
 
 -- a number of a width of nine, with zeros in front
 pub nine : (n : ℕ) → styled_decimal (format_spec 32 0 4 9 18446744073709551615) n ≡ nine_digits n
@@ -34,3 +34,14 @@ line_of_pieces storable seconds nanos left e f =
     f
     ∙ regroup (codes "storable ") (truth storable) (codes " ttl ") (decimal (left / 1_000_000_000))
     (codes ".") (nine_digits (left % 1_000_000_000)) (codes "\n")
+
+-- the pieces of the line of an answer to a response are the line
+pub not_modified_line : (not_modified : Bool) (told status : ℕ) → not_modified ≡ true → told ≡ status
+    → codes "not-modified status " ++ (decimal told ++ codes "\n") ≡ updated_line not_modified status
+unfolding updated_line
+not_modified_line not_modified told status e f = rw (e, f) refl
+
+pub modified_line : (not_modified : Bool) (told status : ℕ) → not_modified ≡ false → told ≡ status
+    → codes "modified status " ++ (decimal told ++ codes "\n") ≡ updated_line not_modified status
+unfolding updated_line
+modified_line not_modified told status e f = rw (e, f) refl

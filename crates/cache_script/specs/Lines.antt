@@ -1,5 +1,6 @@
 -- The lines that answer a script, and which outcome has which.
-use Rattle.std.specs.Prelude.{◌≡◌, ⊤, ℕ, ◌-◌, ◌/◌, ◌%◌, ℤ, List, ◌++◌, length, replicate, Bool, true, false, if◌then◌else◌, codes, decimal, IsSome, IsSomeAnd}
+use Rattle.std.specs.Prelude.{◌≡◌, ⊤, ℕ, ◌-◌, ◌/◌, ◌%◌, ℤ, List, ◌++◌, length, replicate, Bool, true, false}
+use Rattle.std.specs.Prelude.{if◌then◌else◌, codes, decimal, IsSome, IsSomeAnd}
 use Rattle.std.specs.List.{AllZip, concat}
 use Rattle.http_cache_policy.specs.Headers.{first_text}
 use Rattle.http_cache_policy.specs.Exchange.{Exchange}
@@ -61,6 +62,18 @@ pub record AreLines (outcomes : List OutcomeSeen) (text : List ℕ) : Type 0 whe
   pub lines : List (List ℕ)
   pub each : AllZip IsLine outcomes lines
   pub joined : text ≡ concat lines
+
+-- what was written behind a text is the line of the outcome
+pub record HasLineBehind (o : OutcomeSeen) (before after : List ℕ) : Type 0 where
+  pub line : List ℕ
+  pub is_line : IsLine o line
+  pub behind : after ≡ before ++ line
+
+-- what was written behind a text is the lines of the outcomes
+pub record AreLinesBehind (outcomes : List OutcomeSeen) (before after : List ℕ) : Type 0 where
+  pub rest : List ℕ
+  pub lines : AreLines outcomes rest
+  pub behind : after ≡ before ++ rest
 
 -- a stored response that is used has an age
 abbrev pub HasAge : OutcomeSeen → Type 0

@@ -4,7 +4,7 @@ use Rattle.std.specs.Io.KnownBytes.{Appends}
 use Rattle.http_cache_policy.specs.Exchange.{Exchange}
 use Rattle.http_cache_policy.specs.Steps.{StepSeen, outcome_seen}
 use Rattle.http_cache_policy.specs.Run.{IsRun}
-use Rattle.http_cache_policy.specs.RunRefused.{StopsFor}
+use Rattle.http_cache_policy.specs.RunStops.{StopsFor}
 use Rattle.http_cache_policy.specs.declared.steps.Outcome.{Outcome}
 use Rattle.cache_script.specs.Script.{ScriptSeen, start_of, IsScript}
 use Rattle.cache_script.specs.Lines.{first_line}

@@ -1,37 +1,18 @@
 //! What is written for a script.
 ghost use Rattle.std.specs.Prelude.{◌≡◌, ◌≢◌, Err, map, IfOk, IsErrOf, string_bytes};
-ghost use Rattle.http_cache_policy.specs.RunRefused.{RefusesStep, HasUndatedStep, LosesTarget, StopsFor};
+ghost use Rattle.http_cache_policy.specs.RunStops.{RefusesStep, HasUndatedStep, LosesTarget, StopsFor};
 ghost use Rattle.cache_script.specs.Steps.{script_step_seen};
 ghost use Rattle.cache_script.specs.Script.{script_seen, start_of, IsNoScript};
-ghost use Rattle.cache_script.specs.Output.{AreStepLines, IsOutput, IsAnswered, IsRefusedScript};
+ghost use Rattle.cache_script.specs.Output.{IsOutput, IsAnswered, IsRefusedScript};
 
 use crate::error::ScriptError;
-use crate::lines::{first_line, lines_of};
+use crate::lines::lines_of;
 use crate::read::{Script, script_from_bytes};
-use crate::refusal::Unread;
-use crate::steps::ScriptStep;
+use crate::unread::UnreadScript;
 use http_cache_fields::CacheError;
 use http_cache_policy::policy::CachePolicy;
 use http_cache_policy::run::replay;
 use std::alloc::Global;
-
-fn lines_of_steps(
-    alloc: Global,
-    policy: &CachePolicy,
-    steps: &[ScriptStep],
-) -> Result<String, CacheError>
-    ensures lines { IfOk result (λ text.
-        AreStepLines policy.now (map script_step_seen steps.now) (string_bytes text)) }
-    ensures full { IsErrOf result CacheError.HeaderMapFull
-        → StopsFor RefusesStep policy.now (map script_step_seen steps.now) }
-    ensures unprintable { IsErrOf result CacheError.DateNotPrintable
-        → StopsFor HasUndatedStep policy.now (map script_step_seen steps.now) }
-    ensures malformed { IsErrOf result CacheError.Malformed
-        → StopsFor LosesTarget policy.now (map script_step_seen steps.now) }
-{
-    let outcomes = replay(alloc, policy, steps)?;
-    Ok(lines_of(alloc, outcomes.as_slice())?)
-}
 
 fn text_of(alloc: Global, policy: &CachePolicy, script: &Script) -> Result<String, CacheError>
     requires { policy.now ≡ start_of (script_seen script.now) }
@@ -43,10 +24,8 @@ fn text_of(alloc: Global, policy: &CachePolicy, script: &Script) -> Result<Strin
     ensures malformed { IsErrOf result CacheError.Malformed
         → StopsFor LosesTarget policy.now (map script_step_seen script.now.steps.items) }
 {
-    let mut text = first_line(alloc, policy, script.received)?;
-    let rest = lines_of_steps(alloc, policy, script.steps.as_slice())?;
-    text.push_str(rest.as_str())?;
-    Ok(text)
+    let outcomes = replay(alloc, policy, script.steps.as_slice())?;
+    Ok(lines_of(alloc, policy, script.received, outcomes.as_slice())?)
 }
 
 fn output(alloc: Global, script: &Script) -> Result<String, CacheError>
@@ -76,8 +55,8 @@ pub fn answer(alloc: Global, bytes: &[u8]) -> Result<String, ScriptError>
 {
     let script = match script_from_bytes(alloc, bytes) {
         Ok(script) => script,
-        Err(Unread::Memory) => return Err(ScriptError::Cache(CacheError::Memory)),
-        Err(Unread::NoScript) => return Err(ScriptError::NotReadable),
+        Err(UnreadScript::Memory) => return Err(ScriptError::Cache(CacheError::Memory)),
+        Err(UnreadScript::NoScript) => return Err(ScriptError::NotReadable),
     };
     match output(alloc, &script) {
         Ok(text) => Ok(text),

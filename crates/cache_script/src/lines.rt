@@ -1,10 +1,11 @@
-//! The lines of a script's output, each with its line feed.
-ghost use Rattle.std.specs.Prelude.{◌≡◌, Some, IsSome, IfOk, codes, map, string_bytes};
+//! The lines of a script's output, each with its line feed, written behind a text.
+ghost use Rattle.std.specs.Prelude.{◌≡◌, Some, IsSome, IfOk, OnOk, ◌++◌, codes, map, string_bytes};
 ghost use Rattle.std.specs.Duration.{as_nanos};
 ghost use Rattle.std.specs.List.{AllByRecursion};
 ghost use Rattle.http_cache_policy.specs.Headers.{headers_of, first_text};
 ghost use Rattle.http_cache_policy.specs.Steps.{answer_seen, outcome_seen};
-ghost use Rattle.cache_script.specs.Lines.{storable_line, age_line, stale_line, updated_line, restarted_line, first_line, IsLine, AreLines, HasAge};
+ghost use Rattle.cache_script.specs.Lines.{storable_line, age_line, stale_line, updated_line, restarted_line};
+ghost use Rattle.cache_script.specs.Lines.{first_line, HasLineBehind, AreLinesBehind, HasAge};
 
 use http::{StatusCode, response};
 use http_cache_fields::directives::GetHeaderStr;
@@ -13,66 +14,77 @@ use http_cache_policy::policy::CachePolicy;
 use http_cache_policy::steps::Outcome;
 use jiff::Timestamp;
 use std::alloc::{AllocError, Global};
+use std::fmt::Write;
 use std::time::Duration;
 
-/// Whether a response may be stored, and how much of its lifetime is left.
-pub fn storable_line(alloc: Global, storable: bool, left: Duration) -> Result<String, AllocError>
-    ensures { IfOk result (λ line. string_bytes line ≡ storable_line storable (as_nanos left)) }
+/// Writes whether a response may be stored, and how much of its lifetime is left.
+pub fn push_storable_line(
+    text: &mut String,
+    storable: bool,
+    left: Duration,
+) -> Result<(), AllocError>
+    ensures { OnOk result (string_bytes text.new
+        ≡ string_bytes text.old ++ storable_line storable (as_nanos left)) }
 {
     let seconds = left.as_secs();
     let nanos = left.subsec_nanos();
-    format!(in alloc; "storable {storable} ttl {seconds}.{nanos:09}\n")
+    writeln!(text, "storable {storable} ttl {seconds}.{nanos:09}")
 }
 
-/// The line of a fresh answer, by the text of its age.
+/// Writes the line of a fresh answer, by the text of its age.
 #[tactic(auto, unfolding(crate::specs::Lines::age_line))]
-pub fn age_line(alloc: Global, age: &str) -> Result<String, AllocError>
-    ensures { IfOk result (λ line. string_bytes line ≡ age_line age.now) }
+pub fn push_age_line(text: &mut String, age: &str) -> Result<(), AllocError>
+    ensures { OnOk result
+        (string_bytes text.new ≡ string_bytes text.old ++ age_line age.now) }
 {
-    format!(in alloc; "fresh age {age}\n")
+    writeln!(text, "fresh age {age}")
 }
 
-/// The line of a stale answer, by whether the stored response matches.
+/// Writes the line of a stale answer, by whether the stored response matches.
 #[tactic(auto, unfolding(crate::specs::Lines::stale_line))]
-pub fn stale_line(alloc: Global, matches: bool) -> Result<String, AllocError>
-    ensures { IfOk result (λ line. string_bytes line ≡ stale_line matches) }
+pub fn push_stale_line(text: &mut String, matches: bool) -> Result<(), AllocError>
+    ensures { OnOk result
+        (string_bytes text.new ≡ string_bytes text.old ++ stale_line matches) }
 {
-    format!(in alloc; "stale matches {matches}\n")
+    writeln!(text, "stale matches {matches}")
 }
 
-/// The line of an answer to a response, by whether the stored body still holds, and its status.
+/// Writes the line of an answer to a response, by whether the stored body still holds, and its
+/// status.
 #[tactic(auto, unfolding(crate::specs::Lines::updated_line))]
-pub fn updated_line(
-    alloc: Global,
+pub fn push_updated_line(
+    text: &mut String,
     not_modified: bool,
     status: StatusCode,
-) -> Result<String, AllocError>
-    ensures { IfOk result (λ line. string_bytes line ≡ updated_line not_modified status) }
+) -> Result<(), AllocError>
+    ensures { OnOk result
+        (string_bytes text.new ≡ string_bytes text.old ++ updated_line not_modified status) }
 {
     let status = status.as_u16();
     if not_modified {
-        format!(in alloc; "not-modified status {status}\n")
+        writeln!(text, "not-modified status {status}")
     } else {
-        format!(in alloc; "modified status {status}\n")
+        writeln!(text, "modified status {status}")
     }
 }
 
-/// The line of a restart.
-pub fn restarted_line(alloc: Global) -> Result<String, AllocError>
-    ensures { IfOk result (λ line. string_bytes line ≡ restarted_line) }
+/// Writes the line of a restart.
+pub fn push_restarted_line(text: &mut String) -> Result<(), AllocError>
+    ensures { OnOk result (string_bytes text.new ≡ string_bytes text.old ++ restarted_line) }
 {
-    String::from_str(alloc, "restarted\n")
+    text.push_str("restarted\n")
 }
 
-/// The line of a policy at a moment.
-pub(crate) fn first_line(
-    alloc: Global,
+/// Writes the line of a policy at a moment.
+pub fn push_first_line(
+    text: &mut String,
     policy: &CachePolicy,
     now: Timestamp,
-) -> Result<String, AllocError>
-    ensures { IfOk result (λ line. string_bytes line ≡ first_line policy.now now.nanosecond) }
+) -> Result<(), AllocError>
+    ensures { OnOk result (string_bytes text.new
+        ≡ string_bytes text.old ++ first_line policy.now now.nanosecond) }
 {
-    storable_line(alloc, policy.is_storable(), policy.time_to_live(now))
+    push_storable_line(text, policy.is_storable(), policy.time_to_live(now))
 }
 
 // The text of the header `age`.
@@ -86,37 +98,45 @@ fn age_of(parts: &response::Parts) -> &str
     }
 }
 
-fn line_of_answer(alloc: Global, answer: &BeforeRequest) -> Result<String, AllocError>
+fn push_line_of_answer(text: &mut String, answer: &BeforeRequest) -> Result<(), AllocError>
     requires { HasAge (answer_seen answer.now) }
-    ensures { IfOk result (λ line. IsLine (answer_seen answer.now) (string_bytes line)) }
+    ensures { OnOk result
+        (HasLineBehind (answer_seen answer.now) (string_bytes text.old) (string_bytes text.new)) }
 {
     match answer {
-        BeforeRequest::Fresh(parts) => age_line(alloc, age_of(parts)),
-        BeforeRequest::Stale { matches, .. } => stale_line(alloc, *matches),
+        BeforeRequest::Fresh(parts) => push_age_line(text, age_of(parts)),
+        BeforeRequest::Stale { matches, .. } => push_stale_line(text, *matches),
     }
 }
 
-fn line_of_outcome(alloc: Global, outcome: &Outcome) -> Result<String, AllocError>
+fn push_line_of_outcome(text: &mut String, outcome: &Outcome) -> Result<(), AllocError>
     requires { HasAge (outcome_seen outcome.now) }
-    ensures { IfOk result (λ line. IsLine (outcome_seen outcome.now) (string_bytes line)) }
+    ensures { OnOk result (HasLineBehind
+        (outcome_seen outcome.now) (string_bytes text.old) (string_bytes text.new)) }
 {
     match outcome {
-        Outcome::Asked(answer) => line_of_answer(alloc, answer),
-        Outcome::NotModified(parts) => updated_line(alloc, true, parts.status),
-        Outcome::Modified(parts) => updated_line(alloc, false, parts.status),
-        Outcome::Restarted => restarted_line(alloc),
+        Outcome::Asked(answer) => push_line_of_answer(text, answer),
+        Outcome::NotModified(parts) => push_updated_line(text, true, parts.status),
+        Outcome::Modified(parts) => push_updated_line(text, false, parts.status),
+        Outcome::Restarted => push_restarted_line(text),
     }
 }
 
-/// The lines of outcomes, one after the other.
-pub(crate) fn lines_of(alloc: Global, outcomes: &[Outcome]) -> Result<String, AllocError>
+/// The line of a policy at a moment, and behind it those of outcomes, one after the other.
+pub(crate) fn lines_of(
+    alloc: Global,
+    policy: &CachePolicy,
+    now: Timestamp,
+    outcomes: &[Outcome],
+) -> Result<String, AllocError>
     requires { AllByRecursion HasAge (map outcome_seen outcomes.now) }
-    ensures { IfOk result (λ text. AreLines (map outcome_seen outcomes.now) (string_bytes text)) }
+    ensures { IfOk result (λ text. AreLinesBehind (map outcome_seen outcomes.now)
+        (first_line policy.now now.nanosecond) (string_bytes text)) }
 {
     let mut text = String::new(alloc);
+    push_first_line(&mut text, policy, now)?;
     for outcome in outcomes {
-        let line = line_of_outcome(alloc, outcome)?;
-        text.push_str(line.as_str())?;
+        push_line_of_outcome(&mut text, outcome)?;
     }
     Ok(text)
 }

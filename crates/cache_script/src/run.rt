@@ -1,7 +1,8 @@
 //! From bytes to bytes.
-ghost use Rattle.std.specs.Prelude.{◌≡◌, ◌≢◌, ◌≤◌, ◌<◌, ◌++◌, List, ℕ, Some, length, true, false, IfOk, OnOk, OnErr, IfSome, IsErrOf};
+ghost use Rattle.std.specs.Prelude.{◌≡◌, ◌≢◌, ◌≤◌, ◌<◌, ◌++◌, List, ℕ, Some, length, true, false, IfOk, OnOk, OnErr};
+ghost use Rattle.std.specs.Prelude.{IfSome, IsErrOf};
 ghost use Rattle.std.specs.Io.KnownBytes.{Appends};
-ghost use Rattle.http_cache_policy.specs.RunRefused.{RefusesStep, HasUndatedStep, LosesTarget};
+ghost use Rattle.http_cache_policy.specs.RunStops.{RefusesStep, HasUndatedStep, LosesTarget};
 ghost use Rattle.cache_script.specs.Script.{longest_script, IsNoScript};
 ghost use Rattle.cache_script.specs.Output.{IsAnswered, IsBegun, IsRefusedScript};
 

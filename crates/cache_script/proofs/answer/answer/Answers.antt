@@ -1,7 +1,7 @@
 -- The text is the script's only output; but for memory, the cache refuses where its steps stop.
 use Rattle.std.proofs.Common.{rules, string_bytes}
 use Rattle.cache_script.specs.Script.{ScriptSeen, script_seen, start_of}
-use Rattle.http_cache_policy.specs.RunRefused.{RefusesStep, HasUndatedStep, LosesTarget, StopsFor}
+use Rattle.http_cache_policy.specs.RunStops.{RefusesStep, HasUndatedStep, LosesTarget, StopsFor}
 use Rattle.cache_script.specs.Output.{IsOnlyOutput}
 use Rattle.cache_script.proofs.AnswerLemmas.{script_that}
 use Rattle.cache_script.proofs.OutputUniqueLemmas.{IsOutput-unique}

@@ -1,7 +1,7 @@
 -- What was read of a line that is too long, and what is skipped behind it, is one line.
 use Rattle.std.proofs.Common.{rules}
 use Rattle.cache_replay.proofs.LineLemmas.{passed_over}
-use Rattle.cache_replay.proofs.lines.LineReader.next_line.Goals as goal
+use Rattle.cache_replay.proofs.reader.LineReader.next_line.Goals as goal
 
 pub returns-in_ok-skip_until-in-Err-clause-rest : goal.returns-in_ok-skip_until-in-Err-clause-rest
 returns-in_ok-skip_until-in-Err-clause-rest g c =

@@ -1,0 +1,35 @@
+//! Why nothing was read.
+ghost use Rattle.std.specs.Prelude.{◌≡◌};
+ghost use Rattle.cache_script.specs.declared.unread.UnreadScript.TheVariants.{Memory};
+
+use std::alloc::AllocFailed;
+
+/// Why nothing was read.
+#[derive(Clone, Copy, Debug, PartialEq, Eq, Drop)]
+pub enum UnreadScript {
+    /// The allocator had no memory, so nothing is said of what was to be read.
+    Memory,
+    /// It is no script.
+    NoScript,
+}
+
+impl<T: Drop> From<AllocFailed<T>> for UnreadScript {
+    ghost from_gives = { λ _ e. e ≡ Memory };
+
+    fn from(_e: AllocFailed<T>) -> UnreadScript {
+        UnreadScript::Memory
+    }
+}
+
+impl From<http_cache_stored::UnreadValue> for UnreadScript {
+    ghost use Rattle.cache_script.specs.Unread.{unread_of};
+
+    ghost from_gives = { λ part e. e ≡ unread_of part };
+
+    fn from(part: http_cache_stored::UnreadValue) -> UnreadScript {
+        match part {
+            http_cache_stored::UnreadValue::Memory => UnreadScript::Memory,
+            http_cache_stored::UnreadValue::Malformed => UnreadScript::NoScript,
+        }
+    }
+}
