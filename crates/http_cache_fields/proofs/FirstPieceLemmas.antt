@@ -1,14 +1,14 @@
 -- A directive is what the first piece of its name says.
-use Rattle.std.proofs.Common.{◌≡◌, ℕ, Bool, true, false, cond, List, [], ◌∷◌, ◌++◌}
-use Rattle.std.proofs.Common.{length, filter, Option, Some, None, codes, refl, sym}
+use Rattle.std.proofs.Common.{◌≡◌, ℕ, Bool, true, false, cond, ◌||◌, List, [], ◌∷◌, ◌++◌}
+use Rattle.std.proofs.Common.{length, filter, Option, Some, None, is_some, codes, refl, sym}
 use Rattle.std.proofs.Common.{ap, ◌∙◌, subst, append_assoc, arith, nat_lt, bytes_eq}
-use Rattle.std.specs.List.{find}
+use Rattle.std.specs.List.{list_any, find}
 use Rattle.std.specs.Option.{option_map}
 use Rattle.std.proofs.lemmas.Bool.Decides.{nat_tests}
 use Rattle.std.proofs.lemmas.List.{append-nil}
 use Rattle.std.proofs.lemmas.Slice.Eq.{bytes_eq-Decides}
 use Rattle.http_cache_fields.specs.Directives.{Directive, name_of, unquoted_value_of}
-use Rattle.http_cache_fields.specs.Directives.{has_name, first_directives}
+use Rattle.http_cache_fields.specs.Directives.{has, has_name, first_directives}
 use Rattle.http_cache_fields.specs.Directives.{has_conflict, value_under, set_directive}
 use Rattle.http_cache_fields.specs.Directives.{must_revalidate, with_conflict, directives}
 use Rattle.http_cache_fields.proofs.ReadLemmas.{HasRead, HasRead-none, HasRead-new, HasRead-again, has_name_of}
@@ -93,3 +93,26 @@ value_under-first_piece ps n named apart =
     value_under-with_conflict (has_conflict kept) (first_directives kept) n apart
     ∙ (Says-all [] kept HasRead-none).firsts n
     ∙ ap (option_map unquoted_value_of) (find-named n ps named)
+
+-- a name is there where a piece has it
+pub named-by_directive : (ps : List (List ℕ)) (n : List ℕ) → nat_lt 0 (length n) ≡ true
+    → bytes_eq n (codes "must-revalidate") ≡ false
+    → list_any (λ p. bytes_eq n (name_of p)) ps ≡ has (directives ps) n
+named-by_directive ps n named other =
+    found ps ∙ sym (mapped (find (λ p. bytes_eq n (name_of p)) ps))
+    ∙ ap is_some (sym (value_under-first_piece ps n named other))
+  where
+    mapped : (o : Option (List ℕ)) → is_some (option_map unquoted_value_of o) ≡ is_some o
+    mapped None = refl
+    mapped (Some q) = refl
+
+    found : (qs : List (List ℕ))
+        → list_any (λ p. bytes_eq n (name_of p)) qs ≡ is_some (find (λ p. bytes_eq n (name_of p)) qs)
+    found [] = refl
+    found (q ∷ qs) = by (bytes_eq n (name_of q)) (found qs)
+      where
+        by : (b : Bool) → list_any (λ p. bytes_eq n (name_of p)) qs ≡ is_some (find (λ p. bytes_eq n (name_of p)) qs)
+            → (b || list_any (λ p. bytes_eq n (name_of p)) qs)
+            ≡ is_some (cond b (Some q) (find (λ p. bytes_eq n (name_of p)) qs))
+        by true ih = refl
+        by false ih = ih

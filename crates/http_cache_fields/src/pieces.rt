@@ -2,7 +2,8 @@
 ghost use Rattle.std.specs.Prelude.{◌≡◌, [], ◌∷◌, MatchOption};
 ghost use Rattle.std.specs.Iterator.{YieldsFirstRef, item_count};
 ghost use Rattle.http_cache_fields.specs.Headers.{headers_of, bytes_of};
-ghost use Rattle.http_cache_fields.specs.Pieces.{text_lines, pieces_of_line, pieces_of_rest, pieces_of_values, pieces_under};
+ghost use Rattle.http_cache_fields.specs.Pieces.{text_lines, pieces_of_line, pieces_of_rest, pieces_of_values};
+ghost use Rattle.http_cache_fields.specs.Pieces.{pieces_under};
 
 use crate::text::trim;
 use http_header::{AsHeaderName, GetAll, HeaderMap, HeaderValue, ValueIter};

@@ -1,5 +1,6 @@
 //! Reading the directives of a header.
-ghost use Rattle.std.specs.Prelude.{◌≡◌, ◌∷◌, ◌++◌, [], None, map, option_copied, option_map, IfOk};
+ghost use Rattle.std.specs.Prelude.{◌≡◌, ◌<◌, ◌∷◌, ◌++◌, [], None, false, length, map, codes, bytes_eq, option_copied};
+ghost use Rattle.std.specs.Prelude.{option_map, IfOk};
 ghost use Rattle.http_header.specs.Token.{lowercase};
 ghost use Rattle.http_cache_fields.specs.Headers.{headers_of, bytes_of};
 ghost use Rattle.http_cache_fields.specs.Pieces.{pieces_of_values};
@@ -9,7 +10,7 @@ ghost use Rattle.http_cache_fields.specs.Shown.{sent_entry};
 
 use crate::directives::split_piece;
 use crate::names::{Name, is_same_name};
-use crate::pieces::get_all_comma;
+use crate::pieces::{get_all_comma, pieces_under};
 use crate::text::unquote;
 use http_header::{CACHE_CONTROL, GetAll, HeaderMap, HeaderValue};
 use std::alloc::{AllocError, Global};
@@ -135,4 +136,14 @@ pub fn read_cache_control(alloc: Global, headers: &HeaderMap) -> Result<Reading<
         ≡ cache_control (headers_of headers.now)) }
 {
     read(alloc, headers.get_all(CACHE_CONTROL))
+}
+
+/// Whether a directive of the Cache-Control lines of a map has the name in any case. The name isn't
+/// must-revalidate, which directives in conflict set.
+pub fn says(headers: &HeaderMap, name: &str) -> bool
+    requires named { 0 < length name.now }
+    requires unset { bytes_eq (lowercase name.now) (codes "must-revalidate") ≡ false }
+    ensures { result ≡ has (cache_control (headers_of headers.now)) (lowercase name.now) }
+{
+    pieces_under(headers, CACHE_CONTROL).any(|piece| is_same_name(name, split_piece(piece).0))
 }

@@ -8,7 +8,7 @@ use Rattle.http_cache_policy.specs.Refused.{RefusesAnswer, HasUndatedAnswer}
 use Rattle.http_cache_policy.specs.Update.{next_exchange}
 use Rattle.http_cache_policy.specs.Steps.{StepSeen, asks, receives, restarts}
 use Rattle.http_cache_policy.specs.Run.{IsAnswer}
-use Rattle.http_cache_policy.specs.RunRefused.{RefusesStep, HasUndatedStep, HasNoOutcome, StopsFor}
+use Rattle.http_cache_policy.specs.RunStops.{RefusesStep, HasUndatedStep, HasNoOutcome, StopsFor}
 use Rattle.http_cache_policy.specs.Messages.{RequestSeen}
 use Rattle.http_cache_policy.specs.declared.before.BeforeRequest.{BeforeRequest}
 use Rattle.http_cache_policy.specs.declared.before.BeforeRequest.TheVariants.{Fresh, Stale}

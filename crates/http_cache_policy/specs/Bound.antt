@@ -1,6 +1,7 @@
 -- One bound on the age: below it, and only below it, a stored response answers a request (RFC 7234,
 -- sections 4 and 5.2.1). What is stored and what is asked fix it, and no moment changes it.
-use Rattle.std.specs.Prelude.{ℕ, ℤ, ◌+◌, ◌*◌, ◌-◌, ◌==◌, min, nat_lt, Bool, true, not, ◌&&◌, List, codes, Option, Some, None, option_map, option_and_then, if◌then◌else◌}
+use Rattle.std.specs.Prelude.{ℕ, ℤ, ◌+◌, ◌*◌, ◌-◌, ◌==◌, min, nat_lt, Bool, true, not, ◌&&◌, List, codes, Option, Some}
+use Rattle.std.specs.Prelude.{None, option_map, option_and_then, if◌then◌else◌}
 use Rattle.http_cache_fields.specs.Directives.{Directive, has}
 use Rattle.http_cache_rules.specs.Asks.{Asks, asks_of, asked_directives, has_no_cache, number_under}
 use Rattle.http_cache_policy.specs.Messages.{RequestSeen}

@@ -1,5 +1,6 @@
 -- The fresh answer.
-use Rattle.std.specs.Prelude.{◌≡◌, ◌≢◌, ◌/◌, ℕ, ℤ, ◌⊎◌, Bool, true, not, ◌&&◌, nat_lt, List, [], ◌∷◌, length, codes, decimal, if◌then◌else◌}
+use Rattle.std.specs.Prelude.{◌≡◌, ◌≢◌, ◌/◌, ℕ, ℤ, ◌⊎◌, Bool, true, not, ◌&&◌, nat_lt, List, [], ◌∷◌, length, codes}
+use Rattle.std.specs.Prelude.{decimal, if◌then◌else◌}
 use Rattle.http.specs.declared.response.Parts.{Parts}
 use Rattle.http.specs.declared.version.TheConstants.Version.{HTTP_11}
 use Rattle.http_cache_fields.specs.Headers.{Headers, headers_of, values, set, with_further_value, IsAbsent, RefusesName}

@@ -1,10 +1,12 @@
 -- The request that goes to the origin (RFC 7234, section 4.3.1).
-use Rattle.std.specs.Prelude.{◌≡◌, ◌⊎◌, ℕ, Bool, true, false, not, ◌||◌, List, [], ◌∷◌, ◌++◌, filter, codes, bytes_eq, Option, Some, None, is_some, if◌then◌else◌}
+use Rattle.std.specs.Prelude.{◌≡◌, ◌⊎◌, ℕ, Bool, true, false, not, ◌||◌, List, [], ◌∷◌, ◌++◌, filter, codes, bytes_eq}
+use Rattle.std.specs.Prelude.{Option, Some, None, is_some, if◌then◌else◌}
 use Rattle.std.specs.FinMap as fin
 use Rattle.http.specs.declared.request.Parts.{Parts}
 use Rattle.http.specs.declared.version.TheConstants.Version.{HTTP_11}
 use Rattle.http_cache_fields.specs.Text.{begins_with}
-use Rattle.http_cache_fields.specs.Headers.{Headers, headers_of, first_text, contains_key, set, set_unless_empty, RefusesName}
+use Rattle.http_cache_fields.specs.Headers.{Headers, headers_of, first_text, contains_key, set, set_unless_empty}
+use Rattle.http_cache_fields.specs.Headers.{RefusesName}
 use Rattle.http_cache_fields.specs.Pieces.{pieces_under, join}
 use Rattle.http_cache_rules.specs.Filter.{filtered_headers}
 use Rattle.http_cache_policy.specs.Messages.{RequestSeen}

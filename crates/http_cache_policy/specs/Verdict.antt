@@ -1,7 +1,8 @@
 -- Whether a stored response may be used without validation (RFC 7234, section 4).
 use Rattle.std.specs.Prelude.{ℕ, ℤ, ◌-◌, Bool, not, ◌&&◌, ◌||◌, List, codes, nat_le}
 use Rattle.http_cache_fields.specs.Directives.{Directive, has}
-use Rattle.http_cache_rules.specs.Asks.{Asks, asks_of, asked_directives, has_no_cache, is_young_enough, lasts_long_enough, takes_stale}
+use Rattle.http_cache_rules.specs.Asks.{Asks, asks_of, asked_directives, has_no_cache, is_young_enough}
+use Rattle.http_cache_rules.specs.Asks.{lasts_long_enough, takes_stale}
 use Rattle.http_cache_policy.specs.Messages.{RequestSeen}
 use Rattle.http_cache_policy.specs.Exchange.{Exchange, stored_directives}
 use Rattle.http_cache_rules.specs.Storing.{is_storable}

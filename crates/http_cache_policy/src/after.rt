@@ -43,7 +43,7 @@ fn answer_with(
         → HasNoDate policy now.nanosecond }
     ensures no_other { result ≢ Err CacheError.Malformed }
 {
-    let parts = policy.cached_response(alloc, now)?;
+    let parts = policy.cached_response(alloc, now, policy.age(now))?;
     Ok(if selected {
         AfterResponse::NotModified(policy, parts)
     } else {

@@ -100,11 +100,14 @@ impl CachePolicy {
         ensures no_other { result ≢ Err CacheError.Malformed }
     {
         let matches = self.matches_request(req);
-        if matches && self.satisfies_without_revalidation(req.headers(), now) {
-            return Ok(BeforeRequest::Fresh(self.cached_response(alloc, now)?));
+        if matches {
+            let age = self.age(now);
+            if self.satisfies_without_revalidation(req.headers(), age) {
+                return Ok(BeforeRequest::Fresh(self.cached_response(alloc, now, age)?));
+            }
         }
         let validates = matches || is_head(req.method());
-        let request = self.revalidation_request(alloc, req.headers(), validates)?;
+        let request = self.request_for_origin(alloc, req.headers(), validates)?;
         Ok(BeforeRequest::Stale { request, matches })
     }
 }

@@ -197,22 +197,22 @@ impl CachePolicy {
         &self.parts
     }
 
-    /// The stored target.
-    pub(crate) fn stored_target(&self) -> &Uri
+    /// The target of the stored request, by which a store may file the policy.
+    pub fn stored_target(&self) -> &Uri
         ensures { result.now ≡ self.now.target }
     {
         &self.parts.target
     }
 
-    /// The stored method.
-    pub(crate) fn stored_method(&self) -> &Method
+    /// The method of the stored request.
+    pub fn stored_method(&self) -> &Method
         ensures { result.now ≡ self.now.method }
     {
         &self.parts.method
     }
 
-    /// The stored status.
-    pub(crate) fn stored_status(&self) -> StatusCode
+    /// The status of the stored response.
+    pub fn stored_status(&self) -> StatusCode
         ensures { result ≡ self.now.status }
     {
         self.parts.status
@@ -225,8 +225,8 @@ impl CachePolicy {
         self.parts.options
     }
 
-    /// When the response came.
-    pub(crate) fn stored_response_time(&self) -> Timestamp
+    /// When the stored response came.
+    pub fn stored_response_time(&self) -> Timestamp
         ensures { result.nanosecond ≡ self.now.response_time }
     {
         self.parts.response_time

@@ -4,7 +4,8 @@ ghost use Rattle.http_cache_policy.specs.Exchange.{Exchange};
 ghost use Rattle.http_cache_policy.specs.Answer.{is_not_modified, policy_in, parts_in};
 ghost use Rattle.http_cache_policy.specs.Steps.{receives, restarts, step_seen, outcome_seen};
 ghost use Rattle.http_cache_policy.specs.Run.{IsReceived, IsStepOf, IsOnlyRun};
-ghost use Rattle.http_cache_policy.specs.RunRefused.{RefusesStep, HasUndatedStep, HasLostTarget, LosesTarget, HasNoOutcome, StopsFor};
+ghost use Rattle.http_cache_policy.specs.RunStops.{RefusesStep, HasUndatedStep, HasLostTarget, LosesTarget};
+ghost use Rattle.http_cache_policy.specs.RunStops.{HasNoOutcome, StopsFor};
 ghost use Rattle.http_cache_policy.specs.Renewal.{IsRenewalOf, IsRenewedThrough, is_replacement, has_replacement};
 
 use crate::after::AfterResponse;

@@ -1,14 +1,14 @@
 -- What a request asks, one piece after another.
 use Rattle.std.proofs.Common.{◌≡◌, ℕ, Bool, true, false, cond, ◌||◌, true≢false}
 use Rattle.std.proofs.Common.{List, [], ◌∷◌, ◌++◌, codes, length, Option, Some, None}
-use Rattle.std.proofs.Common.{is_some, option_map, refl, sym, ap, ◌∙◌, bytes_eq, nat_lt}
+use Rattle.std.proofs.Common.{option_map, refl, sym, ap, ◌∙◌, bytes_eq, nat_lt}
 use Rattle.std.specs.Option.{option_or}
 use Rattle.std.specs.List.{list_any, find}
 use Rattle.std.proofs.lemmas.List.Folds.{find-append, list_any-append}
-use Rattle.http_cache_fields.specs.Directives.{name_of, unquoted_value_of, directives, has}
+use Rattle.http_cache_fields.specs.Directives.{name_of, unquoted_value_of, directives}
 use Rattle.http_cache_rules.specs.DeltaSeconds.{said_by_value, said_by_pieces, delta_seconds_under, is_said}
 use Rattle.http_cache_rules.specs.Asks.{asked_of, asked_by_pieces}
-use Rattle.http_cache_fields.proofs.FirstPieceLemmas.{value_under-first_piece}
+use Rattle.http_cache_fields.proofs.FirstPieceLemmas.{value_under-first_piece, named-by_directive}
 use Rattle.http_cache_rules.proofs.DeltaSecondsLemmas.{said-by_value}
 
 abbrev first_said : Option (List ℕ) → Rattle.http_cache_rules.specs.declared.delta_seconds.DeltaSeconds.DeltaSeconds
@@ -67,29 +67,6 @@ named-next n ps p =
 pub said-by_directive : (ps : List (List ℕ)) (n : List ℕ) → nat_lt 0 (length n) ≡ true
     → bytes_eq n (codes "must-revalidate") ≡ false → said_by_pieces n ps ≡ delta_seconds_under (directives ps) n
 said-by_directive ps n named other = ap said_by_value (sym (value_under-first_piece ps n named other))
-
--- a name is there where a piece has it
-pub named-by_directive : (ps : List (List ℕ)) (n : List ℕ) → nat_lt 0 (length n) ≡ true
-    → bytes_eq n (codes "must-revalidate") ≡ false
-    → list_any (λ p. bytes_eq n (name_of p)) ps ≡ has (directives ps) n
-named-by_directive ps n named other =
-    found ps ∙ sym (mapped (find (λ p. bytes_eq n (name_of p)) ps))
-    ∙ ap is_some (sym (value_under-first_piece ps n named other))
-  where
-    mapped : (o : Option (List ℕ)) → is_some (option_map unquoted_value_of o) ≡ is_some o
-    mapped None = refl
-    mapped (Some q) = refl
-
-    found : (qs : List (List ℕ))
-        → list_any (λ p. bytes_eq n (name_of p)) qs ≡ is_some (find (λ p. bytes_eq n (name_of p)) qs)
-    found [] = refl
-    found (q ∷ qs) = by (bytes_eq n (name_of q)) (found qs)
-      where
-        by : (b : Bool) → list_any (λ p. bytes_eq n (name_of p)) qs ≡ is_some (find (λ p. bytes_eq n (name_of p)) qs)
-            → (b || list_any (λ p. bytes_eq n (name_of p)) qs)
-            ≡ is_some (cond b (Some q) (find (λ p. bytes_eq n (name_of p)) qs))
-        by true ih = refl
-        by false ih = ih
 
 pub asked-by_directives : (ps : List (List ℕ)) → asked_by_pieces ps ≡ asked_of (directives ps)
 asked-by_directives ps = λ i. record {

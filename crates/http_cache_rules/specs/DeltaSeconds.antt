@@ -4,7 +4,8 @@ use Rattle.std.specs.List.{find}
 use Rattle.http_cache_fields.specs.Number.{number}
 use Rattle.http_cache_fields.specs.Directives.{Directive, name_of, unquoted_value_of, value_under}
 use Rattle.http_cache_rules.specs.declared.delta_seconds.DeltaSeconds.{DeltaSeconds}
-use Rattle.http_cache_rules.specs.declared.delta_seconds.DeltaSeconds.TheVariants.{Absent, WithoutValue, NoNumber, Number}
+use Rattle.http_cache_rules.specs.declared.delta_seconds.DeltaSeconds.TheVariants.{Absent, WithoutValue, NoNumber}
+use Rattle.http_cache_rules.specs.declared.delta_seconds.DeltaSeconds.TheVariants.{Number}
 
 -- by the number of a value, if it is one
 abbrev pub said_by_number : Option ℕ → DeltaSeconds

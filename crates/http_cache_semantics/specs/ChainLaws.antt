@@ -1,5 +1,6 @@
 -- Ages and lifetimes along a chain of caches (RFC 7234, sections 4.2.1 and 4.2.3).
-use Rattle.std.specs.Prelude.{◌≡◌, ⊤, ◌≤◌, ◌≤ℤ◌, ◌-ℤ◌, ◌+◌, ◌*◌, ◌/◌, ◌-◌, ◌^◌, min, ℕ, ℤ, true, false, List, [], ◌∷◌, take, length, codes, Some, slice_get}
+use Rattle.std.specs.Prelude.{◌≡◌, ⊤, ◌≤◌, ◌≤ℤ◌, ◌-ℤ◌, ◌+◌, ◌*◌, ◌/◌, ◌-◌, ◌^◌, min, ℕ, ℤ, true, false, List, [], ◌∷◌}
+use Rattle.std.specs.Prelude.{take, length, codes, Some, slice_get}
 use Rattle.std.specs.List.{list_any}
 use Rattle.http_cache_fields.specs.Headers.{values}
 use Rattle.http_cache_fields.specs.Pieces.{pieces_under}

@@ -5,7 +5,8 @@ ghost use Rattle.http_cache_policy.specs.Exchange.{Exchange};
 ghost use Rattle.http_cache_policy.specs.Verdict.{is_fresh_for};
 ghost use Rattle.http_cache_policy.specs.Refused.{RefusesAnswer, HasUndatedAnswer};
 ghost use Rattle.http_cache_semantics.specs.Chain.{nanoseconds, first_kept, IsHandedOn, IsChain, IsFor, Meets};
-ghost use Rattle.http_cache_semantics.specs.ChainLaws.{ForEach, NeverGoDown, HasReceived, IsAgedLike, IsExplicit, SaysLike, ExpiresLike};
+ghost use Rattle.http_cache_semantics.specs.ChainLaws.{ForEach, NeverGoDown, HasReceived, IsAgedLike, IsExplicit};
+ghost use Rattle.http_cache_semantics.specs.ChainLaws.{SaysLike, ExpiresLike};
 
 use http_cache_fields::CacheError;
 use http_cache_policy::before::BeforeRequest;

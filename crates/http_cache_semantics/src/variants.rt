@@ -1,5 +1,7 @@
 //! Several stored responses under one key, of which one answers a request (RFC 7234, section 4.1).
-ghost use Rattle.std.specs.Prelude.{◌≡◌, ◌≢◌, ◌∷◌, ◌≤◌, ◌<◌, ◌↔◌, List, [], Ok, Err, Some, None, true, length, remove, slice_get, option_copied, IsTrue, IfOk, IfErr, IfSome, OnOk, OnErr, OnSome, IfNone, IsErrOf, IsNone};
+ghost use Rattle.std.specs.Prelude.{◌≡◌, ◌≢◌, ◌∷◌, ◌≤◌, ◌<◌, ◌↔◌, List, [], Ok, Err, Some, None, true, length, remove};
+ghost use Rattle.std.specs.Prelude.{slice_get, option_copied, IsTrue, IfOk, IfErr, IfSome, OnOk, OnErr, OnSome, IfNone};
+ghost use Rattle.std.specs.Prelude.{IsErrOf, IsNone};
 ghost use Rattle.http_cache_policy.specs.Exchange.{Exchange};
 ghost use Rattle.http_cache_policy.specs.Match.{request_matches};
 ghost use Rattle.http_cache_policy.specs.Bound.{is_fresh_by_bound};
@@ -56,7 +58,9 @@ pub enum Choice {
 }
 
 impl Variants {
-    ghost use Rattle.http_cache_semantics.specs.Variants.{fresh_place, matching_place, chosen_place, IsChoice, IsOfChosen, IsOfFresh, IsOfValidate, IsPassedOver, choice_of, matching, IsSameChoice};
+    ghost use Rattle.http_cache_semantics.specs.Variants.{fresh_place, matching_place, chosen_place, IsChoice};
+    ghost use Rattle.http_cache_semantics.specs.Variants.{IsOfChosen, IsOfFresh, IsOfValidate, IsPassedOver, choice_of};
+    ghost use Rattle.http_cache_semantics.specs.Variants.{matching, IsSameChoice};
 
     /// No policies. It takes no memory; the allocator is kept for `add`.
     pub fn new(alloc: Global) -> Variants

@@ -4,5 +4,5 @@ pub mod Lists
 pub mod Pairs
 pub mod HeaderObject
 pub mod Stored
-pub mod Refusal
+pub mod Unread
 pub mod ReadBack

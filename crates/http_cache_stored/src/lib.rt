@@ -4,8 +4,8 @@
 
 pub mod form;
 pub mod headers;
-pub mod refusal;
 pub mod stored;
 pub mod texts;
+pub mod unread;
 
-pub use refusal::Unread;
+pub use unread::UnreadValue;

@@ -12,8 +12,8 @@ use crate::form::{
     has_members, moment_from_value, options_from_value, value_of_moment, value_of_options,
 };
 use crate::headers::{headers_from_value, value_of_headers};
-use crate::refusal::Unread;
 use crate::texts::{method_from_text, status_from_number, target_from_text};
+use crate::unread::UnreadValue;
 use http::Uri;
 use http_cache_rules::options::CacheOptions;
 use http_cache_rules::parts::StoredParts;
@@ -59,16 +59,16 @@ fn stored_members(value: &Value) -> Option<StoredMembers<'_>>
 }
 
 /// What a stored form says.
-pub fn parts_from_value(alloc: Global, value: &Value) -> Result<StoredParts, Unread>
+pub fn parts_from_value(alloc: Global, value: &Value) -> Result<StoredParts, UnreadValue>
     ensures found { IfOk result (λ parts. IsStored (view value.now) (exchange_in parts)) }
-    ensures none { IsErrOf result Unread.Malformed
+    ensures none { IsErrOf result UnreadValue.Malformed
         → (e : Exchange) → IsStored (view value.now) e → ⊥ }
 {
     let Some(members) = stored_members(value) else {
-        return Err(Unread::Malformed);
+        return Err(UnreadValue::Malformed);
     };
     let Some(status) = status_from_number(members.status) else {
-        return Err(Unread::Malformed);
+        return Err(UnreadValue::Malformed);
     };
     let target = target_from_text(alloc, members.target)?;
     let method = method_from_text(alloc, members.method)?;

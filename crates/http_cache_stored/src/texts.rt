@@ -5,33 +5,33 @@ ghost use Rattle.http_uri.specs.Uri.{Spells};
 ghost use Rattle.http_uri.specs.declared.uri.Uri.{Uri as Target};
 ghost use Rattle.http.specs.StatusCode.{IsStatusCode};
 
-use crate::refusal::Unread;
+use crate::unread::UnreadValue;
 use http::method::MethodError;
 use http::{Method, StatusCode, Uri};
 use http_uri::UriError;
 use std::alloc::Global;
 
 /// The target that a text spells.
-pub fn target_from_text(alloc: Global, text: &str) -> Result<Uri, Unread>
+pub fn target_from_text(alloc: Global, text: &str) -> Result<Uri, UnreadValue>
     ensures found { IfOk result (λ target. Spells text.now target) }
-    ensures none { IsErrOf result Unread.Malformed → (u : Target) → Spells text.now u → ⊥ }
+    ensures none { IsErrOf result UnreadValue.Malformed → (u : Target) → Spells text.now u → ⊥ }
 {
     match Uri::from_str(alloc, text) {
         Ok(target) => Ok(target),
-        Err(UriError::OutOfMemory) => Err(Unread::Memory),
-        Err(UriError::Invalid(_)) => Err(Unread::Malformed),
+        Err(UriError::OutOfMemory) => Err(UnreadValue::Memory),
+        Err(UriError::Invalid(_)) => Err(UnreadValue::Malformed),
     }
 }
 
 /// The method of a token.
-pub fn method_from_text(alloc: Global, text: &str) -> Result<Method, Unread>
+pub fn method_from_text(alloc: Global, text: &str) -> Result<Method, UnreadValue>
     ensures found { IfOk result (λ method. (method ≡ text.now) × IsToken text.now) }
-    ensures none { IsErrOf result Unread.Malformed → IsToken text.now → ⊥ }
+    ensures none { IsErrOf result UnreadValue.Malformed → IsToken text.now → ⊥ }
 {
     match Method::from_bytes(alloc, text.as_bytes()) {
         Ok(method) => Ok(method),
-        Err(MethodError::OutOfMemory) => Err(Unread::Memory),
-        Err(MethodError::Invalid) => Err(Unread::Malformed),
+        Err(MethodError::OutOfMemory) => Err(UnreadValue::Memory),
+        Err(MethodError::Invalid) => Err(UnreadValue::Malformed),
     }
 }
 

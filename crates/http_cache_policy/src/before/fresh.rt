@@ -1,7 +1,10 @@
 //! The headers of a fresh answer.
-ghost use Rattle.std.specs.Prelude.{◌≡◌, ◌≢◌, ◌⊎◌, IfOk, IfErr, IsErrOf};
+ghost use Rattle.std.specs.Prelude.{◌≡◌, ◌≢◌, ◌⊎◌, ℤ, IfOk, IfErr, IsErrOf};
+ghost use Rattle.std.specs.Duration.{as_nanos};
 ghost use Rattle.http_cache_fields.specs.Headers.{headers_of};
-ghost use Rattle.http_cache_policy.specs.Fresh.{is_guessed_past_a_day, warned_headers, RefusesWarning, IsFreshParts, RefusesFreshHeaders, HasNoDate};
+ghost use Rattle.http_cache_policy.specs.Age.{age_at};
+ghost use Rattle.http_cache_policy.specs.Fresh.{is_guessed_past_a_day, warned_headers, RefusesWarning, IsFreshParts};
+ghost use Rattle.http_cache_policy.specs.Fresh.{RefusesFreshHeaders, HasNoDate};
 
 use crate::policy::CachePolicy;
 use http::header::{AGE, DATE, HeaderValue, WARNING};
@@ -12,33 +15,35 @@ use http_cache_rules::dates::print_date;
 use http_cache_rules::filter::filter;
 use jiff::Timestamp;
 use std::alloc::Global;
+use std::time::Duration;
 
 // 24 hours, in nanoseconds.
 const DAY: u128 = 86_400_000_000_000;
 
 impl CachePolicy {
-    // Whether the response is more than a day old and still fresh by a guess
+    // Whether the response, of the age, is more than a day old and still fresh by a guess
     // (RFC 7234, section 5.5.4).
     #[tactic(auto, unfolding(crate::specs::Fresh::is_guessed_past_a_day))]
-    fn is_guessed_past_a_day(&self, now: Timestamp) -> bool
-        ensures { result ≡ is_guessed_past_a_day self.now now.nanosecond }
+    fn is_guessed_past_a_day(&self, age: Duration) -> bool
+        ensures { (now : ℤ) → as_nanos age ≡ age_at self.now now
+            → result ≡ is_guessed_past_a_day self.now now }
     {
-        self.age(now).as_nanos() > DAY
-            && self.lifetime().as_nanos() > DAY
-            && !self.has_explicit_expiration()
+        age.as_nanos() > DAY && self.lifetime().as_nanos() > DAY && !self.has_explicit_expiration()
     }
 
-    // The stored headers that are handed on, with the warning that is due.
-    fn warned_headers(&self, alloc: Global, now: Timestamp) -> Result<HeaderMap, CacheError>
-        ensures ok { IfOk result (λ out. headers_of out ≡ warned_headers self.now now.nanosecond) }
-        ensures room { IfOk result (λ _. ¬ (RefusesWarning self.now now.nanosecond)) }
+    // The stored headers that are handed on, with the warning that is due at the age.
+    fn warned_headers(&self, alloc: Global, age: Duration) -> Result<HeaderMap, CacheError>
+        ensures ok { IfOk result (λ out. (now : ℤ) → as_nanos age ≡ age_at self.now now
+            → headers_of out ≡ warned_headers self.now now) }
+        ensures room { IfOk result (λ _. (now : ℤ) → as_nanos age ≡ age_at self.now now
+            → ¬ (RefusesWarning self.now now)) }
         ensures full { IsErrOf result CacheError.HeaderMapFull
-            → RefusesWarning self.now now.nanosecond }
+            → (now : ℤ) → as_nanos age ≡ age_at self.now now → RefusesWarning self.now now }
         ensures known { IfErr result (λ e.
             (e ≡ CacheError.HeaderMapFull) ⊎ (e ≡ CacheError.Memory)) }
     {
         let mut out = filter(alloc, self.response_headers())?;
-        if !self.is_guessed_past_a_day(now) {
+        if !self.is_guessed_past_a_day(age) {
             return Ok(out);
         }
         let warning = HeaderValue::from_static("113 - \"rfc7234 5.5.4\"");
@@ -46,7 +51,7 @@ impl CachePolicy {
         Ok(out)
     }
 
-    /// The fresh answer at a moment.
+    /// The fresh answer at a moment, at which the response has the age.
     ///
     /// `HeaderMapFull` comes where `warning`, `age` or `date` has to be added to headers that are
     /// full, and `DateNotPrintable` where the moment is earlier than 1900.
@@ -55,7 +60,9 @@ impl CachePolicy {
         &self,
         alloc: Global,
         now: Timestamp,
+        age: Duration,
     ) -> Result<response::Parts, CacheError>
+        requires { as_nanos age ≡ age_at self.now now.nanosecond }
         ensures fresh { IfOk result (IsFreshParts self.now now.nanosecond) }
         ensures full { IsErrOf result CacheError.HeaderMapFull
             → RefusesFreshHeaders self.now now.nanosecond }
@@ -63,8 +70,8 @@ impl CachePolicy {
             → HasNoDate self.now now.nanosecond }
         ensures no_other { result ≢ Err CacheError.Malformed }
     {
-        let mut headers = self.warned_headers(alloc, now)?;
-        let age = HeaderValue::from_u64(alloc, self.age(now).as_secs())?;
+        let mut headers = self.warned_headers(alloc, age)?;
+        let age = HeaderValue::from_u64(alloc, age.as_secs())?;
         insert(&mut headers, AGE, age)?;
         let Some(date) = print_date(now) else {
             return Err(CacheError::DateNotPrintable);

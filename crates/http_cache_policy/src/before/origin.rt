@@ -1,7 +1,10 @@
 //! The request that goes to the origin (RFC 7234, section 4.3.1).
 ghost use Rattle.std.specs.Prelude.{◌≡◌, ◌⊎◌, true, IfOk, IfErr, OnOk, IsErrOf};
 ghost use Rattle.http_cache_fields.specs.Headers.{headers_of};
-ghost use Rattle.http_cache_policy.specs.Stale.{without_conditions, with_stored_tag, with_stored_date, with_strong_alone, forbids_weak, with_validators, revalidation_headers, headers_for_origin, RefusesTag, RefusesDate, RefusesValidators, RefusesRevalidation, IsForOrigin};
+ghost use Rattle.http_cache_policy.specs.Stale.{without_conditions, with_stored_tag, with_stored_date};
+ghost use Rattle.http_cache_policy.specs.Stale.{with_strong_alone, forbids_weak, with_validators, revalidation_headers};
+ghost use Rattle.http_cache_policy.specs.Stale.{headers_for_origin, RefusesTag, RefusesDate, RefusesValidators};
+ghost use Rattle.http_cache_policy.specs.Stale.{RefusesRevalidation, IsForOrigin};
 
 use crate::policy::{CachePolicy, copy_of_target, request_with};
 use http::header::{
@@ -150,7 +153,7 @@ impl CachePolicy {
     }
 
     /// The request for the origin.
-    pub(crate) fn revalidation_request(
+    pub(crate) fn request_for_origin(
         &self,
         alloc: Global,
         incoming: &HeaderMap,

@@ -1,18 +1,22 @@
 //! Whether a stored response may be used without validation (RFC 7234, section 4).
-ghost use Rattle.std.specs.Prelude.{◌≡◌, ◌*◌, true, false, codes, List};
+ghost use Rattle.std.specs.Prelude.{◌≡◌, ◌*◌, ℤ, true, false, codes, List};
+ghost use Rattle.std.specs.Duration.{as_nanos};
 ghost use Rattle.http_cache_fields.specs.Headers.{headers_of};
 ghost use Rattle.http_cache_fields.specs.Directives.{Directive, has};
 ghost use Rattle.http_cache_rules.specs.Asks.{Asks, asks_of, asked_directives, asked_of};
 ghost use Rattle.http_cache_policy.specs.Exchange.{stored_directives};
 ghost use Rattle.http_cache_rules.specs.Storing.{is_storable};
+ghost use Rattle.http_cache_policy.specs.Age.{age_at};
 ghost use Rattle.http_cache_policy.specs.Verdict.{satisfies, is_fresh_for};
-ghost use Rattle.http_cache_policy.specs.Bound.{lesser, is_below, bound_by_lifetime, bound_by_max_age, bound_by_min_fresh, bound, is_fresh_by_bound};
+ghost use Rattle.http_cache_policy.specs.Bound.{lesser, is_below, bound_by_lifetime, bound_by_max_age};
+ghost use Rattle.http_cache_policy.specs.Bound.{bound_by_min_fresh, bound, is_fresh_by_bound};
 
 use crate::policy::{CachePolicy, RequestLike};
 use http::HeaderMap;
 use http_cache_fields::pragma::pragma_forbids;
 use http_cache_rules::asks::{Asked, asked_by};
 use jiff::Timestamp;
+use std::time::Duration;
 
 // A number of seconds in nanoseconds.
 fn nanos(seconds: u64) -> u128
@@ -59,17 +63,18 @@ impl CachePolicy {
         ensures storable { result ≡ true → (is_storable self.now ≡ true)
             × (has (stored_directives self.now) (codes "no-cache") ≡ false) }
     {
-        self.matches_request(req) && self.satisfies_without_revalidation(req.headers(), now)
+        self.matches_request(req)
+            && self.satisfies_without_revalidation(req.headers(), self.age(now))
     }
 
-    /// Whether a request that matches takes the response at a moment without validation.
-    pub(crate) fn satisfies_without_revalidation(&self, headers: &HeaderMap, now: Timestamp) -> bool
-        ensures { result
-            ≡ satisfies self.now (asks_of (headers_of headers.now)) now.nanosecond }
+    /// Whether a request that matches takes the response without validation at a moment, at which
+    /// the response has the age.
+    pub(crate) fn satisfies_without_revalidation(&self, headers: &HeaderMap, age: Duration) -> bool
+        ensures { (now : ℤ) → as_nanos age ≡ age_at self.now now
+            → result ≡ satisfies self.now (asks_of (headers_of headers.now)) now }
     {
         let asked = asked_by(headers);
-        !(asked.no_cache || pragma_forbids(headers))
-            && is_below(self.bound(&asked), self.age(now).as_nanos())
+        !(asked.no_cache || pragma_forbids(headers)) && is_below(self.bound(&asked), age.as_nanos())
     }
 
     // The bound below which the age must be, if there is one.

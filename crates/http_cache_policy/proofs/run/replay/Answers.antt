@@ -3,7 +3,7 @@ use Rattle.std.proofs.Common.{rules, ◌≡◌, ◌<◌, Err, length, map, take,
 use Rattle.std.proofs.lemmas.List.{take_all}
 use Rattle.http_cache_fields.specs.declared.error.CacheError.TheVariants.{HeaderMapFull, DateNotPrintable, Malformed}
 use Rattle.http_cache_policy.specs.Steps.{step_seen}
-use Rattle.http_cache_policy.specs.RunRefused.{RefusesStep, HasUndatedStep, LosesTarget}
+use Rattle.http_cache_policy.specs.RunStops.{RefusesStep, HasUndatedStep, LosesTarget}
 use Rattle.http_cache_stored.proofs.ZipLemmas.{up_to_next}
 use Rattle.http_cache_policy.proofs.RunLemmas.{run-unique}
 use Rattle.http_cache_policy.proofs.RenewalLemmas.{taken-more, taken-renewed}

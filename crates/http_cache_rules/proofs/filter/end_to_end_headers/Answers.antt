@@ -33,6 +33,6 @@ pub returns : goal.returns
 returns c =
     let m = c.args.headers.now in
     let out = headers_of c.loop-name.out in
-    end_to_end_headers-by_sweep (headers_of m) out (filled-headers_of m c.len-length.ensures.valid)
+    end_to_end_headers-by_sweep (headers_of m) out (filled-headers_of m c.reveal_header_map.ensures)
     (subst (λ (xs : List (List ℕ)). (name : List ℕ) → IsSwept swept_values (headers_of m) out xs name)
     c.in-None.ensures.steps.0 c.loop-name.invariant)

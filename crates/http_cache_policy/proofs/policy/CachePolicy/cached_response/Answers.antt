@@ -14,9 +14,10 @@ pub returns-clause-fresh : goal.returns-clause-fresh
 returns-clause-fresh c =
     let e = c.args.self.now in
     let now = c.args.now.nanosecond in
-    let before : headers_of c.in_ok-headers.headers ≡ warned_headers e now = c.in_ok-headers.ensures.ok in
+    let before : headers_of c.in_ok-headers.headers ≡ warned_headers e now =
+    c.in_ok-headers.ensures.ok now c.requires in
     let seconds : c.as_secs.result ≡ age_at e now / 1_000_000_000 =
-    c.as_secs.ensures ∙ ap (λ n. n / 1_000_000_000) c.age.ensures.value in
+    c.as_secs.ensures ∙ ap (λ n. n / 1_000_000_000) c.requires in
     let printed : c.in_ok-age.age.bytes ≡ age_text e now = ap (λ v. v.bytes) c.in_ok-age.ensures ∙ ap decimal seconds in
     let dated : c.in_ok-date.date.bytes ≡ c.in-Some.date =
     ap (λ v. v.bytes) c.in_ok-date.ensures ∙ c.in_ok-from_slice.ensures.items in
@@ -26,7 +27,7 @@ returns-clause-fresh c =
       status = c.stored_status.ensures;
       version = refl;
       headers = record {
-        warning_fits = c.in_ok-headers.ensures.room;
+        warning_fits = c.in_ok-headers.ensures.room now c.requires;
         age_fits = subst (λ (h : Headers). ¬ (RefusesName h (codes "age"))) before c.in_ok-insert.ensures.room;
         printable = c.in-Some.ensures.printable.0 refl;
         date_fits = subst (λ (h : Headers). ¬ (RefusesName h (codes "date"))) with_age c.in_ok-insert-2.ensures.room;

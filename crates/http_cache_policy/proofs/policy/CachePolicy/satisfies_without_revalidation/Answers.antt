@@ -10,16 +10,16 @@ use Rattle.http_cache_policy.proofs.policy.CachePolicy.satisfies_without_revalid
 use Rattle.http_cache_policy.proofs.policy.CachePolicy.satisfies_without_revalidation.Goals.{then-asked, else-asked}
 
 pub returns-then-not-pragma_forbids : goal.returns-then-not-pragma_forbids
-returns-then-not-pragma_forbids c =
+returns-then-not-pragma_forbids c = λ now aged.
     let e = c.args.self.now in
     let asks = asks_of (headers_of c.args.headers.now) in
-    let age = age_at e c.args.now.nanosecond in
+    let age = age_at e now in
     let forbids : c.if-asked.value ≡ has_no_cache asks = elim c.if-asked.branch [
       | then-asked w ↦ search rules
       | else-asked w ↦ search rules
     ] in
     let taken : true ≡ not (has_no_cache asks) = sym (ap not c.if-not-pragma_forbids.true) ∙ ap not forbids in
     c.is_below.ensures
-    ∙ (λ i. is_below (c.bound.ensures asks c.asked_by-asked.ensures i) ((c.as_nanos.ensures ∙ c.age.ensures.value) i))
+    ∙ (λ i. is_below (c.bound.ensures asks c.asked_by-asked.ensures i) ((c.as_nanos.ensures ∙ aged) i))
     ∙ sym (meets-below e asks age)
     ∙ ap (λ b. b && meets e (asked_directives asks) age) taken

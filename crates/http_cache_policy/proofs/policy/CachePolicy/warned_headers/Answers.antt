@@ -6,12 +6,11 @@ use Rattle.http_cache_policy.specs.Fresh.{is_guessed_past_a_day, heuristic_warni
 use Rattle.http_cache_policy.proofs.policy.CachePolicy.warned_headers.Goals as goal
 
 pub returns-clause-ok : goal.returns-clause-ok
-returns-clause-ok c =
+returns-clause-ok c = λ now aged.
     let e = c.args.self.now in
-    let now = c.args.now.nanosecond in
     let stored = filtered_headers e.response_headers in
     let due : is_guessed_past_a_day e now ≡ true =
-    sym c.is_guessed_past_a_day.ensures ∙ c.if-not-is_guessed_past_a_day.false in
+    sym (c.is_guessed_past_a_day.ensures now aged) ∙ c.if-not-is_guessed_past_a_day.false in
     let bytes : c.from_static-warning.result.bytes ≡ heuristic_warning = search rules in
     let before : headers_of c.in_ok-out.out ≡ stored =
     c.in_ok-out.ensures.ok ∙ ap filtered_headers c.response_headers.ensures in
