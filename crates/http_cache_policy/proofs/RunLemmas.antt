@@ -39,8 +39,8 @@ request_seen-unique e r p q h k =
 answer_seen-unique : (e : Exchange) (r : RequestSeen) (moment : ℤ) (a b : BeforeRequest)
     → IsAnswer e r moment a → IsAnswer e r moment b → answer_seen a ≡ answer_seen b
 answer_seen-unique e r moment (Fresh p) (Fresh q) h k = ap uses (response_seen-unique e moment p q h.fresh k.fresh)
-answer_seen-unique e r moment (Fresh p) (Stale q n) h k = absurd (true≢false (h.verdict ∙ sym k.verdict))
-answer_seen-unique e r moment (Stale p m) (Fresh q) h k = absurd (true≢false (k.verdict ∙ sym h.verdict))
+answer_seen-unique e r moment (Fresh p) (Stale q n) h k = absurd (true≢false (sym h.verdict ∙ k.verdict))
+answer_seen-unique e r moment (Stale p m) (Fresh q) h k = absurd (true≢false (sym k.verdict ∙ h.verdict))
 answer_seen-unique e r moment (Stale p m) (Stale q n) h k =
     ap (λ s. sends s m) (request_seen-unique e r p q h.stale k.stale)
     ∙ ap (λ b. sends (request_seen q) b) (h.matches ∙ sym k.matches)

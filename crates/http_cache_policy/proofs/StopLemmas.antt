@@ -32,15 +32,15 @@ full-no_answer : (e : Exchange) (r : RequestSeen) (now : ℤ) (answer : BeforeRe
 unfolding RefusesAnswer
 full-no_answer e r now (Fresh parts) (inl full) is =
     full-no_headers e now (headers_of parts.headers) full.1 is.fresh.headers
-full-no_answer e r now (Stale parts matched) (inl full) is = true≢false (sym full.0 ∙ sym is.verdict)
-full-no_answer e r now (Fresh parts) (inr full) is = true≢false (is.verdict ∙ full.0)
+full-no_answer e r now (Stale parts matched) (inl full) is = true≢false (sym full.0 ∙ is.verdict)
+full-no_answer e r now (Fresh parts) (inr full) is = true≢false (sym is.verdict ∙ full.0)
 full-no_answer e r now (Stale parts matched) (inr full) is = is.stale.fits full.1 full.2
 
 undated-no_answer : (e : Exchange) (r : RequestSeen) (now : ℤ) (answer : BeforeRequest)
     → HasUndatedAnswer e r now → ¬ (IsAnswer e r now answer)
 undated-no_answer e r now (Fresh parts) undated is =
     undated-no_headers e now (headers_of parts.headers) undated.1 is.fresh.headers
-undated-no_answer e r now (Stale parts matched) undated is = true≢false (sym undated.0 ∙ sym is.verdict)
+undated-no_answer e r now (Stale parts matched) undated is = true≢false (sym undated.0 ∙ is.verdict)
 
 pub full-no_outcome : (e : Exchange) (step : StepSeen) → RefusesStep e step → HasNoOutcome e step
 full-no_outcome e (asks r now) full (Asked answer) f is = full-no_answer e r now answer full is.0

@@ -1,5 +1,5 @@
 -- Whether a stored response is the answer to a request (RFC 7234, section 4).
-use Rattle.std.specs.Prelude.{ℕ, Bool, not, ◌&&◌, ◌||◌, List, map, codes, bytes_eq, Option}
+use Rattle.std.specs.Prelude.{◌≡◌, ℕ, Bool, true, not, ◌&&◌, ◌||◌, List, map, codes, bytes_eq, Option}
 use Rattle.std.specs.List.{list_any}
 use Rattle.std.specs.Cmp.Lexicographic.{pointwise}
 use Rattle.http_cache_fields.specs.Headers.{Headers, first, first_under}
@@ -53,6 +53,11 @@ may_validate e named = matches e named || bytes_eq named.method (codes "HEAD")
 -- the stored response is the answer to the request
 abbrev pub request_matches : Exchange → RequestSeen → Bool
 request_matches e request = matches e (named_parts e request)
+
+-- the request is for the stored target, by the stored method
+pub record IsForStored (e : Exchange) (request : RequestSeen) : Type 0 where
+  pub target : request.is_same_target e.target ≡ true
+  pub method : request.method ≡ e.method
 
 -- the stored response may be validated for the request
 abbrev pub validates_for : Exchange → RequestSeen → Bool

@@ -1,5 +1,6 @@
 -- What a list of steps makes of a stored exchange.
 use Rattle.std.specs.Prelude.{◌≡◌, ⊤, ℤ, Bool, true, false, List, [], ◌∷◌, map}
+use Rattle.http.specs.declared.request.Parts.{Parts as RequestParts}
 use Rattle.http.specs.declared.response.Parts.{Parts}
 use Rattle.http_cache_policy.specs.Messages.{RequestSeen}
 use Rattle.http_cache_policy.specs.Exchange.{Exchange}
@@ -10,19 +11,30 @@ use Rattle.http_cache_policy.specs.Fresh.{IsFreshParts}
 use Rattle.http_cache_policy.specs.Stale.{IsStaleRequest}
 use Rattle.http_cache_policy.specs.Update.{selects, next_exchange}
 use Rattle.http_cache_policy.specs.Stored.{Reads, writes}
-use Rattle.http_cache_policy.specs.Answer.{is_fresh, WhereFresh, WhereStale}
 use Rattle.http_cache_policy.specs.Steps.{StepSeen, asks, receives, restarts, outcome_seen}
 use Rattle.http_cache_policy.specs.declared.before.BeforeRequest.{BeforeRequest}
+use Rattle.http_cache_policy.specs.declared.before.BeforeRequest.TheVariants.{Fresh, Stale}
 use Rattle.http_cache_policy.specs.declared.steps.Outcome.{Outcome}
 use Rattle.http_cache_policy.specs.declared.steps.Outcome.TheVariants.{Asked, NotModified, Modified, Restarted}
 
--- the answer to a request that asks at a moment
-pub record IsAnswer
-    (e : Exchange) (request : RequestSeen) (moment : ℤ) (answer : BeforeRequest) : Type 0 where
-  pub verdict : is_fresh answer ≡ is_fresh_for e request moment
-  pub fresh : WhereFresh (IsFreshParts e moment) answer
-  pub stale : WhereStale (λ sent _. IsStaleRequest e request sent) answer
-  pub matches : WhereStale (λ _ matched. matched ≡ request_matches e request) answer
+-- the stored response may be used for a request that asks at a moment, as these parts
+pub record IsFreshAnswer
+    (e : Exchange) (request : RequestSeen) (moment : ℤ) (parts : Parts) : Type 0 where
+  pub verdict : is_fresh_for e request moment ≡ true
+  pub matches : request_matches e request ≡ true
+  pub fresh : IsFreshParts e moment parts
+
+-- it may not be used, and this request goes to the origin
+pub record IsStaleAnswer (e : Exchange) (request : RequestSeen) (moment : ℤ)
+    (sent : RequestParts) (matched : Bool) : Type 0 where
+  pub verdict : is_fresh_for e request moment ≡ false
+  pub matches : matched ≡ request_matches e request
+  pub stale : IsStaleRequest e request sent
+
+-- the answer to a request that asks at a moment, by cases
+abbrev pub IsAnswer : Exchange → RequestSeen → ℤ → BeforeRequest → Type 0
+IsAnswer e request moment (Fresh parts) = IsFreshAnswer e request moment parts
+IsAnswer e request moment (Stale sent matched) = IsStaleAnswer e request moment sent matched
 
 -- the outcome is an answer to a request, of which P holds
 abbrev pub IsAsked : (BeforeRequest → Type 0) → Outcome → Type 0

@@ -4,11 +4,12 @@ ghost use Rattle.http_cache_fields.specs.Headers.{headers_of};
 ghost use Rattle.http_cache_fields.specs.Directives.{has};
 ghost use Rattle.http_cache_policy.specs.Exchange.{stored_directives};
 ghost use Rattle.http_cache_rules.specs.Storing.{is_storable};
-ghost use Rattle.http_cache_policy.specs.Match.{request_matches};
+ghost use Rattle.http_cache_policy.specs.Match.{request_matches, IsForStored};
 ghost use Rattle.http_cache_policy.specs.Verdict.{is_fresh_for};
 ghost use Rattle.http_cache_policy.specs.Bound.{is_fresh_by_bound};
 ghost use Rattle.http_cache_policy.specs.Fresh.{IsFreshParts, HasOneAgeAndDate};
 ghost use Rattle.http_cache_policy.specs.Stale.{IsStaleRequest};
+ghost use Rattle.http_cache_policy.specs.Run.{IsAnswer};
 ghost use Rattle.http_cache_policy.specs.Refused.{RefusesAnswer, HasUndatedAnswer};
 
 mod fresh;
@@ -91,6 +92,10 @@ impl CachePolicy {
             HasOneAgeAndDate self.now now.nanosecond (headers_of parts.headers))) }
         ensures stale { IfOk result (WhereStale (λ request _.
             IsStaleRequest self.now (Req.seen req.now) request)) }
+        ensures answer { IfOk result
+            (IsAnswer self.now (Req.seen req.now) now.nanosecond) }
+        ensures for_stored { request_matches self.now (Req.seen req.now) ≡ true
+            → IsForStored self.now (Req.seen req.now) }
         ensures matches { IfOk result (WhereStale (λ _ matched.
             matched ≡ request_matches self.now (Req.seen req.now))) }
         ensures full { IsErrOf result CacheError.HeaderMapFull

@@ -1,5 +1,6 @@
 //! The stored form of a policy, as a JSON value.
-ghost use Rattle.std.specs.Prelude.{◌≡◌, ◌≢◌, ◌↔◌, Err, IfOk, IsErrOf, IsOkUnless};
+ghost use Rattle.std.specs.Prelude.{◌≡◌, ◌≢◌, ◌≤◌, ◌↔◌, Err, IfOk, IsErrOf, IsOkUnless};
+ghost use Rattle.serde_json.specs.Data.{depth};
 ghost use Rattle.serde_json.specs.View.{view};
 ghost use Rattle.http_cache_policy.specs.Exchange.{Exchange};
 ghost use Rattle.http_cache_policy.specs.Kept.{kept_exchange};
@@ -20,6 +21,7 @@ impl CachePolicy {
             → Reads (view value) e ↔ ReadsBack self.now e) }
         ensures restored { IfOk result (λ value. (e : Exchange) → Reads (view value) e
             → kept_exchange e ≡ with_target self.now e.target) }
+        ensures shallow { IfOk result (λ value. depth (view value) ≤ 3) }
         ensures only_memory { IsOkUnless result CacheError.Memory }
     {
         Ok(value_of_parts(alloc, self.parts())?)

@@ -205,14 +205,14 @@ passed_over e es = record {
 pub alone-is : (e : Exchange) (request : RequestSeen) (now : ℤ) (answer : BeforeRequest) → IsAnswer e request now answer
     → IsChoice (e ∷ []) request now (choice_of answer)
 alone-is e request now (FreshAnswer parts) is =
-    (position-here (λ e. is_fresh_for e request now) e [] (sym is.verdict), is.fresh)
+    (position-here (λ e. is_fresh_for e request now) e [] is.verdict, is.fresh)
 alone-is e request now (Stale sent true) is = (
-  position-further (λ e. is_fresh_for e request now) e [] (sym is.verdict),
+  position-further (λ e. is_fresh_for e request now) e [] is.verdict,
   position-here (λ e. request_matches e request) e [] (sym is.matches),
   is.stale,
 )
 alone-is e request now (Stale sent false) is = (
-  position-further (λ e. is_fresh_for e request now) e [] (sym is.verdict),
+  position-further (λ e. is_fresh_for e request now) e [] is.verdict,
   position-further (λ e. request_matches e request) e [] (sym is.matches),
 )
 

@@ -1,6 +1,6 @@
 //! Several stored responses under one key, of which one answers a request (RFC 7234, section 4.1).
 ghost use Rattle.std.specs.Prelude.{◌≡◌, ◌≢◌, ◌∷◌, ◌≤◌, ◌<◌, ◌↔◌, List, [], Ok, Err, Some, None, true, length, remove};
-ghost use Rattle.std.specs.Prelude.{slice_get, option_copied, IsTrue, IfOk, IfErr, IfSome, OnOk, OnErr, OnSome, IfNone};
+ghost use Rattle.std.specs.Prelude.{slice_get, slice_set, option_copied, IsTrue, IsErr, IfOk, IfErr, IfSome, OnOk, OnErr, OnSome, IfNone};
 ghost use Rattle.std.specs.Prelude.{IsErrOf, IsNone};
 ghost use Rattle.http_cache_policy.specs.Exchange.{Exchange};
 ghost use Rattle.http_cache_policy.specs.Match.{request_matches};
@@ -16,6 +16,7 @@ use http_cache_policy::policy::{CachePolicy, RequestLike};
 use jiff::Timestamp;
 use std::alloc::Global;
 use std::marker::Model;
+use std::mem;
 
 /// The policies of several responses that are stored under one key, the newest first. A place is
 /// counted from 0.
@@ -120,6 +121,22 @@ impl Variants {
             Some(self.policies.remove(place))
         } else {
             None
+        }
+    }
+
+    /// Puts a policy in the place of another, as where that one was renewed, and gives the old one.
+    /// It takes no memory. Where there is no such place, it hands the policy back.
+    pub fn replace(&mut self, place: usize, policy: CachePolicy) -> Result<CachePolicy, CachePolicy>
+        ensures replaced { OnOk result (self.new ≡ slice_set self.old place policy) }
+        ensures value { IfOk result (λ old. slice_get self.old place ≡ Some old) }
+        ensures kept { OnErr result (self.new ≡ self.old) }
+        ensures handed_back { IfErr result (λ back. back ≡ policy) }
+        ensures none { IsErr result ↔ (length self.old ≤ place) }
+    {
+        if place < self.policies.len() {
+            Ok(mem::replace(&mut self.policies[place], policy))
+        } else {
+            Err(policy)
         }
     }
 

@@ -13,3 +13,4 @@ pub mod StoredLemmas
 pub mod TextBackLemmas
 pub mod HeadersBackLemmas
 pub mod StoredBackLemmas
+pub mod DepthLemmas

@@ -49,13 +49,14 @@ pub enum Look {
     /// `new`, `len` and `is_empty` of variants.
     NewVariants,
     PolicyAt,
+    Replace,
     Remove,
     /// `choose`, where none of the variants matches.
     ChooseNothing,
 }
 
 /// Each of these calls once.
-pub const LOOKS: [Look; 29] = [
+pub const LOOKS: [Look; 30] = [
     Look::IsStorable,
     Look::Age,
     Look::TimeToLive,
@@ -83,6 +84,7 @@ pub const LOOKS: [Look; 29] = [
     Look::Status,
     Look::NewVariants,
     Look::PolicyAt,
+    Look::Replace,
     Look::Remove,
     Look::ChooseNothing,
 ];
@@ -176,6 +178,17 @@ fn is_right_of_new(alloc: Global) -> bool {
     variants.is_empty() && variants.len() == 0
 }
 
+// The last of three takes the place of the first, where there is no third any more.
+fn is_right_of_replace(variants: &mut Variants) -> bool {
+    let Some(policy) = variants.remove(2) else {
+        return false;
+    };
+    let Err(policy) = variants.replace(2, policy) else {
+        return false;
+    };
+    variants.replace(0, policy).is_ok() && variants.len() == 2
+}
+
 // The middle one of three is taken out, and then there are two.
 fn is_right_of_remove(variants: &mut Variants) -> bool {
     variants.remove(3).is_none() && variants.remove(1).is_some() && variants.len() == 2
@@ -240,7 +253,7 @@ impl Sight {
             }
             Look::SatisfiesWithoutRevalidation => answer_in(alloc, &Case::varied(alloc)?),
             Look::OptionsFromValue | Look::MomentFromValue => Ok(Sight::Form(form(alloc)?)),
-            Look::Remove => Ok(Sight::Variants(variants(alloc)?)),
+            Look::Replace | Look::Remove => Ok(Sight::Variants(variants(alloc)?)),
             _ => Ok(Sight::Exchange(Case::varied(alloc)?)),
         }
     }
@@ -248,7 +261,10 @@ impl Sight {
     /// Makes a call, and tells whether its answer is the right one.
     pub fn is_right(&mut self, alloc: Global, look: Look) -> bool {
         match self {
-            Sight::Variants(variants) => is_right_of_remove(variants),
+            Sight::Variants(variants) => match look {
+                Look::Replace => is_right_of_replace(variants),
+                _ => is_right_of_remove(variants),
+            },
             Sight::Exchange(case) => is_right_of_exchange(alloc, case, look),
             Sight::Answer(answer) => answer.satisfies_without_revalidation(),
             Sight::Directives(read) => is_right_of_directives(read, look),

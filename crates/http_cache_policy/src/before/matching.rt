@@ -1,7 +1,7 @@
 //! Which requests a stored response is the answer to (RFC 7234, sections 4 and 4.1).
-ghost use Rattle.std.specs.Prelude.{◌≡◌};
+ghost use Rattle.std.specs.Prelude.{◌≡◌, true};
 ghost use Rattle.http_cache_fields.specs.Headers.{headers_of};
-ghost use Rattle.http_cache_policy.specs.Match.{varied_values, vary_matches, request_matches};
+ghost use Rattle.http_cache_policy.specs.Match.{varied_values, vary_matches, request_matches, IsForStored};
 
 use crate::policy::{CachePolicy, RequestLike};
 use http::HeaderMap;
@@ -15,7 +15,9 @@ impl CachePolicy {
     /// and 4.1).
     #[tactic(auto, unfolding(crate::specs::Match::matches))]
     pub fn matches_request<Req: RequestLike>(&self, req: &Req) -> bool
-        ensures { result ≡ request_matches self.now (Req.seen req.now) }
+        ensures value { result ≡ request_matches self.now (Req.seen req.now) }
+        ensures for_stored { request_matches self.now (Req.seen req.now) ≡ true
+            → IsForStored self.now (Req.seen req.now) }
     {
         req.is_same_uri(self.stored_target())
             && has_same_first(self.request_headers(), req.headers(), &HOST)

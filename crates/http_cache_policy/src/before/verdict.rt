@@ -7,6 +7,7 @@ ghost use Rattle.http_cache_rules.specs.Asks.{Asks, asks_of, asked_directives, a
 ghost use Rattle.http_cache_policy.specs.Exchange.{stored_directives};
 ghost use Rattle.http_cache_rules.specs.Storing.{is_storable};
 ghost use Rattle.http_cache_policy.specs.Age.{age_at};
+ghost use Rattle.http_cache_policy.specs.Match.{request_matches};
 ghost use Rattle.http_cache_policy.specs.Verdict.{satisfies, is_fresh_for};
 ghost use Rattle.http_cache_policy.specs.Bound.{lesser, is_below, bound_by_lifetime, bound_by_max_age};
 ghost use Rattle.http_cache_policy.specs.Bound.{bound_by_min_fresh, bound, is_fresh_by_bound};
@@ -60,6 +61,7 @@ impl CachePolicy {
     pub fn fresh_at<Req: RequestLike>(&self, req: &Req, now: Timestamp) -> bool
         ensures verdict { result ≡ is_fresh_for self.now (Req.seen req.now) now.nanosecond }
         ensures bound { result ≡ is_fresh_by_bound self.now (Req.seen req.now) now.nanosecond }
+        ensures matches { result ≡ true → request_matches self.now (Req.seen req.now) ≡ true }
         ensures storable { result ≡ true → (is_storable self.now ≡ true)
             × (has (stored_directives self.now) (codes "no-cache") ≡ false) }
     {

@@ -36,6 +36,14 @@ returns-then-satisfies_without_revalidation-clause-storable g c _ =
     is_fresh_for-storable c.args.self.now (g.Req.RequestLike.seen c.args.req.now) c.args.now.nanosecond
     (sym (returns-then-satisfies_without_revalidation-clause-verdict g c))
 
+pub returns-then-satisfies_without_revalidation-clause-answer
+    : goal.returns-then-satisfies_without_revalidation-clause-answer
+returns-then-satisfies_without_revalidation-clause-answer g c = record {
+  verdict = sym (returns-then-satisfies_without_revalidation-clause-verdict g c);
+  matches = search rules;
+  fresh = c.in_ok-cached_response.ensures.fresh;
+}
+
 -- ---- the stale answer
 
 pub returns-clause-verdict : goal.returns-clause-verdict

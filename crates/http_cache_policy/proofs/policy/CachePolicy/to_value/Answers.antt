@@ -1,9 +1,10 @@
 -- What is written reads back as the stored exchange, with the target that the printed one spells.
-use Rattle.std.proofs.Common.{◌↔◌, sym, subst}
-use Rattle.serde_json.specs.Data.{Data}
+use Rattle.std.proofs.Common.{◌↔◌, ◌≤◌, sym, subst}
+use Rattle.serde_json.specs.Data.{Data, depth}
 use Rattle.serde_json.specs.View.{view}
 use Rattle.http_cache_stored.specs.Stored.{IsStored}
 use Rattle.http_cache_stored.specs.ReadBack.{IsWrittenFor, IsReadBack}
+use Rattle.http_cache_stored.proofs.DepthLemmas.{stored-flat}
 use Rattle.http_cache_stored.proofs.StoredBackLemmas.{stored-reads_back}
 use Rattle.http_cache_policy.proofs.ReadLemmas.{kept-restored}
 use Rattle.http_cache_policy.proofs.policy.CachePolicy.to_value.Goals as goal
@@ -15,6 +16,11 @@ returns-clause-reads_back c = λ e.
     subst (IsWrittenFor (view c.in_ok-value_of_parts.field-0)) c.parts.ensures.value c.in_ok-value_of_parts.ensures in
     subst (λ (d : Data). IsStored d e ↔ IsReadBack stored e) (sym written.is)
     (stored-reads_back stored e written.writable)
+
+pub returns-clause-shallow : goal.returns-clause-shallow
+returns-clause-shallow c =
+    let written = c.in_ok-value_of_parts.ensures in
+    subst (λ (d : Data). depth d ≤ 3) (sym written.is) (stored-flat _)
 
 pub returns-clause-restored : goal.returns-clause-restored
 returns-clause-restored c = λ e is.
