@@ -1,0 +1,2 @@
+-- The lemmas about what a client stores.
+pub mod PlaceLemmas

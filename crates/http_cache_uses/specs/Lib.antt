@@ -1,0 +1,3 @@
+-- What the uses of the library do.
+pub mod Audit
+pub mod Client
