@@ -115,7 +115,7 @@ impl Client {
     }
 
     /// Answers a request from the store where that will do at the moment, or tells what goes to the
-    /// origin.
+    /// origin (RFC 7234, section 4). It is refused where `choose` of `Variants` is.
     pub fn ask<Req: RequestLike>(
         &self,
         alloc: Global,
@@ -163,7 +163,8 @@ impl Client {
     }
 
     /// Takes the origin's answer to a request that validates what is stored at a place, and gives
-    /// the answer to the client's request. After an `Err` what is stored is as it was.
+    /// the answer to the client's request (RFC 7234, section 4.3.3). It is refused where
+    /// `after_response` is, and then what is stored is as it was.
     pub fn receive<Req: RequestLike>(
         &mut self,
         alloc: Global,
@@ -209,8 +210,8 @@ impl Client {
         Err(CacheError::Memory)
     }
 
-    /// Stores the response that came for a request, if it may be stored. After an `Err` what is
-    /// stored is as it was.
+    /// Stores the response that came for a request, if it may be stored (RFC 7234, section 3). It is
+    /// refused for want of memory alone, and then what is stored is as it was.
     pub fn store<Req: RequestLike>(
         &mut self,
         alloc: Global,
@@ -270,7 +271,8 @@ impl Client {
     }
 
     /// Answers a request from the store where that will do at the moment, and else by sending the
-    /// origin one request. After an `Err` what is stored is as it was.
+    /// origin one request. `NoResponse` comes where the origin gave none, `Cache` where one of the
+    /// calls above is refused; then what is stored is as it was.
     pub fn fetch<O: Origin>(
         &mut self,
         alloc: Global,
