@@ -1,5 +1,5 @@
 //! What a caching client keeps under one key, and what it does with a request.
-ghost use Rattle.std.specs.Prelude.{◌≡◌, ◌<◌, ◌∷◌, true, false, IfOk, OnOk, OnErr, length, set, remove};
+ghost use Rattle.std.specs.Prelude.{◌≡◌, ◌<◌, ◌∷◌, true, false, IfOk, OnOk, OnErr, IsOkUnless, length, set, remove};
 ghost use Rattle.http.specs.Request.{head_of as head_of_request};
 ghost use Rattle.http.specs.Response.{head_of, body_of};
 ghost use Rattle.http_cache_semantics.specs.Exchange.{exchange_of};
@@ -199,6 +199,7 @@ impl Client {
     fn insert(&mut self, policy: CachePolicy, body: Bytes) -> Result<(), CacheError>
         ensures ok { OnOk result (self.new ≡ in_front self.old policy body) }
         ensures kept { OnErr result (self.new ≡ self.old) }
+        ensures only_memory { IsOkUnless result CacheError.Memory }
     {
         if self.bodies.insert(0, body).is_err() {
             return Err(CacheError::Memory);
@@ -223,6 +224,7 @@ impl Client {
             (Req.seen req.now) (response_seen (head_of came.now)) self.old.options
             received.nanosecond)) (body_of came.now)) }
         ensures kept { OnErr result (self.new ≡ self.old) }
+        ensures only_memory { IsOkUnless result CacheError.Memory }
     {
         let policy = CachePolicy::new_options(alloc, req, came, received, self.options)?;
         if policy.is_storable() {
