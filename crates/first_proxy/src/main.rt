@@ -1,0 +1,27 @@
+//! Serves one connection on standard input and output: a caching proxy in front of a small site.
+#![tactic(auto)]
+
+mod clock;
+mod site;
+
+use clock::StepClock;
+use http_cache_proxy::Proxy;
+use http_cache_semantics::CacheOptions;
+use http_cache_uses::Client;
+use http_server::{Config, Connection, serve};
+use site::Site;
+use std::hash::RandomState;
+use std::io;
+
+fn main(rt: HostRuntime) -> io::Result<()> {
+    let alloc = rt.alloc();
+    let clock = StepClock::new();
+    let mut proxy = Proxy {
+        alloc,
+        client: Client::new(alloc, CacheOptions::default()),
+        origin: Site::new(alloc, &clock),
+        clock: &clock,
+    };
+    let mut connection = Connection::new(alloc, RandomState::new(&rt)?, Config::default());
+    serve(&mut connection, &mut proxy, &mut rt.stdin(), &mut rt.stdout())
+}

@@ -1,0 +1,120 @@
+//! The site behind the proxy.
+use crate::clock::StepClock;
+use bytes::Bytes;
+use http::header::{ETAG, HeaderName, HeaderValue, IF_NONE_MATCH};
+use http::{HeaderMap, Method, Request, Response, StatusCode, Version, response};
+use http_cache_semantics::CacheError;
+use http_cache_uses::{FetchError, Origin};
+use jiff::Timestamp;
+use std::alloc::{AllocError, Global};
+
+/// Has two pages, and counts how often it was asked.
+#[derive(Drop)]
+pub struct Site<'a> {
+    alloc: Global,
+    clock: &'a StepClock,
+    asked: u64,
+}
+
+// The headers of a page, a line each.
+fn lines_of(target: &str) -> Option<&'static str> {
+    match target {
+        "/news" => Some("Cache-Control: max-age=10\nETag: \"1\"\nVary: Accept"),
+        "/account" => Some(
+            "Cache-Control: no-store\nSet-Cookie: a=1\nSet-Cookie: b=2\nContent-Length: 99\n\
+             Date: Mon, 01 Jan 2024 00:00:00 GMT\nConnection: X-Hop\nX-Hop: 1\nKeep-Alive: timeout=5",
+        ),
+        _ => None,
+    }
+}
+
+// The lines can want memory alone.
+fn is_added(alloc: Global, headers: &mut HeaderMap, line: &str) -> bool {
+    let Some((name, value)) = line.split_once(": ") else {
+        return false;
+    };
+    let Ok(name) = HeaderName::from_bytes(alloc, name.as_bytes()) else {
+        return false;
+    };
+    let Ok(value) = HeaderValue::from_bytes(alloc, value.as_bytes()) else {
+        return false;
+    };
+    headers.append(name, value).is_ok()
+}
+
+fn headers_of(alloc: Global, lines: &str) -> Result<HeaderMap, AllocError> {
+    let mut headers = HeaderMap::new(alloc);
+    for line in lines.lines() {
+        if !is_added(alloc, &mut headers, line) {
+            return Err(AllocError);
+        }
+    }
+    Ok(headers)
+}
+
+// Whether the request has the tag of the page.
+fn is_known(request: &Request<Bytes>, headers: &HeaderMap) -> bool {
+    let tag = headers.get(ETAG);
+    tag.is_some() && request.headers().get(IF_NONE_MATCH) == tag
+}
+
+impl<'a> Site<'a> {
+    /// A site that nobody has asked.
+    pub fn new(alloc: Global, clock: &'a StepClock) -> Site<'a> {
+        Site {
+            alloc,
+            clock,
+            asked: 0,
+        }
+    }
+
+    fn text(&self, request: &Request<Bytes>) -> Result<Bytes, AllocError> {
+        let target = request.uri().path();
+        let count = self.asked;
+        let text = format!(in self.alloc; "{target}, asked {count}\n")?;
+        Bytes::copy_from_slice(self.alloc, text.as_bytes())
+    }
+
+    // A page, or that it is as it was.
+    fn page(
+        &self,
+        request: &Request<Bytes>,
+        headers: HeaderMap,
+    ) -> Result<Response<Bytes>, AllocError> {
+        let is_known = is_known(request, &headers);
+        let body = if is_known || *request.method() == Method::HEAD {
+            Bytes::new()
+        } else {
+            self.text(request)?
+        };
+        let parts = response::Parts {
+            status: if is_known {
+                StatusCode::NOT_MODIFIED
+            } else {
+                StatusCode::OK
+            },
+            version: Version::HTTP_11,
+            headers,
+        };
+        Ok(Response::from_parts(parts, body))
+    }
+}
+
+impl Origin for Site<'_> {
+    ghost use Rattle.std.specs.Prelude.{⊤};
+
+    ghost sent = { λ before request outcome after. ⊤ };
+
+    fn send(
+        &mut self,
+        request: &Request<Bytes>,
+    ) -> Result<(Response<Bytes>, Timestamp), FetchError> {
+        self.asked = self.asked.saturating_add(1);
+        let lines = lines_of(request.uri().path()).ok_or(FetchError::NoResponse)?;
+        let page = self.page(request, headers_of(self.alloc, lines)?)?;
+        match Timestamp::now(self.clock) {
+            Ok(came) => Ok((page, came)),
+            Err(_) => Err(FetchError::Cache(CacheError::DateNotPrintable)),
+        }
+    }
+}

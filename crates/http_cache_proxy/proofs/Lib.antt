@@ -1,0 +1,2 @@
+-- The lemmas about what a proxy answers.
+pub mod FieldLemmas

@@ -1,0 +1,2 @@
+-- What a caching proxy answers.
+pub mod Proxy

@@ -1,0 +1,91 @@
+-- What a caching proxy passes on, and what it answers.
+use Rattle.std.specs.Prelude.{◌≡◌, ◌⊎◌, ℕ, ℤ, Bool, true, false, not, List, [], ◌∷◌, ◌++◌, filter, bytes_eq, codes}
+use Rattle.std.specs.List.{list_any}
+use Rattle.http.specs.declared.request.Request.{Request}
+use Rattle.http.specs.declared.response.Response.{Response as Answer}
+use Rattle.http.specs.Request as req
+use Rattle.http.specs.Response.{head_of, body_of}
+use Rattle.http_header.specs.FieldValue.{FieldValue}
+use Rattle.http_header.specs.HeaderMap.{Entries, pairs}
+use Rattle.http1.specs.Fields.{Header}
+use Rattle.http_server.specs.declared.response.Response.{Response}
+use Rattle.http_server.specs.Response.{fields, fields_of, IsResponse}
+use Rattle.http_cache_semantics.specs.Headers.{headers_of}
+use Rattle.http_cache_semantics.specs.Dates.{IsDateText}
+use Rattle.http_cache_semantics.specs.Forwarding.{forwarded_headers}
+use Rattle.http_cache_semantics.specs.declared.CacheError.{CacheError}
+use Rattle.http_cache_semantics.specs.declared.CacheError.TheVariants.{Memory}
+use Rattle.http_cache_uses.specs.declared.origin.FetchError.{FetchError}
+use Rattle.http_cache_uses.specs.declared.origin.FetchError.TheVariants.{Cache, NoResponse}
+use Rattle.http_cache_uses.specs.Client.{Stored, Sends, HasSentOneAtMost, IsFetched}
+
+-- ---- what goes on to the origin
+
+-- the request without what speaks of the connection that it came by (RFC 7230, section 6.1)
+pub record IsForwarded (request out : Request (List ℕ)) : Type 0 where
+  pub method : (req.head_of out).method ≡ (req.head_of request).method
+  pub target : (req.head_of out).uri ≡ (req.head_of request).uri
+  pub headers : headers_of (req.head_of out).headers ≡ forwarded_headers (headers_of (req.head_of request).headers)
+  pub body : req.body_of out ≡ req.body_of request
+
+-- ---- what goes out to the client
+
+-- the field tells the length of some body
+abbrev pub is_length : Header → Bool
+is_length field = bytes_eq field.0 (codes "content-length")
+
+-- the fields of a header map in its order, but for the length, which is told of the body that goes out
+abbrev pub fields_to_send : Entries FieldValue → List Header
+fields_to_send h = filter (λ field. not (is_length field)) (fields (pairs h))
+
+-- the field is a Date
+abbrev pub is_date : Header → Bool
+is_date field = bytes_eq field.0 (codes "date")
+
+-- behind fields without a Date stands that of a moment (RFC 7231, section 7.1.1.2)
+abbrev pub IsDatedIf : Bool → ℤ → List Header → List Header → Type 0
+IsDatedIf true moment fields dated = dated ≡ fields
+IsDatedIf false moment fields dated =
+    (date : List ℕ) × IsDateText moment date × (dated ≡ fields ++ (codes "date", date) ∷ [])
+
+abbrev pub IsDated : ℤ → List Header → List Header → Type 0
+IsDated moment fields dated = IsDatedIf (list_any is_date fields) moment fields dated
+
+-- an answer as it goes out: what speaks of one connection is gone, and it has a Date
+pub record IsSent (moment : ℤ) (answer : Answer (List ℕ)) (response : Response) : Type 0 where
+  pub status : response.status ≡ (head_of answer).status
+  pub passed : Entries FieldValue
+  pub is_passed : headers_of passed ≡ forwarded_headers (headers_of (head_of answer).headers)
+  pub fields_are : IsDated moment (fields_to_send passed) (fields_of response)
+  pub body : response.body.items ≡ body_of answer
+
+-- the status that tells why there is no answer
+abbrev pub failure_status : FetchError → ℕ
+failure_status NoResponse = 502
+failure_status (Cache Memory) = 503
+failure_status (Cache cause) = 500
+
+-- there is no answer
+abbrev pub IsFailure : FetchError → Response → Type 0
+IsFailure cause response = IsResponse (failure_status cause) [] [] response
+
+-- ---- both
+
+module _ {O : Type 0} (sent : Sends O) (before after : O) (old new : Stored) where
+  -- the client fetched the answer to the request that goes on
+  pub record IsFetchedBy (request : Request (List ℕ)) (answer : Answer (List ℕ)) (now : ℤ) : Type 0 where
+    pub forwarded : Request (List ℕ)
+    pub is_forwarded : IsForwarded request forwarded
+    pub fetched : IsFetched sent before after old new forwarded now answer
+
+  -- what was fetched goes out
+  pub record IsAnswered (request : Request (List ℕ)) (response : Response) : Type 0 where
+    pub now : ℤ
+    pub answer : Answer (List ℕ)
+    pub fetched : IsFetchedBy request answer now
+    pub is_sent : IsSent now answer response
+
+  -- that, or there is no answer; the origin was sent one request at most
+  pub record IsProxied (request : Request (List ℕ)) (response : Response) : Type 0 where
+    pub once : HasSentOneAtMost sent before after
+    pub answered : IsAnswered request response ⊎ ((cause : FetchError) × IsFailure cause response)

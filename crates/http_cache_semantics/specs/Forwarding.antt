@@ -1,0 +1,29 @@
+-- The headers of a message that a proxy passes on (RFC 7230, section 6.1).
+use Rattle.std.specs.Prelude.{ℕ, not, List, [], ◌∷◌, codes}
+use Rattle.std.specs.FinMap as fin
+use Rattle.http_cache_fields.specs.Headers.{Headers}
+use Rattle.http_cache_fields.specs.Pieces.{pieces_under}
+use Rattle.http_cache_rules.specs.Filter.{is_spelled}
+
+-- names that speak of one connection alone, whether Connection spells them or not
+abbrev pub connection_fields : List (List ℕ)
+connection_fields =
+    codes "connection"
+    ∷ codes "keep-alive"
+    ∷ codes "proxy-authenticate"
+    ∷ codes "proxy-authorization"
+    ∷ codes "proxy-connection"
+    ∷ codes "te"
+    ∷ codes "trailer"
+    ∷ codes "transfer-encoding"
+    ∷ codes "upgrade"
+    ∷ []
+
+-- the headers without the names that the texts spell, in any case
+abbrev pub without_named : List (List ℕ) → Headers → Headers
+without_named texts h = fin.retain_keys h (λ name. not (is_spelled texts name))
+
+-- the headers that are passed on: no such name, and none that Connection spells
+unfoldable pub forwarded_headers : Headers → Headers
+forwarded_headers h =
+    without_named (pieces_under h (codes "connection")) (without_named connection_fields h)
