@@ -1,35 +1,53 @@
-//! Stores a page, and asks 5 and 15 seconds later what to do about a request for it.
+//! Asks for a page three times, through a caching client.
 #![tactic(auto)]
 
+use bytes::Bytes;
 use http::{Request, Response};
-use http_cache_semantics::{BeforeRequest, CacheError, CachePolicy};
+use http_cache_semantics::CacheOptions;
+use http_cache_uses::{Client, FetchError, Origin};
 use jiff::Timestamp;
 use std::alloc::Global;
 
-fn what_to_do(
+// In the place of the network: a page that is fresh for ten seconds, and when it came.
+#[derive(Drop)]
+struct Site {
     alloc: Global,
-    policy: &CachePolicy,
-    request: &Request<()>,
     now: Timestamp,
-) -> Result<&'static str, CacheError> {
-    Ok(match policy.before_request(alloc, request, now)? {
-        BeforeRequest::Fresh(_) => "answer with the stored body, under these headers",
-        BeforeRequest::Stale { matches: true, .. } => "send the request that came with this answer",
-        BeforeRequest::Stale { .. } => "send your own: what is stored is no answer to it",
-    })
+    asked: u32,
+}
+
+impl Origin for Site {
+    ghost use Rattle.std.specs.Prelude.{⊤};
+
+    ghost sent = { λ before request answer after. ⊤ };
+
+    fn send(&mut self, _: &Request<Bytes>) -> Result<(Response<Bytes>, Timestamp), FetchError> {
+        self.asked = self.asked.saturating_add(1);
+        let page = Response::builder(self.alloc).header("cache-control", "max-age=10");
+        match page.body(Bytes::from_static(b"a page")) {
+            Ok(page) => Ok((page, self.now)),
+            Err(_) => Err(FetchError::NoResponse),
+        }
+    }
 }
 
 fn main(rt: HostRuntime) -> anyhow::Result<()> {
     let alloc = rt.alloc();
-    let request = Request::get(alloc, "https://example.com/page").body(())?;
-    let page = Response::builder(alloc).header("cache-control", "max-age=10");
-    let came = Timestamp::from_second(1_704_067_200)?;
-    let policy = CachePolicy::new(alloc, &request, &page.body(())?, came)?;
-    for seconds in [5, 15] {
-        let now = Timestamp::from_second(1_704_067_200 + seconds)?;
+    let mut client = Client::new(alloc, CacheOptions::default());
+    let mut site = Site {
+        alloc,
+        now: Timestamp::UNIX_EPOCH,
+        asked: 0,
+    };
+    let request = Request::get(alloc, "https://example.com/page").body(Bytes::new())?;
+    for seconds in [0, 5, 15] {
+        site.now = Timestamp::from_second(1_704_067_200 + seconds)?;
+        let now = site.now;
+        let answer = client.fetch(alloc, &mut site, &request, now)?;
         println!(rt;
-            "after {seconds} s: {}",
-            what_to_do(alloc, &policy, &request, now)?
+            "after {seconds} s: {} bytes, the site was asked {} times",
+            answer.body().len(),
+            site.asked
         )?;
     }
     Ok(())

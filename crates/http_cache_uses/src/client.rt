@@ -136,7 +136,8 @@ impl Client {
         requires { place < length self.old.policies }
         ensures { self.new ≡ renewed self.old place policy }
     {
-        replace_policy(&mut self.variants, place, policy);
+        let variants = &mut self.variants;
+        replace_policy(variants, place, policy);
     }
 
     // What is stored at a place goes; what is behind it closes up.

@@ -8,13 +8,16 @@ use http::{Request, Response};
 use http_cache_semantics::CacheError;
 use jiff::Timestamp;
 use std::alloc::AllocError;
+use thiserror::Error;
 
 /// Why a request has no answer.
-#[derive(Clone, Copy, Debug, PartialEq, Eq, Drop)]
+#[derive(Clone, Copy, Debug, PartialEq, Eq, Error)]
 pub enum FetchError {
     /// The cache was refused something.
+    #[error("{0}")]
     Cache(CacheError),
     /// The origin gave no response.
+    #[error("no response")]
     NoResponse,
 }
 
