@@ -15,6 +15,17 @@ const LASTING: [(&str, &str); 5] = [
     ("warning", "214 - \"x\""),
 ];
 
+const PASSED_ON: [(&str, &str); 5] = [
+    (
+        "cache-control",
+        "max-age=10, pre-check=1, post-check=2, a=\"b c\", public",
+    ),
+    ("etag", "\"c\""),
+    ("last-modified", "Sat, 23 Sep 2023 00:00:00 GMT"),
+    ("vary", "Accept"),
+    ("warning", "110 - \"s\", 214 - \"x\""),
+];
+
 /// The age, the date and the header `x` of the answer after 5.5 seconds.
 pub const FIVE_SECONDS: (&str, &str, &str) = ("5", "Mon, 01 Jan 2024 00:00:05 +0000", "2");
 
@@ -78,6 +89,11 @@ const VARIANT_AT_FIVE: [(&str, &str); 5] = [
 ];
 
 const VARIANT_VALIDATED: [(&str, &str); 2] = [("accept", "a"), ("if-none-match", "\"3\"")];
+
+/// All that is left where what Connection spells is gone: both values of `x` too.
+pub fn are_passed_on(headers: &HeaderMap) -> bool {
+    headers.len() == 7 && headers.get_all("x").iter().count() == 2 && has_all(headers, &PASSED_ON)
+}
 
 fn has(headers: &HeaderMap, name: &str, value: &str) -> bool {
     headers.get_str(name).is_some_and(|text| text == value)

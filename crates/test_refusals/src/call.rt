@@ -34,10 +34,12 @@ pub enum Call {
     ChooseFresh,
     /// `choose`, with one that is to be validated.
     ChooseValidated,
+    /// The headers of the response, as a proxy passes them on.
+    Forward,
 }
 
 /// Each call once.
-pub const CALLS: [Call; 20] = [
+pub const CALLS: [Call; 21] = [
     Call::New,
     Call::NewOptions,
     Call::TryClone,
@@ -58,4 +60,5 @@ pub const CALLS: [Call; 20] = [
     Call::Add,
     Call::ChooseFresh,
     Call::ChooseValidated,
+    Call::Forward,
 ];

@@ -1,13 +1,14 @@
 //! The exchange on which the calls are made.
 use crate::answers::{
     FIVE_SECONDS, PLAIN, UNMATCHED, UNMATCHED_HEAD, VALIDATED, are_directives, are_outcomes,
-    are_outcomes_of_example, chooses_fresh, chooses_validated, is_at, is_fresh, is_stale,
-    is_unstorable_at, renews, replaces,
+    are_outcomes_of_example, are_passed_on, chooses_fresh, chooses_validated, is_at, is_fresh,
+    is_stale, is_unstorable_at, renews, replaces,
 };
 use crate::call::Call;
 use cache_script::{Script, Step, UnreadScript, script_from_bytes};
 use http_cache_semantics::chain::{chain, replay};
 use http_cache_semantics::directives::{CacheControl, format_cache_control, parse_cache_control};
+use http_cache_semantics::forwarding::forwarded_headers;
 use http_cache_semantics::{
     AfterResponse, BeforeRequest, CacheError, CachePolicy, Choice, Variants,
 };
@@ -279,6 +280,7 @@ impl Case {
             Call::Add => self.adds(alloc),
             Call::ChooseFresh => Ok(chooses_fresh(&self.choice_at(alloc, 0)?)),
             Call::ChooseValidated => Ok(chooses_validated(&self.choice_at(alloc, 1)?)),
+            Call::Forward => self.is_passed_on(alloc),
         }
     }
 
@@ -288,6 +290,11 @@ impl Case {
             Call::ReplayExample => Ok(are_outcomes_of_example(outcomes.as_slice())),
             _ => Ok(are_outcomes(outcomes.as_slice())),
         }
+    }
+
+    fn is_passed_on(&self, alloc: Global) -> Result<bool, CacheError> {
+        let headers = &self.script.response.headers;
+        Ok(are_passed_on(&forwarded_headers(alloc, headers)?))
     }
 
     fn adds(&self, alloc: Global) -> Result<bool, CacheError> {

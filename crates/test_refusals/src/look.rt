@@ -4,12 +4,14 @@ use cache_script::{Script, Step};
 use http_cache_semantics::directives::{
     CacheControl, GetHeaderStr, get_all_comma, parse_cache_control,
 };
+use http_cache_semantics::forwarding::print_date;
 use http_cache_semantics::policy::Fraction;
 use http_cache_semantics::stored::{moment_from_value, options_from_value};
 use http_cache_semantics::{
     BeforeRequest, CacheError, CacheOptions, CachePolicy, Choice, RequestLike, ResponseLike,
     Variants,
 };
+use jiff::Timestamp;
 use serde_json::Value;
 use std::alloc::Global;
 use std::time::Duration;
@@ -53,10 +55,12 @@ pub enum Look {
     Remove,
     /// `choose`, where none of the variants matches.
     ChooseNothing,
+    /// From 1900 on, and before.
+    PrintDate,
 }
 
 /// Each of these calls once.
-pub const LOOKS: [Look; 30] = [
+pub const LOOKS: [Look; 31] = [
     Look::IsStorable,
     Look::Age,
     Look::TimeToLive,
@@ -87,6 +91,7 @@ pub const LOOKS: [Look; 30] = [
     Look::Replace,
     Look::Remove,
     Look::ChooseNothing,
+    Look::PrintDate,
 ];
 
 /// What is looked at.
@@ -204,6 +209,14 @@ fn is_right_of_choices(alloc: Global, case: &Case, look: Look) -> bool {
     }
 }
 
+fn is_right_of_dates() -> Result<bool, CacheError> {
+    let last_of_1899 = Timestamp::from_second(-2_208_988_801);
+    Ok(
+        print_date(after(5_500_000_000)?) == Some(*b"Mon, 01 Jan 2024 00:00:05 +0000")
+            && last_of_1899.is_ok_and(|moment| print_date(moment).is_none()),
+    )
+}
+
 fn is_right_of_exchange(alloc: Global, case: &Case, look: Look) -> bool {
     match look {
         Look::IsStorable | Look::Age | Look::TimeToLive | Look::IsStale => {
@@ -218,6 +231,7 @@ fn is_right_of_exchange(alloc: Global, case: &Case, look: Look) -> bool {
         Look::NewVariants | Look::PolicyAt | Look::ChooseNothing => {
             is_right_of_choices(alloc, case, look)
         }
+        Look::PrintDate => is_right_of_dates() == Ok(true),
         _ => is_right_of_messages(case.script(), look),
     }
 }
