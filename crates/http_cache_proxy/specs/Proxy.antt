@@ -1,5 +1,6 @@
 -- What a caching proxy passes on, and what it answers.
-use Rattle.std.specs.Prelude.{◌≡◌, ◌⊎◌, ℕ, ℤ, Bool, true, false, not, List, [], ◌∷◌, ◌++◌, filter, bytes_eq, codes}
+use Rattle.std.specs.Prelude.{◌≡◌, ◌⊎◌, ◌-◌, ℕ, ℤ, Bool, true, false, not, List, [], ◌∷◌, ◌++◌, map, filter, take, drop}
+use Rattle.std.specs.Prelude.{length, bytes_eq, codes, if◌then◌else◌}
 use Rattle.std.specs.List.{list_any}
 use Rattle.http.specs.declared.request.Request.{Request}
 use Rattle.http.specs.declared.response.Response.{Response as Answer}
@@ -34,19 +35,33 @@ pub record IsForwarded (request out : Request (List ℕ)) : Type 0 where
 abbrev pub is_length : Header → Bool
 is_length field = bytes_eq field.0 (codes "content-length")
 
--- the fields of a header map in its order, but for the length, which is told of the body that goes out
-abbrev pub fields_to_send : Entries FieldValue → List Header
-fields_to_send h = filter (λ field. not (is_length field)) (fields (pairs h))
+-- the last six bytes, or all of a shorter text
+abbrev pub last_six : List ℕ → List ℕ
+last_six text = drop (length text - 6) text
+
+-- a date with GMT in place of an offset of nothing (RFC 7231, section 7.1.1.1)
+abbrev pub in_gmt : List ℕ → List ℕ
+in_gmt text =
+    if bytes_eq (last_six text) (codes " +0000")
+    then take (length text - 6) text ++ codes " GMT" else text
 
 -- the field is a Date
 abbrev pub is_date : Header → Bool
 is_date field = bytes_eq field.0 (codes "date")
 
+-- a field with its value as it is sent
+abbrev pub field_to_send : Header → Header
+field_to_send field = (field.0, if is_date field then in_gmt field.1 else field.1)
+
+-- the fields of a header map in its order, but for the length, which is told of the body that goes out
+abbrev pub fields_to_send : Entries FieldValue → List Header
+fields_to_send h = map field_to_send (filter (λ field. not (is_length field)) (fields (pairs h)))
+
 -- behind fields without a Date stands that of a moment (RFC 7231, section 7.1.1.2)
 abbrev pub IsDatedIf : Bool → ℤ → List Header → List Header → Type 0
 IsDatedIf true moment fields dated = dated ≡ fields
 IsDatedIf false moment fields dated =
-    (date : List ℕ) × IsDateText moment date × (dated ≡ fields ++ (codes "date", date) ∷ [])
+    (date : List ℕ) × IsDateText moment date × (dated ≡ fields ++ (codes "date", in_gmt date) ∷ [])
 
 abbrev pub IsDated : ℤ → List Header → List Header → Type 0
 IsDated moment fields dated = IsDatedIf (list_any is_date fields) moment fields dated

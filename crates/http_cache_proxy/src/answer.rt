@@ -1,9 +1,9 @@
 //! The answer as it goes out.
-ghost use Rattle.std.specs.Prelude.{◌≡◌, ◌≤ℤ◌, pos, [], bytes_eq, codes, OnOk};
+ghost use Rattle.std.specs.Prelude.{◌≡◌, ◌≤ℤ◌, pos, [], bytes_eq, codes, IfOk, OnOk};
 ghost use Rattle.std.specs.List.{list_any};
 ghost use Rattle.http.specs.Response.{head_of};
 ghost use Rattle.http_server.specs.Response.{IsBlank, fields_of};
-ghost use Rattle.http_cache_proxy.specs.Proxy.{is_date, IsDated, fields_to_send, IsSent, failure_status, IsFailure};
+ghost use Rattle.http_cache_proxy.specs.Proxy.{in_gmt, field_to_send, fields_to_send, IsDated, IsSent, IsFailure};
 
 use bytes::Bytes;
 use http::header::DATE;
@@ -15,8 +15,46 @@ use http_server::Response;
 use jiff::Timestamp;
 use std::alloc::{AllocError, Global};
 
+// The bytes as a value; those of dates and of values make one.
+fn value_of(alloc: Global, bytes: &[u8]) -> Result<HeaderValue, AllocError>
+    ensures { IfOk result (λ value. value.bytes ≡ bytes.now) }
+{
+    match HeaderValue::from_bytes(alloc, bytes) {
+        Ok(value) => Ok(value),
+        Err(_) => Err(AllocError),
+    }
+}
+
+// A date with GMT in place of an offset of nothing (RFC 7231, section 7.1.1.1).
+fn in_gmt(alloc: Global, date: &[u8]) -> Result<HeaderValue, AllocError>
+    ensures { IfOk result (λ value. value.bytes ≡ in_gmt date.now) }
+{
+    let Some(front) = date.strip_suffix(b" +0000") else {
+        return value_of(alloc, date);
+    };
+    let mut text = Vec::with_capacity(alloc, front.len() + 4)?;
+    text.extend_from_slice(front)?;
+    text.extend_from_slice(b" GMT")?;
+    value_of(alloc, text.as_slice())
+}
+
+fn value_to_send(
+    alloc: Global,
+    name: &HeaderName,
+    value: &HeaderValue,
+) -> Result<HeaderValue, AllocError>
+    ensures { IfOk result (λ sent.
+        (name.now, sent.bytes) ≡ field_to_send (name.now, value.now.bytes)) }
+{
+    if name.as_str() == "date" {
+        in_gmt(alloc, value.as_bytes())
+    } else {
+        value.clone()
+    }
+}
+
 // The length is told of the body that goes out.
-fn add_fields(response: &mut Response, headers: &HeaderMap) -> Result<(), AllocError>
+fn add_fields(alloc: Global, response: &mut Response, headers: &HeaderMap) -> Result<(), AllocError>
     requires { fields_of response.old ≡ [] }
     ensures fields { OnOk result (fields_of response.new ≡ fields_to_send headers.now) }
     ensures status { response.new.status ≡ response.old.status }
@@ -24,7 +62,7 @@ fn add_fields(response: &mut Response, headers: &HeaderMap) -> Result<(), AllocE
 {
     for (name, value) in headers.iter() {
         if name.as_str() != "content-length" {
-            response.add_header(name.clone()?, value.clone()?)?;
+            response.add_header(name.clone()?, value_to_send(alloc, name, value)?)?;
         }
     }
     Ok(())
@@ -57,10 +95,7 @@ fn add_date(alloc: Global, response: &mut Response, now: Timestamp) -> Result<()
     let Some(date) = print_date(now) else {
         unreachable!();
     };
-    let Ok(value) = HeaderValue::from_bytes(alloc, &date) else {
-        return Err(AllocError);
-    };
-    response.add_header(DATE, value)
+    response.add_header(DATE, in_gmt(alloc, &date)?)
 }
 
 // Fills a response with an answer to a request of a moment.
@@ -76,7 +111,7 @@ pub(crate) fn fill(
 {
     response.status = answer.status();
     let headers = forwarded_headers(alloc, answer.headers())?;
-    add_fields(response, &headers)?;
+    add_fields(alloc, response, &headers)?;
     add_date(alloc, response, now)?;
     response.body.push(answer.into_body())?;
     Ok(())

@@ -25,13 +25,12 @@ returns-clause-fields c =
     let held = c.args.response.now.headers.items in
     let none : list_any is_date before ≡ false =
     sym (date-sent held) ∙ sym c.has_date.ensures ∙ c.if-has_date.false in
-    let bytes : c.in-Ok.value.bytes ≡ c.in-Some.date = ap (λ v. v.bytes) c.in-Ok.ensures.ok in
+    let sent = c.in_ok-in_gmt.field-0 in
     on_ok_weaker c.add_header.result
-    (λ (added : after ≡ before ++ (codes "date", c.in-Ok.value.bytes) ∷ []).
-    subst (λ (b : Bool). IsDatedIf b moment before after) (sym none)
-    (
+    (λ (added : after ≡ before ++ (codes "date", sent.bytes) ∷ []).
+    subst (λ (b : Bool). IsDatedIf b moment before after) (sym none) (
       c.in-Some.date,
       c.in-Some.ensures.text,
-      added ∙ ap (λ (v : List ℕ). before ++ (codes "date", v) ∷ []) bytes,
+      added ∙ ap (λ (v : List ℕ). before ++ (codes "date", v) ∷ []) c.in_ok-in_gmt.ensures,
     ))
     c.add_header.ensures.headers
