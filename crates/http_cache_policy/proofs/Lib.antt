@@ -1,6 +1,7 @@
 -- The lemmas of this crate.
 pub mod AgeLemmas
 pub mod BoundLemmas
+pub mod ExplainLemmas
 pub mod FreshLemmas
 pub mod FreshUniqueLemmas
 pub mod KeptLemmas

@@ -7,6 +7,7 @@ use Rattle.http_cache_policy.specs.Exchange.{stored_directives}
 use Rattle.http_cache_policy.specs.Kept.{kept_exchange}
 use Rattle.http_cache_rules.specs.Storing.{is_storable}
 use Rattle.http_cache_rules.specs.Lifetimes.{lifetime}
+use Rattle.http_cache_rules.specs.Freshness.{freshness}
 use Rattle.http_cache_policy.specs.Age.{received_age}
 use Rattle.http_cache_policy.specs.declared.policy.Found.{Found}
 use Rattle.http_cache_policy.specs.declared.policy.CachePolicy.TheInside.{Inside}
@@ -16,6 +17,7 @@ pub record IsFoundIn (e : Exchange) (f : Found) : Type 0 where
   pub directives : f.directives ≡ stored_directives_of (stored_directives e)
   pub storable : f.storable ≡ is_storable e
   pub received : f.received_age ≡ received_age e
+  pub fresh : (f.source, as_nanos f.lifetime) ≡ freshness e
   pub lifetime_is : as_nanos f.lifetime ≡ lifetime e
 
 -- the exchange is one that is kept, with what is read once of it

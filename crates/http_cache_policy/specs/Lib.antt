@@ -2,6 +2,12 @@ pub use Rattle.http_cache_fields.specs.Text
 pub use Rattle.http_cache_fields.specs.Headers
 pub use Rattle.http_cache_rules.specs.Options
 pub use Rattle.http_cache_rules.specs.Storing
+pub use Rattle.http_cache_rules.specs.FirstRow
+pub use Rattle.http_cache_rules.specs.Storability
+pub use Rattle.http_cache_rules.specs.Freshness
+pub use Rattle.http_cache_reasons.specs.Reason
+pub use Rattle.http_cache_reasons.specs.StructuredField
+pub use Rattle.http_cache_reasons.specs.CacheStatus
 pub mod Messages
 pub mod Exchange
 pub mod Kept
@@ -10,6 +16,7 @@ pub mod Inside
 pub mod Match
 pub mod Verdict
 pub mod Bound
+pub mod Explain
 pub mod Fresh
 pub mod Stale
 pub mod Refused

@@ -15,7 +15,7 @@ ghost use Rattle.http_cache_policy.specs.Refused.{RefusesAnswer, HasUndatedAnswe
 mod fresh;
 mod matching;
 mod origin;
-mod verdict;
+pub(crate) mod verdict;
 
 use crate::policy::{CachePolicy, RequestLike};
 use http::{Method, request, response};

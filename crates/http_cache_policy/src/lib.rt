@@ -4,6 +4,7 @@
 
 pub mod after;
 pub mod before;
+pub mod explain;
 pub mod policy;
 pub mod run;
 pub mod steps;

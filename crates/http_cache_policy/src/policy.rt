@@ -1,5 +1,5 @@
 //! A stored exchange: whether it may be stored, how old it is and how long it stays fresh.
-ghost use Rattle.std.specs.Prelude.{◌≡◌, ℤ, ◌≤ℤ◌, ◌≤◌, ◌↔◌, true, codes, IsTrue, IfOk, IsOkUnless};
+ghost use Rattle.std.specs.Prelude.{◌≡◌, ◌-◌, ℤ, ◌≤ℤ◌, ◌≤◌, ◌↔◌, true, codes, IsTrue, IfOk, IsOkUnless};
 ghost use Rattle.std.specs.Duration.{as_nanos};
 ghost use Rattle.http.specs.declared.version.TheConstants.Version.{HTTP_11};
 ghost use Rattle.http_cache_fields.specs.Headers.{headers_of};
@@ -13,6 +13,7 @@ use http::{HeaderMap, Method, StatusCode, Uri, Version, request};
 use http_cache_fields::CacheError;
 use http_cache_fields::headers::copy_of_map;
 use http_cache_fields::kept::keep;
+use http_cache_rules::freshness::{Freshness, LifetimeSource};
 use http_cache_rules::lifetime::{elapsed_time, lifetime_of, received_age};
 pub use http_cache_rules::options::{CacheOptions, Fraction};
 use http_cache_rules::parts::StoredParts;
@@ -76,6 +77,7 @@ struct Found {
     directives: StoredDirectives,
     storable: bool,
     received_age: u64,
+    source: LifetimeSource,
     lifetime: Duration,
 }
 
@@ -87,12 +89,13 @@ impl Found {
     {
         let directives = StoredDirectives::of(alloc, &parts.response_headers)?;
         let storable = is_storable(parts, &directives);
-        let lifetime = lifetime_of(alloc, storable, parts, &directives)?;
+        let freshness = lifetime_of(alloc, storable, parts, &directives)?;
         Ok(Found {
             directives,
             storable,
             received_age: received_age(&parts.response_headers),
-            lifetime,
+            source: freshness.source,
+            lifetime: freshness.lifetime,
         })
     }
 }
@@ -103,7 +106,9 @@ impl CachePolicy {
     ghost use Rattle.http_cache_policy.specs.Kept.{kept_exchange};
     ghost use Rattle.http_cache_rules.specs.Storing.{has_explicit_expiration};
     ghost use Rattle.http_cache_rules.specs.Storing.{is_storable};
+    ghost use Rattle.http_cache_rules.specs.StoredDirectives.{stored_directives_of};
     ghost use Rattle.http_cache_rules.specs.Lifetimes.{lifetime};
+    ghost use Rattle.http_cache_rules.specs.Freshness.{freshness_seen, freshness};
     ghost use Rattle.http_cache_policy.specs.Age.{age_at, time_to_live_at, is_stale_at};
     ghost use Rattle.http_cache_policy.specs.Verdict.{lets_stale_out};
 
@@ -267,6 +272,28 @@ impl CachePolicy {
         ensures { as_nanos result ≡ lifetime self.now }
     {
         self.found.lifetime
+    }
+
+    /// What is found of the stored directives.
+    pub(crate) fn directives(&self) -> &StoredDirectives
+        ensures { result.now ≡ stored_directives_of (stored_directives self.now) }
+    {
+        &self.found.directives
+    }
+
+    /// How long the stored response stays fresh, and what decides that: the first row of the table
+    /// of lifetimes that applies (RFC 7234, section 4.2.1).
+    #[tactic(auto, unfolding(crate::specs::Age::time_to_live_at))]
+    pub fn freshness(&self) -> Freshness
+        ensures value { freshness_seen result ≡ freshness self.now }
+        ensures lifetime { as_nanos result.lifetime ≡ lifetime self.now }
+        ensures left { (moment : ℤ) → time_to_live_at self.now moment
+            ≡ as_nanos result.lifetime - age_at self.now moment }
+    {
+        Freshness {
+            source: self.found.source,
+            lifetime: self.found.lifetime,
+        }
     }
 
     /// Whether the response may be stored (RFC 7234, section 3).

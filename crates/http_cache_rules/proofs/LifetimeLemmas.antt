@@ -1,90 +1,130 @@
 -- Which row of the table of lifetimes decides.
-use Rattle.std.proofs.Common.{◌≡◌, ℕ, ◌*◌, Bool, true, false, not, ◌&&◌, ◌||◌, List, [], ◌∷◌, ◌++◌}
-use Rattle.std.proofs.Common.{codes, Option, Some, None, is_some, option_map, unwrap_or}
-use Rattle.std.proofs.Common.{if◌then◌else◌, refl, sym, ap, ◌∙◌, true≢false}
-use Rattle.std.specs.List.{list_any}
+use Rattle.std.proofs.Common.{◌≡◌, ℕ, ◌*◌, Bool, true, false, ◌&&◌, ◌||◌, not, List, [], ◌∷◌, ◌++◌, map, drop, codes}
+use Rattle.std.proofs.Common.{Option, Some, None, is_some, option_map, unwrap_or, if◌then◌else◌, refl, sym, ap, ◌∙◌}
 use Rattle.std.specs.Option.{option_or}
 use Rattle.http_cache_fields.specs.Number.{number}
 use Rattle.http_cache_fields.specs.Directives.{has}
 use Rattle.http_cache_rules.specs.DeltaSeconds.{said_by_number, said_by_value, seconds_in}
 use Rattle.http_cache_rules.specs.Exchange.{Exchange, stored_directives}
 use Rattle.http_cache_rules.specs.Storing.{is_storable}
-use Rattle.http_cache_rules.specs.Lifetimes.{Row, applies, first_row, has_own_cookies}
-use Rattle.http_cache_rules.specs.Lifetimes.{varies_always, immutable_floor, zero_rows}
-use Rattle.http_cache_rules.specs.Lifetimes.{seconds_rows, date_rows, lifetime}
+use Rattle.http_cache_rules.specs.Lifetimes.{Row, first_row, lifetime, lifetime_rows}
 use Rattle.http_cache_rules.specs.Lifetimes as table
+use Rattle.http_cache_rules.specs.FirstRow.{first_said}
+use Rattle.http_cache_rules.specs.Freshness.{Sourced, zero_sources, seconds_sources, date_sources}
+use Rattle.http_cache_rules.specs.Freshness.{freshness_rows, floor_source, freshness}
+use Rattle.http_cache_rules.proofs.FirstRowLemmas.{first_said-append}
+use Rattle.http_cache_rules.specs.declared.freshness.LifetimeSource.{LifetimeSource}
 
--- rows of which none applies don't count
-first_row-behind : (before rows : List Row) (otherwise : ℕ) → list_any applies before ≡ false
-    → first_row (before ++ rows) otherwise ≡ first_row rows otherwise
-first_row-behind [] rows otherwise e = refl
-first_row-behind ((true, lifetime) ∷ before) rows otherwise e = absurd (true≢false e)
-first_row-behind ((false, lifetime) ∷ before) rows otherwise e = first_row-behind before rows otherwise e
+-- ---- which group of rows decides
 
--- of four rows that give zero one applies
-first_row-zero : (a b c d : Bool) (rows : List Row) (otherwise : ℕ) → (a || (b || (c || (d || false)))) ≡ true
-    → first_row ((a, 0) ∷ (b, 0) ∷ (c, 0) ∷ (d, 0) ∷ rows) otherwise ≡ 0
-first_row-zero true b c d rows otherwise e = refl
-first_row-zero false true c d rows otherwise e = refl
-first_row-zero false false true d rows otherwise e = refl
-first_row-zero false false false true rows otherwise e = refl
-first_row-zero false false false false rows otherwise e = absurd (true≢false (sym e))
+module _ (e : Exchange) where
+  by_groups : freshness e
+      ≡ unwrap_or
+      (option_or (option_or (first_said (zero_sources e)) (first_said (seconds_sources e)))
+      (first_said (date_sources e)))
+      (floor_source (stored_directives e) e.options)
+  unfolding freshness
+  by_groups =
+      ap (λ (o : Option Sourced). unwrap_or o (floor_source (stored_directives e) e.options))
+      (first_said-append (zero_sources e ++ seconds_sources e) (date_sources e)
+      ∙ ap (λ (o : Option Sourced). option_or o (first_said (date_sources e)))
+      (first_said-append (zero_sources e) (seconds_sources e)))
 
--- the lifetime where no row applies
-abbrev pub floor : Exchange → ℕ
-floor e = immutable_floor (stored_directives e) e.options
+  abbrev by_group : Option Sourced → Option Sourced → Option Sourced → Sourced
+  by_group zero seconds dates =
+      unwrap_or (option_or (option_or zero seconds) dates) (floor_source (stored_directives e) e.options)
 
-pub lifetime-zero : (e : Exchange) → list_any applies (zero_rows e) ≡ true → lifetime e ≡ 0
-unfolding lifetime
-lifetime-zero e =
-    first_row-zero (not (is_storable e) || has (stored_directives e) (codes "no-cache"))
-    (e.options.shared && has_own_cookies e.response_headers (stored_directives e))
-    (varies_always e.response_headers)
-    (e.options.shared && has (stored_directives e) (codes "proxy-revalidate"))
-    (seconds_rows e ++ date_rows e) (floor e)
+  pub freshness-zero : (found : Sourced) → Some found ≡ first_said (zero_sources e) → found ≡ freshness e
+  freshness-zero found zero =
+      ap (λ (o : Option Sourced). by_group o (first_said (seconds_sources e)) (first_said (date_sources e))) zero
+      ∙ sym by_groups
 
-pub lifetime-behind : (e : Exchange) → list_any applies (zero_rows e) ≡ false
-    → lifetime e ≡ first_row (seconds_rows e ++ date_rows e) (floor e)
-unfolding lifetime
-lifetime-behind e = first_row-behind (zero_rows e) (seconds_rows e ++ date_rows e) (floor e)
+  pub freshness-seconds : (found : Sourced) → None ≡ first_said (zero_sources e)
+      → Some found ≡ first_said (seconds_sources e) → found ≡ freshness e
+  freshness-seconds found zero seconds =
+      (λ i. by_group (zero i) (seconds i) (first_said (date_sources e))) ∙ sym by_groups
+
+  pub freshness-dates : (found : Sourced) → None ≡ first_said (zero_sources e)
+      → None ≡ first_said (seconds_sources e)
+      → found ≡ unwrap_or (first_said (date_sources e)) (floor_source (stored_directives e) e.options)
+      → found ≡ freshness e
+  freshness-dates found zero seconds dates =
+      dates ∙ (λ i. by_group (zero i) (seconds i) (first_said (date_sources e))) ∙ sym by_groups
+
+-- ---- the lifetimes are those of the table
+
+-- a row without what it goes by
+abbrev bare : Bool × Sourced → Row
+bare row = (row.0, row.1.1)
+
+first_row-bare : (rows : List (Bool × Sourced)) (otherwise : Sourced)
+    → (unwrap_or (first_said rows) otherwise).1 ≡ first_row (map bare rows) otherwise.1
+first_row-bare [] otherwise = refl
+first_row-bare ((true, what) ∷ rows) otherwise = refl
+first_row-bare ((false, what) ∷ rows) otherwise = first_row-bare rows otherwise
+
+-- two rows that say the same are one
+first_row-joined : (a b : Bool) (said : ℕ) (rows : List Row) (otherwise : ℕ)
+    → first_row ((a, said) ∷ (b, said) ∷ rows) otherwise ≡ first_row ((a || b, said) ∷ rows) otherwise
+first_row-joined true b said rows otherwise = refl
+first_row-joined false b said rows otherwise = refl
+
+pub freshness-lifetime : (e : Exchange) → (freshness e).1 ≡ lifetime e
+unfolding freshness lifetime
+freshness-lifetime e =
+    let otherwise = floor_source (stored_directives e) e.options in
+    first_row-bare (freshness_rows e) otherwise
+    ∙ first_row-joined (not (is_storable e)) (has (stored_directives e) (codes "no-cache")) 0
+    (drop 1 (lifetime_rows e)) otherwise.1
 
 -- ---- the rows of directives that count seconds
 
-abbrev nanos : ℕ → ℕ
+abbrev pub nanos : ℕ → ℕ
 nanos seconds = seconds * 1_000_000_000
 
+-- so many seconds, behind what gives them
+abbrev pub timed : LifetimeSource → ℕ → Sourced
+timed source seconds = (source, nanos seconds)
+
+-- the lifetime that a directive gives
+abbrev pub given_by : LifetimeSource → Option (Option (List ℕ)) → Option Sourced
+given_by source said = option_map (timed source) (seconds_in (said_by_value said))
+
 -- the row of a directive, by what it says
-abbrev row_of : Bool → Option (Option (List ℕ)) → Row
-row_of heeded said = (heeded && is_some (unwrap_or said None), table.seconds_in (unwrap_or said None))
+abbrev row_of : LifetimeSource → Bool → Option (Option (List ℕ)) → Bool × Sourced
+row_of source heeded said =
+    (heeded && is_some (unwrap_or said None), (source, table.seconds_in (unwrap_or said None)))
 
-abbrev heeded_of : Bool → Option (Option (List ℕ)) → Option ℕ
-heeded_of heeded said = if heeded then seconds_in (said_by_value said) else None
+first_said-number : (source : LifetimeSource) (n : Option ℕ)
+    → option_map (timed source) (seconds_in (said_by_number n)) ≡ Some (timed source (unwrap_or n 0))
+first_said-number source None = refl
+first_said-number source (Some n) = refl
 
-by_number : (n : Option ℕ) (otherwise : ℕ)
-    → nanos (unwrap_or n 0) ≡ unwrap_or (option_map nanos (seconds_in (said_by_number n))) otherwise
-by_number None otherwise = refl
-by_number (Some n) otherwise = refl
+first_said-heeded : (source : LifetimeSource) (heeded : Bool) (said : Option (Option (List ℕ)))
+    (rows : List (Bool × Sourced))
+    → option_or (if heeded then given_by source said else None) (first_said rows)
+    ≡ first_said (row_of source heeded said ∷ rows)
+first_said-heeded source false said rows = refl
+first_said-heeded source true None rows = refl
+first_said-heeded source true (Some None) rows = refl
+first_said-heeded source true (Some (Some text)) rows =
+    ap (λ o. option_or o (first_said rows)) (first_said-number source (number text))
 
-first_row-said : (heeded : Bool) (said : Option (Option (List ℕ))) (rows : List Row) (otherwise : ℕ)
-    → first_row (row_of heeded said ∷ rows) otherwise
-    ≡ unwrap_or (option_map nanos (heeded_of heeded said)) (first_row rows otherwise)
-first_row-said false said rows otherwise = refl
-first_row-said true None rows otherwise = refl
-first_row-said true (Some None) rows otherwise = refl
-first_row-said true (Some (Some text)) rows otherwise = by_number (number text) (first_row rows otherwise)
-
-first-or : (a b : Option ℕ) (otherwise : ℕ)
-    → unwrap_or (option_map nanos a) (unwrap_or (option_map nanos b) otherwise)
-    ≡ unwrap_or (option_map nanos (option_or a b)) otherwise
-first-or (Some a) b otherwise = refl
-first-or None b otherwise = refl
+first_said-last : (o : Option Sourced) → option_or o None ≡ o
+first_said-last None = refl
+first_said-last (Some x) = refl
 
 -- of two directives the first that is heeded and has a value decides
-pub first_row-seconds : (heeded : Bool) (said said_then : Option (Option (List ℕ))) (rows : List Row) (otherwise : ℕ)
-    → first_row (row_of heeded said ∷ row_of true said_then ∷ rows) otherwise
-    ≡ unwrap_or (option_map nanos (option_or (heeded_of heeded said) (heeded_of true said_then)))
-    (first_row rows otherwise)
-first_row-seconds heeded said said_then rows otherwise =
-    first_row-said heeded said (row_of true said_then ∷ rows) otherwise
-    ∙ ap (unwrap_or (option_map nanos (heeded_of heeded said))) (first_row-said true said_then rows otherwise)
-    ∙ first-or (heeded_of heeded said) (heeded_of true said_then) (first_row rows otherwise)
+pub first_said-seconds : (shared_source source : LifetimeSource) (shared : Bool)
+    (shared_age age : Option (Option (List ℕ)))
+    → option_or (if shared then given_by shared_source shared_age else None) (given_by source age)
+    ≡ first_said (row_of shared_source shared shared_age ∷ row_of source true age ∷ [])
+first_said-seconds shared_source source shared shared_age age =
+    ap (option_or (if shared then given_by shared_source shared_age else None))
+    (sym (first_said-last (given_by source age)) ∙ first_said-heeded source true age [])
+    ∙ first_said-heeded shared_source shared shared_age (row_of source true age ∷ [])
+
+pub map-or : {A B : Type 0} (f : A → B) (a b : Option A)
+    → option_map f (option_or a b) ≡ option_or (option_map f a) (option_map f b)
+map-or f None b = refl
+map-or f (Some x) b = refl

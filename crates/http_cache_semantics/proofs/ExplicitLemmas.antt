@@ -1,5 +1,6 @@
 -- An explicit lifetime survives a hand-over.
-use Rattle.std.proofs.Common.{◌≡◌, ◌-◌, ℕ, ℤ, Bool, true, false, not, ◌&&◌, ◌||◌, List, [], ◌∷◌, length, drop}
+use Rattle.std.proofs.Common.{◌≡◌, ◌-◌, ℕ, ℤ, Bool, true, false, not, ◌&&◌, ◌||◌, List, [], ◌∷◌, ◌++◌, length}
+use Rattle.std.proofs.Common.{drop}
 use Rattle.std.proofs.Common.{codes, bytes_eq, is_some, slice_get, Option, Some, None, unwrap_or, if◌then◌else◌}
 use Rattle.std.proofs.Common.{refl, sym, ap, ◌∙◌, arith, true≢false}
 use Rattle.std.specs.List.{list_any}
@@ -17,10 +18,9 @@ use Rattle.http_cache_fields.proofs.StarLemmas.{is_star, begins_with_star, star-
 use Rattle.http_cache_rules.specs.Storing.{has_explicit_expiration, is_method_cacheable, is_status_understood}
 use Rattle.http_cache_rules.specs.Storing.{is_withheld_from_shared, is_status_cacheable_by_default, is_storable}
 use Rattle.http_cache_rules.specs.Lifetimes.{Row, applies, first_row, seconds_in, has_own_cookies, varies_always}
-use Rattle.http_cache_rules.specs.Lifetimes.{zero_rows, seconds_rows, date_rows, lifetime}
+use Rattle.http_cache_rules.specs.Lifetimes.{immutable_floor, zero_rows, seconds_rows, date_rows, lifetime}
 use Rattle.http_cache_rules.specs.Filter.{is_hop_by_hop, is_spelled}
 use Rattle.http_cache_rules.proofs.FilterLemmas.{values-filtered_other, filtered_headers-none}
-use Rattle.http_cache_rules.proofs.LifetimeLemmas.{floor, lifetime-behind}
 use Rattle.http_cache_policy.specs.Messages.{RequestSeen}
 use Rattle.http_cache_policy.specs.Exchange.{Exchange, stored_directives, request_directives}
 use Rattle.http_cache_policy.specs.Kept.{kept_exchange}
@@ -41,6 +41,22 @@ or-none false true = refl
 or-none false false = refl
 
 -- ---- the table
+
+-- rows of which none applies don't count
+first_row-behind : (before rows : List Row) (otherwise : ℕ) → list_any applies before ≡ false
+    → first_row (before ++ rows) otherwise ≡ first_row rows otherwise
+first_row-behind [] rows otherwise e = refl
+first_row-behind ((true, lifetime) ∷ before) rows otherwise e = absurd (true≢false e)
+first_row-behind ((false, lifetime) ∷ before) rows otherwise e = first_row-behind before rows otherwise e
+
+-- the lifetime where no row applies
+abbrev floor : Exchange → ℕ
+floor e = immutable_floor (stored_directives e) e.options
+
+lifetime-behind : (e : Exchange) → list_any applies (zero_rows e) ≡ false
+    → lifetime e ≡ first_row (seconds_rows e ++ date_rows e) (floor e)
+unfolding lifetime
+lifetime-behind e = first_row-behind (zero_rows e) (seconds_rows e ++ date_rows e) (floor e)
 
 -- by the first of two rows that applies
 first_row-of_two : (p q : Row) (rows : List Row) (otherwise : ℕ) → list_any applies (p ∷ q ∷ []) ≡ true

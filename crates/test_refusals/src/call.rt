@@ -36,10 +36,12 @@ pub enum Call {
     ChooseValidated,
     /// The headers of the response, as a proxy passes them on.
     Forward,
+    /// `cache_status`, with a name and a detail that are strings.
+    CacheStatus,
 }
 
 /// Each call once.
-pub const CALLS: [Call; 21] = [
+pub const CALLS: [Call; 22] = [
     Call::New,
     Call::NewOptions,
     Call::TryClone,
@@ -61,4 +63,5 @@ pub const CALLS: [Call; 21] = [
     Call::ChooseFresh,
     Call::ChooseValidated,
     Call::Forward,
+    Call::CacheStatus,
 ];

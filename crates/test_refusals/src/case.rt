@@ -281,6 +281,18 @@ impl Case {
             Call::ChooseFresh => Ok(chooses_fresh(&self.choice_at(alloc, 0)?)),
             Call::ChooseValidated => Ok(chooses_validated(&self.choice_at(alloc, 1)?)),
             Call::Forward => self.is_passed_on(alloc),
+            Call::CacheStatus => self.explains(alloc),
+        }
+    }
+
+    fn explains(&self, alloc: Global) -> Result<bool, CacheError> {
+        match self.script.steps.get(6) {
+            Some(Step::Ask { request, moment }) => {
+                let explanation = self.policy.explain(request, *moment);
+                let member = explanation.cache_status(alloc, "example cache")?;
+                Ok(member.as_str() == "\"example cache\"; fwd=vary-miss; detail=\"Accept\"")
+            }
+            _ => Err(CacheError::Malformed),
         }
     }
 

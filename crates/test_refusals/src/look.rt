@@ -4,6 +4,7 @@ use cache_script::{Script, Step};
 use http_cache_semantics::directives::{
     CacheControl, GetHeaderStr, get_all_comma, parse_cache_control,
 };
+use http_cache_semantics::explain::{LifetimeSource, Permission, Storability};
 use http_cache_semantics::forwarding::print_date;
 use http_cache_semantics::policy::Fraction;
 use http_cache_semantics::stored::{moment_from_value, options_from_value};
@@ -23,6 +24,8 @@ pub enum Look {
     Age,
     TimeToLive,
     IsStale,
+    Storability,
+    Freshness,
     StoredTarget,
     StoredMethod,
     StoredStatus,
@@ -31,6 +34,8 @@ pub enum Look {
     MatchesRequest,
     /// The same.
     FreshAt,
+    /// The same.
+    Explain,
     SatisfiesWithoutRevalidation,
     GetStr,
     /// With each step to the end.
@@ -60,17 +65,20 @@ pub enum Look {
 }
 
 /// Each of these calls once.
-pub const LOOKS: [Look; 31] = [
+pub const LOOKS: [Look; 34] = [
     Look::IsStorable,
     Look::Age,
     Look::TimeToLive,
     Look::IsStale,
+    Look::Storability,
+    Look::Freshness,
     Look::StoredTarget,
     Look::StoredMethod,
     Look::StoredStatus,
     Look::StoredResponseTime,
     Look::MatchesRequest,
     Look::FreshAt,
+    Look::Explain,
     Look::SatisfiesWithoutRevalidation,
     Look::GetStr,
     Look::GetAllComma,
@@ -125,6 +133,8 @@ fn is_right_of_policy(policy: &CachePolicy, look: Look) -> Result<bool, CacheErr
         Look::IsStorable => policy.is_storable(),
         Look::Age => policy.age(now) == Duration::from_nanos(5_500_000_000),
         Look::TimeToLive => policy.time_to_live(now) == Duration::from_nanos(4_500_000_000),
+        Look::Storability => policy.storability() == Storability::Allowed(Permission::MaxAge),
+        Look::Freshness => policy.freshness().source == LifetimeSource::MaxAge,
         _ => !policy.is_stale(now),
     })
 }
@@ -145,6 +155,7 @@ fn told_at(case: &Case, place: usize, look: Look) -> Option<bool> {
     match case.script().steps.get(place) {
         Some(Step::Ask { request, moment }) => Some(match look {
             Look::FreshAt => case.policy().fresh_at(request, *moment),
+            Look::Explain => case.policy().explain(request, *moment).reason.is_none(),
             _ => case.policy().matches_request(request),
         }),
         _ => None,
@@ -219,12 +230,15 @@ fn is_right_of_dates() -> Result<bool, CacheError> {
 
 fn is_right_of_exchange(alloc: Global, case: &Case, look: Look) -> bool {
     match look {
-        Look::IsStorable | Look::Age | Look::TimeToLive | Look::IsStale => {
-            is_right_of_policy(case.policy(), look) == Ok(true)
-        }
+        Look::IsStorable
+        | Look::Age
+        | Look::TimeToLive
+        | Look::IsStale
+        | Look::Storability
+        | Look::Freshness => { is_right_of_policy(case.policy(), look) == Ok(true) }
         Look::StoredTarget | Look::StoredMethod | Look::StoredStatus | Look::StoredResponseTime =>
             is_right_of_stored(case, look),
-        Look::MatchesRequest | Look::FreshAt => {
+        Look::MatchesRequest | Look::FreshAt | Look::Explain => {
             told_at(case, 0, look) == Some(true) && told_at(case, 6, look) == Some(false)
         }
         Look::Fraction | Look::DefaultOptions => is_right_of_options(look),

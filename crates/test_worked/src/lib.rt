@@ -6,6 +6,8 @@ mod answers;
 #[cfg(test)]
 mod chains;
 #[cfg(test)]
+mod explanations;
+#[cfg(test)]
 mod lifetimes;
 #[cfg(test)]
 mod own_messages;

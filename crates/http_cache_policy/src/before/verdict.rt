@@ -19,8 +19,8 @@ use http_cache_rules::asks::{Asked, asked_by};
 use jiff::Timestamp;
 use std::time::Duration;
 
-// A number of seconds in nanoseconds.
-fn nanos(seconds: u64) -> u128
+/// A number of seconds in nanoseconds.
+pub(crate) fn nanos(seconds: u64) -> u128
     ensures { result ≡ seconds * 1_000_000_000 }
 {
     u128::from(seconds) * 1_000_000_000

@@ -50,8 +50,8 @@ fn lifetime(alloc: Global, lines: &str, storable: bool) -> Result<u128, Fail> {
         response_time: Timestamp::from_second(1_704_067_200)?,
     };
     let directives = StoredDirectives::of(alloc, &parts.response_headers)?;
-    let lifetime = lifetime_of(alloc, storable, &parts, &directives)?;
-    Ok(lifetime.as_millis())
+    let found = lifetime_of(alloc, storable, &parts, &directives)?;
+    Ok(found.lifetime.as_millis())
 }
 
 #[test]

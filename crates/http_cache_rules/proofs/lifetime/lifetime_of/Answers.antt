@@ -1,33 +1,31 @@
--- The lifetime is that of the first row which applies.
-use Rattle.std.proofs.Common.{ℕ, ◌*◌, Option, option_map, unwrap_or, sym, ap, ◌∙◌}
+-- The lifetime and its source are those of the first row that applies.
+use Rattle.std.proofs.Common.{◌≡◌, Option, None, option_map, sym, ap, ◌∙◌}
 use Rattle.std.proofs.lemmas.Result.{IfOk-weaker}
 use Rattle.http_cache_rules.specs.Exchange.{Exchange, exchange_in}
-use Rattle.http_cache_rules.specs.Lifetimes.{first_row, date_rows}
-use Rattle.http_cache_rules.proofs.LifetimeLemmas.{floor, lifetime-zero, lifetime-behind}
+use Rattle.http_cache_rules.specs.Freshness.{Sourced, freshness_seen}
+use Rattle.http_cache_rules.proofs.LifetimeLemmas.{freshness-zero, freshness-seconds, freshness-dates}
+use Rattle.http_cache_rules.specs.declared.freshness.LifetimeSource.{LifetimeSource}
 use Rattle.http_cache_rules.proofs.lifetime.lifetime_of.Goals as goal
 
--- the lifetime where no row gives zero, by the seconds that a directive counts
-abbrev by_seconds : Exchange → Option ℕ → ℕ
-by_seconds e seconds = unwrap_or (option_map (λ n. n * 1_000_000_000) seconds) (first_row (date_rows e) (floor e))
-
-pub returns-then-is_stale_at_once : goal.returns-then-is_stale_at_once
-returns-then-is_stale_at_once c storable found =
-    sym (lifetime-zero (exchange_in c.args.parts.now)
-    (sym (c.is_stale_at_once.ensures storable found) ∙ c.if-is_stale_at_once.true))
+abbrev at_zero : LifetimeSource → Sourced
+at_zero source = (source, 0)
 
 pub returns-in-Some : goal.returns-in-Some
 returns-in-Some c storable found =
-    let e : Exchange = exchange_in c.args.parts.now in
-    c.from_secs.ensures
-    ∙ sym (ap (by_seconds e) c.in-Some.is)
-    ∙ sym (c.seconds_of_directives.ensures found (date_rows e) (floor e))
-    ∙ sym (lifetime-behind e (sym (c.is_stale_at_once.ensures storable found) ∙ c.if-is_stale_at_once.false))
+    freshness-zero (exchange_in c.args.parts.now) (at_zero c.in-Some.source)
+    (sym (ap (option_map at_zero) c.in-Some.is) ∙ c.source_of_zero.ensures storable found)
+
+pub returns-in-Some-freshness_by_seconds : goal.returns-in-Some-freshness_by_seconds
+returns-in-Some-freshness_by_seconds c storable found =
+    freshness-seconds (exchange_in c.args.parts.now) (freshness_seen c.in-Some-freshness_by_seconds.found)
+    (sym (ap (option_map at_zero) c.in_default.is) ∙ c.source_of_zero.ensures storable found)
+    (sym (ap (option_map freshness_seen) c.in-Some-freshness_by_seconds.is) ∙ c.freshness_by_seconds.ensures found)
 
 pub returns : goal.returns
 returns c storable found =
-    let e : Exchange = exchange_in c.args.parts.now in
-    let behind =
-    sym (ap (by_seconds e) c.in_default.is)
-    ∙ sym (c.seconds_of_directives.ensures found (date_rows e) (floor e))
-    ∙ sym (lifetime-behind e (sym (c.is_stale_at_once.ensures storable found) ∙ c.if-is_stale_at_once.false)) in
-    IfOk-weaker c.lifetime_by_dates.result _ _ (λ duration is. is ∙ behind) (c.lifetime_by_dates.ensures found)
+    IfOk-weaker c.freshness_by_dates.result _ _
+    (λ f is. freshness-dates (exchange_in c.args.parts.now) (freshness_seen f)
+    (sym (ap (option_map at_zero) c.in_default.is) ∙ c.source_of_zero.ensures storable found)
+    (sym (ap (option_map freshness_seen) c.in_default-freshness_by_seconds.is) ∙ c.freshness_by_seconds.ensures found)
+    is)
+    (c.freshness_by_dates.ensures found)

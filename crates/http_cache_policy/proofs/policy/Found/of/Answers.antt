@@ -1,7 +1,9 @@
 -- What is found of the parts is read of their exchange.
-use Rattle.std.proofs.Common.{◌≡◌}
+use Rattle.std.proofs.Common.{◌≡◌, ap, ◌∙◌}
 use Rattle.http_cache_rules.specs.Exchange.{Exchange, exchange_in}
 use Rattle.http_cache_rules.specs.Storing.{is_storable}
+use Rattle.http_cache_rules.specs.Freshness.{Sourced}
+use Rattle.http_cache_rules.proofs.LifetimeLemmas.{freshness-lifetime}
 use Rattle.http_cache_policy.specs.Age.{received_age}
 use Rattle.http_cache_policy.proofs.policy.Found.of.Goals as goal
 
@@ -11,9 +13,11 @@ returns c =
     let e : Exchange = exchange_in c.args.parts.now in
     let directives = c.in_ok-directives.ensures in
     let storable : c.is_storable-storable.result ≡ is_storable e = c.is_storable-storable.ensures directives in
+    let fresh = c.in_ok-freshness.ensures storable directives in
     record {
       directives = directives;
       storable = storable;
       received = c.received_age.ensures;
-      lifetime_is = c.in_ok-lifetime.ensures storable directives;
+      fresh = fresh;
+      lifetime_is = ap (λ (f : Sourced). f.1) fresh ∙ freshness-lifetime e;
     }

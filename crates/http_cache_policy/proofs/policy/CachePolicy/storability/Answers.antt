@@ -1,0 +1,10 @@
+-- The answer lets the response be stored exactly where it may be.
+use Rattle.std.proofs.Common.{◌≡◌, rules, ap, ◌∙◌}
+use Rattle.http_cache_rules.specs.Storability.{storability, is_allowed}
+use Rattle.http_cache_rules.proofs.StorabilityLemmas.{storability-storable}
+use Rattle.http_cache_policy.proofs.policy.CachePolicy.storability.Goals as goal
+
+pub returns-clause-storable : goal.returns-clause-storable
+returns-clause-storable c =
+    let value : c.storability_of.result ≡ storability c.args.self.now = search rules in
+    ap is_allowed value ∙ storability-storable c.args.self.now

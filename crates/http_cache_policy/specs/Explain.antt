@@ -1,0 +1,95 @@
+-- Why a stored response isn't used for a request without validation: one table of reasons, of which
+-- the first that applies is told. It is used where none does.
+use Rattle.std.specs.Prelude.{ℕ, ℤ, ◌-◌, Bool, false, not, ◌&&◌, ◌||◌, nat_le, List, [], ◌∷◌, ◌++◌, map, codes, bytes_eq}
+use Rattle.std.specs.Prelude.{Option, option_map, unwrap_or}
+use Rattle.http_cache_fields.specs.Text.{contains}
+use Rattle.http_cache_fields.specs.Headers.{Headers, first, first_under}
+use Rattle.http_cache_fields.specs.Directives.{Directive, has, same_value}
+use Rattle.http_cache_rules.specs.FirstRow.{first_said}
+use Rattle.http_cache_rules.specs.Storing.{is_storable}
+use Rattle.http_cache_rules.specs.Lifetimes.{lifetime}
+use Rattle.http_cache_rules.specs.Freshness.{freshness}
+use Rattle.http_cache_rules.specs.Asks.{Asks, asks_of, asked_directives, number_under, is_young_enough}
+use Rattle.http_cache_rules.specs.Asks.{lasts_long_enough, takes_stale}
+use Rattle.http_cache_reasons.specs.Reason.{ReasonSeen, other_method, other_target, other_host, varies_by}
+use Rattle.http_cache_reasons.specs.Reason.{asks_no_cache, asks_pragma, asks_max_age, asks_min_fresh, is_stale}
+use Rattle.http_cache_reasons.specs.Reason.{ExplanationSeen}
+use Rattle.http_cache_reasons.specs.declared.reason.StaleReason.TheVariants.{NotAsked, NotStorable, MustRevalidate}
+use Rattle.http_cache_reasons.specs.declared.reason.StaleReason.TheVariants.{NoCache, TooStale}
+use Rattle.http_cache_policy.specs.Messages.{RequestSeen}
+use Rattle.http_cache_policy.specs.Exchange.{Exchange, stored_directives}
+use Rattle.http_cache_policy.specs.Age.{age_at}
+use Rattle.http_cache_policy.specs.Match.{varied_names}
+
+-- a row of the table: where it applies, and the reason that it tells
+abbrev pub Row : Type 0
+Row = Bool × ReasonSeen
+
+-- the name is `*`, or two requests have other first values under it (RFC 7234, section 4.1)
+abbrev pub differs_under : Headers → Headers → List ℕ → Bool
+differs_under stored asked name =
+    bytes_eq (codes "*") name || not (same_value (first_under stored name) (first_under asked name))
+
+-- the row of a name that the stored response varies by
+abbrev pub varied_row : Headers → Headers → List ℕ → Row
+varied_row stored asked name = (differs_under stored asked name, varies_by name)
+
+-- the rows by which the stored response isn't the answer to a request (RFC 7234, section 4)
+abbrev pub mismatch_rows : Exchange → RequestSeen → List Row
+mismatch_rows e request =
+    let host = first e.request_headers (codes "host") in
+    (not (bytes_eq e.method request.method), other_method)
+    ∷ (not (request.is_same_target e.target), other_target)
+    ∷ (not (same_value host (first request.headers (codes "host"))), other_host)
+    ∷ map (varied_row e.request_headers request.headers) (varied_names e)
+
+-- the number of a directive, or 0
+abbrev pub seconds_under : List Directive → List ℕ → ℕ
+seconds_under ds name = unwrap_or (number_under ds name) 0
+
+-- the rows by what a request asks of an age (RFC 7234, sections 5.2.1 and 5.4)
+abbrev pub asked_rows : Exchange → Asks → ℕ → List Row
+asked_rows e asks age =
+    let ds = asked_directives asks in
+    (has ds (codes "no-cache"), asks_no_cache)
+    ∷ (unwrap_or (option_map (contains (codes "no-cache")) asks.pragma) false, asks_pragma)
+    ∷ (not (is_young_enough ds age), asks_max_age (seconds_under ds (codes "max-age")))
+    ∷ (
+      not (lasts_long_enough ds (lifetime e - age)),
+      asks_min_fresh (seconds_under ds (codes "min-fresh")),
+    )
+    ∷ []
+
+-- the rows of a stale response, which max-stale may let out (RFC 7234, sections 4.2.4 and 5.2.1.2)
+abbrev pub stale_rows : Exchange → List Directive → ℕ → List Row
+stale_rows e ds age =
+    let stale = nat_le (lifetime e) age in
+    (stale && not (has ds (codes "max-stale")), is_stale NotAsked)
+    ∷ (stale && not (is_storable e), is_stale NotStorable)
+    ∷ (stale && has (stored_directives e) (codes "must-revalidate"), is_stale MustRevalidate)
+    ∷ (stale && has (stored_directives e) (codes "no-cache"), is_stale NoCache)
+    ∷ (
+      stale && not (takes_stale ds (age - lifetime e)),
+      is_stale (TooStale (seconds_under ds (codes "max-stale"))),
+    )
+    ∷ []
+
+-- the table of reasons
+abbrev pub reason_rows : Exchange → RequestSeen → ℤ → List Row
+reason_rows e request now =
+    let asks = asks_of request.headers in
+    mismatch_rows e request
+    ++ asked_rows e asks (age_at e now)
+    ++ stale_rows e (asked_directives asks) (age_at e now)
+
+-- the reason of the first row that applies
+unfoldable pub reason : Exchange → RequestSeen → ℤ → Option ReasonSeen
+reason e request now = first_said (reason_rows e request now)
+
+-- the explanation for a request at a moment
+abbrev pub explanation : Exchange → RequestSeen → ℤ → ExplanationSeen
+explanation e request now = record {
+  reason = reason e request now;
+  age = age_at e now;
+  freshness = freshness e;
+}

@@ -1,0 +1,4 @@
+pub mod Reason
+pub mod StructuredField
+pub mod CacheStatus
+pub mod Rows

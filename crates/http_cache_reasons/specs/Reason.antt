@@ -1,0 +1,60 @@
+-- Why a stored response isn't used for a request without validation, as it is seen.
+use Rattle.std.specs.Prelude.{ℕ, Bool, true, false, List, Option, option_map}
+use Rattle.std.specs.Duration.{as_nanos}
+use Rattle.http_cache_rules.specs.Freshness.{Sourced, freshness_seen}
+use Rattle.http_cache_reasons.specs.declared.reason.StaleReason.{StaleReason}
+use Rattle.http_cache_reasons.specs.declared.reason.Reason.{Reason}
+use Rattle.http_cache_reasons.specs.declared.reason.Reason.TheVariants.{Method, Target, Host, Vary, NoCache, Pragma}
+use Rattle.http_cache_reasons.specs.declared.reason.Reason.TheVariants.{MaxAge, MinFresh, Stale}
+use Rattle.http_cache_reasons.specs.declared.reason.Explanation.{Explanation}
+
+-- another method, target or Host; another value under a name that the response varies by; what the
+-- request asks, with its seconds; a stale response that isn't let out
+pub data ReasonSeen : Type 0 where
+  other_method : ReasonSeen
+  other_target : ReasonSeen
+  other_host : ReasonSeen
+  varies_by : List ℕ → ReasonSeen
+  asks_no_cache : ReasonSeen
+  asks_pragma : ReasonSeen
+  asks_max_age : ℕ → ReasonSeen
+  asks_min_fresh : ℕ → ReasonSeen
+  is_stale : StaleReason → ReasonSeen
+
+-- what is seen of a reason
+abbrev pub reason_seen : Reason → ReasonSeen
+reason_seen Method = other_method
+reason_seen Target = other_target
+reason_seen Host = other_host
+reason_seen (Vary name) = varies_by name.now
+reason_seen NoCache = asks_no_cache
+reason_seen Pragma = asks_pragma
+reason_seen (MaxAge seconds) = asks_max_age seconds
+reason_seen (MinFresh seconds) = asks_min_fresh seconds
+reason_seen (Stale why) = is_stale why
+
+-- the stored response isn't the answer to the request, fresh or not
+abbrev pub is_mismatch : ReasonSeen → Bool
+is_mismatch other_method = true
+is_mismatch other_target = true
+is_mismatch other_host = true
+is_mismatch (varies_by name) = true
+is_mismatch asks_no_cache = false
+is_mismatch asks_pragma = false
+is_mismatch (asks_max_age seconds) = false
+is_mismatch (asks_min_fresh seconds) = false
+is_mismatch (is_stale why) = false
+
+-- the reason, if there is one, the age in nanoseconds, and the lifetime behind what gives it
+pub record ExplanationSeen : Type 0 where
+  pub reason : Option ReasonSeen
+  pub age : ℕ
+  pub freshness : Sourced
+
+-- what is seen of an explanation
+abbrev pub explanation_seen : Explanation → ExplanationSeen
+explanation_seen x = record {
+  reason = option_map reason_seen x.reason;
+  age = as_nanos x.age;
+  freshness = freshness_seen x.freshness;
+}

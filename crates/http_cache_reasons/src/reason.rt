@@ -1,0 +1,99 @@
+//! Why a stored response isn't used for a request without validation.
+use http_cache_rules::freshness::Freshness;
+use std::fmt;
+use std::time::Duration;
+
+/// Why a stored response isn't used for a request without validation: the first of these that
+/// applies, in this order.
+#[derive(Clone, Copy, Debug, PartialEq, Eq)]
+pub enum Reason<'a> {
+    /// The request has another method.
+    Method,
+    /// It has another target.
+    Target,
+    /// It has another Host, or one of the two requests has none.
+    Host,
+    /// The response varies by this name, under which the request has another first value, or Vary
+    /// says `*` (RFC 7234, section 4.1).
+    Vary(&'a str),
+    /// The request says `no-cache` (RFC 7234, section 5.2.1.4).
+    NoCache,
+    /// Its first Pragma says `no-cache` (RFC 7234, section 5.4).
+    Pragma,
+    /// The age exceeds the seconds of its `max-age` (RFC 7234, section 5.2.1.1).
+    MaxAge(u64),
+    /// Less is left of the lifetime than the seconds of its `min-fresh` (RFC 7234, section
+    /// 5.2.1.3).
+    MinFresh(u64),
+    /// The response is stale, and `max-stale` doesn't let it out (RFC 7234, section 4.2.4).
+    Stale(StaleReason),
+}
+
+/// Why `max-stale` doesn't let a stale response out: the first of these that applies, in this
+/// order.
+#[derive(Clone, Copy, Debug, PartialEq, Eq)]
+pub enum StaleReason {
+    /// The request doesn't say it.
+    NotAsked,
+    /// The response may not be stored.
+    NotStorable,
+    /// The response says `must-revalidate` (RFC 7234, section 5.2.2.1).
+    MustRevalidate,
+    /// The response says `no-cache` (RFC 7234, section 5.2.2.2).
+    NoCache,
+    /// The response is stale for so many seconds, which `max-stale` says, or for more (RFC 7234,
+    /// section 5.2.1.2).
+    TooStale(u64),
+}
+
+/// Whether a stored response is used for a request without validation at a moment, and why not. Its
+/// text has the age in whole seconds and what the lifetime goes by, as
+/// `stale: age 12 s, max-age=10`.
+#[derive(Clone, Copy, Debug)]
+pub struct Explanation<'a> {
+    /// Why it isn't used, or `None` for a hit.
+    pub reason: Option<Reason<'a>>,
+    /// The age of the response at the moment.
+    pub age: Duration,
+    /// How long it stays fresh, and what decides that.
+    pub freshness: Freshness,
+}
+
+impl fmt::Display for StaleReason {
+    fn fmt<W: fmt::Write>(&self, f: &mut fmt::Formatter<W>) -> fmt::Result {
+        match self {
+            StaleReason::NotAsked => write!(f, "stale"),
+            StaleReason::NotStorable => write!(f, "stale, max-stale but not storable"),
+            StaleReason::MustRevalidate => write!(f, "stale, max-stale but must-revalidate"),
+            StaleReason::NoCache => write!(f, "stale, max-stale but no-cache"),
+            StaleReason::TooStale(seconds) => write!(f, "stale past max-stale={seconds}"),
+        }
+    }
+}
+
+impl fmt::Display for Reason<'_> {
+    fn fmt<W: fmt::Write>(&self, f: &mut fmt::Formatter<W>) -> fmt::Result {
+        match self {
+            Reason::Method => write!(f, "other method"),
+            Reason::Target => write!(f, "other target"),
+            Reason::Host => write!(f, "other Host"),
+            Reason::Vary(name) => write!(f, "Vary {name}"),
+            Reason::NoCache => write!(f, "request no-cache"),
+            Reason::Pragma => write!(f, "request Pragma no-cache"),
+            Reason::MaxAge(seconds) => write!(f, "request max-age={seconds}"),
+            Reason::MinFresh(seconds) => write!(f, "request min-fresh={seconds}"),
+            Reason::Stale(why) => write!(f, "{why}"),
+        }
+    }
+}
+
+impl fmt::Display for Explanation<'_> {
+    fn fmt<W: fmt::Write>(&self, f: &mut fmt::Formatter<W>) -> fmt::Result {
+        let age = self.age.as_secs();
+        let freshness = self.freshness;
+        match self.reason {
+            None => write!(f, "hit: age {age} s, {freshness}"),
+            Some(reason) => write!(f, "{reason}: age {age} s, {freshness}"),
+        }
+    }
+}

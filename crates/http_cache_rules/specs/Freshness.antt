@@ -1,0 +1,87 @@
+-- How long a response stays fresh, and what decides that (RFC 7234, section 4.2.1).
+use Rattle.std.specs.Prelude.{ℕ, ℤ, max, int_le, Bool, not, ◌&&◌, List, [], ◌∷◌, ◌++◌, codes, is_some, Option, Some, None}
+use Rattle.std.specs.Prelude.{unwrap_or, if◌then◌else◌}
+use Rattle.std.specs.Duration.{as_nanos}
+use Rattle.http_cache_fields.specs.Headers.{first_text}
+use Rattle.http_cache_fields.specs.Directives.{Directive, has, text_under}
+use Rattle.http_cache_rules.specs.Ratio.{Ratio}
+use Rattle.http_cache_rules.specs.Options.{Options}
+use Rattle.http_cache_rules.specs.Exchange.{Exchange, stored_directives}
+use Rattle.http_cache_rules.specs.Dates.{first_date, from_1970}
+use Rattle.http_cache_rules.specs.Storing.{is_storable}
+use Rattle.http_cache_rules.specs.Lifetimes.{seconds_in, has_own_cookies, varies_always, immutable_floor, server_date}
+use Rattle.http_cache_rules.specs.Lifetimes.{time_until, is_by, seconds_since, fraction_of}
+use Rattle.http_cache_rules.specs.FirstRow.{first_said}
+use Rattle.http_cache_rules.specs.declared.freshness.Freshness.{Freshness}
+use Rattle.http_cache_rules.specs.declared.freshness.LifetimeSource.{LifetimeSource}
+use Rattle.http_cache_rules.specs.declared.freshness.LifetimeSource.TheVariants.{NotStorable, NoCache, OwnCookies}
+use Rattle.http_cache_rules.specs.declared.freshness.LifetimeSource.TheVariants.{VaryAny, ProxyRevalidate, SMaxage}
+use Rattle.http_cache_rules.specs.declared.freshness.LifetimeSource.TheVariants.{MaxAge, UnreadableExpires}
+use Rattle.http_cache_rules.specs.declared.freshness.LifetimeSource.TheVariants.{PastExpires, Expires, LastModified}
+use Rattle.http_cache_rules.specs.declared.freshness.LifetimeSource.TheVariants.{Immutable, Nothing}
+
+-- a lifetime in nanoseconds, behind what gives it
+abbrev pub Sourced : Type 0
+Sourced = LifetimeSource × ℕ
+
+-- what is seen of a lifetime and its source
+abbrev pub freshness_seen : Freshness → Sourced
+freshness_seen f = (f.source, as_nanos f.lifetime)
+
+-- the rows that give zero, whatever else the response says: those of `zero_rows`, the first by its
+-- two parts
+abbrev pub zero_sources : Exchange → List (Bool × Sourced)
+zero_sources e =
+    let ds = stored_directives e in
+    (not (is_storable e), (NotStorable, 0))
+    ∷ (has ds (codes "no-cache"), (NoCache, 0))
+    ∷ (e.options.shared && has_own_cookies e.response_headers ds, (OwnCookies, 0))
+    ∷ (varies_always e.response_headers, (VaryAny, 0))
+    ∷ (e.options.shared && has ds (codes "proxy-revalidate"), (ProxyRevalidate, 0))
+    ∷ []
+
+-- the rows of directives that count seconds
+abbrev pub seconds_sources : Exchange → List (Bool × Sourced)
+seconds_sources e =
+    let shared_age = text_under (stored_directives e) (codes "s-maxage") in
+    let age = text_under (stored_directives e) (codes "max-age") in
+    (e.options.shared && is_some shared_age, (SMaxage, seconds_in shared_age))
+    ∷ (is_some age, (MaxAge, seconds_in age))
+    ∷ []
+
+-- Expires, by whether it is a date, and one that isn't past at a moment
+abbrev pub expires_source : Option ℤ → ℤ → LifetimeSource
+expires_source None from = UnreadableExpires
+expires_source (Some date) from = if int_le (from_1970 date) from then PastExpires else Expires
+
+-- the row by Last-Modified, seen from a moment
+abbrev pub modified_sources : Option ℤ → ℤ → ℕ → Ratio → List (Bool × Sourced)
+modified_sources modified from floor part =
+    (is_by modified from, (LastModified, max floor (fraction_of part (seconds_since modified from))))
+    ∷ []
+
+-- the rows by Expires and by Last-Modified, seen from the server's date
+abbrev pub date_sources : Exchange → List (Bool × Sourced)
+date_sources e =
+    let from = server_date e.response_headers e.response_time in
+    let floor = immutable_floor (stored_directives e) e.options in
+    let expires = first_date e.response_headers (codes "expires") in
+    let modified = first_date e.response_headers (codes "last-modified") in (
+      is_some (first_text e.response_headers (codes "expires")),
+      (expires_source expires from, time_until expires from floor),
+    )
+    ∷ modified_sources modified from floor e.options.heuristic
+
+-- where no row applies: the least lifetime of an immutable response, or none
+abbrev pub floor_source : List Directive → Options → Sourced
+floor_source ds options =
+    (if has ds (codes "immutable") then Immutable else Nothing, immutable_floor ds options)
+
+-- the table of lifetimes with what each row goes by
+abbrev pub freshness_rows : Exchange → List (Bool × Sourced)
+freshness_rows e = zero_sources e ++ seconds_sources e ++ date_sources e
+
+-- the lifetime of the first row that applies, and what that row goes by
+unfoldable pub freshness : Exchange → Sourced
+freshness e =
+    unwrap_or (first_said (freshness_rows e)) (floor_source (stored_directives e) e.options)

@@ -1,0 +1,186 @@
+//! Why a response may be stored, or may not (RFC 7234, section 3).
+ghost use Rattle.std.specs.Prelude.{◌≡◌, is_none};
+ghost use Rattle.http_cache_rules.specs.Exchange.{exchange_in, stored_directives};
+ghost use Rattle.http_cache_rules.specs.StoredDirectives.{stored_directives_of};
+ghost use Rattle.http_cache_rules.specs.Storability.{permission, obstacles, storability};
+
+use crate::asks::forbids_storing;
+use crate::parts::StoredParts;
+use crate::storable::{
+    allows_authorized, has_explicit_expiration, is_method_cacheable,
+    is_status_cacheable_by_default, is_status_understood,
+};
+use crate::stored_directives::StoredDirectives;
+use http::header::{AUTHORIZATION, EXPIRES};
+use http_cache_fields::headers::contains_key;
+use std::fmt;
+
+/// What lets a response be stored: the first of these that does (RFC 7234, section 3).
+#[derive(Clone, Copy, Debug, PartialEq, Eq)]
+pub enum Permission {
+    /// It has Expires.
+    Expires,
+    /// It says `max-age`.
+    MaxAge,
+    /// It says `s-maxage`, and the cache is shared.
+    SMaxage,
+    /// It says `public`.
+    Public,
+    /// Its status is cacheable by default (RFC 7231, section 6.1).
+    Status,
+}
+
+impl fmt::Display for Permission {
+    fn fmt<W: fmt::Write>(&self, f: &mut fmt::Formatter<W>) -> fmt::Result {
+        let words = match self {
+            Permission::Expires => "Expires",
+            Permission::MaxAge => "max-age",
+            Permission::SMaxage => "s-maxage",
+            Permission::Public => "public",
+            Permission::Status => "status",
+        };
+        write!(f, "{words}")
+    }
+}
+
+/// Of each condition that forbids to store a response, whether it holds (RFC 7234, section 3).
+#[derive(Clone, Copy, Debug, PartialEq, Eq)]
+pub struct Obstacles {
+    /// The request says `no-store` (RFC 7234, section 5.2.1.5).
+    pub request_no_store: bool,
+    /// The method isn't cacheable: GET and HEAD are, and POST where the response says when it
+    /// expires (RFC 7231, section 4.2.3).
+    pub method: bool,
+    /// The status isn't understood.
+    pub status: bool,
+    /// The response says `no-store` (RFC 7234, section 5.2.2.3).
+    pub response_no_store: bool,
+    /// The response says `private`, and the cache is shared (RFC 7234, section 5.2.2.6).
+    pub private: bool,
+    /// The request has Authorization, nothing lets the response out all the same, and the cache is
+    /// shared (RFC 7234, section 3.2).
+    pub authorization: bool,
+    /// Nothing lets it be stored: there is no `Permission`.
+    pub no_permission: bool,
+}
+
+impl Obstacles {
+    ghost use Rattle.http_cache_rules.specs.Storability.{is_any};
+
+    /// Whether one of them holds.
+    pub fn is_any(&self) -> bool
+        ensures { result ≡ is_any self.now }
+    {
+        self.request_no_store
+            || self.method
+            || self.status
+            || self.response_no_store
+            || self.private
+            || self.authorization
+            || self.no_permission
+    }
+
+    // Each with the words for it.
+    fn with_words(&self) -> [(bool, &'static str); 7] {
+        [
+            (self.request_no_store, "no-store of the request"),
+            (self.method, "method"),
+            (self.status, "status"),
+            (self.response_no_store, "no-store"),
+            (self.private, "private"),
+            (self.authorization, "Authorization"),
+            (self.no_permission, "nothing allows it"),
+        ]
+    }
+}
+
+impl fmt::Display for Obstacles {
+    fn fmt<W: fmt::Write>(&self, f: &mut fmt::Formatter<W>) -> fmt::Result {
+        let mut separator = "";
+        for (holds, words) in self.with_words() {
+            if holds {
+                write!(f, "{separator}{words}")?;
+                separator = ", ";
+            }
+        }
+        Ok(())
+    }
+}
+
+/// Why a response may be stored, or may not.
+#[derive(Clone, Copy, Debug, PartialEq, Eq)]
+pub enum Storability {
+    /// It may be stored, for what lets it.
+    Allowed(Permission),
+    /// It may not be stored: one of the conditions holds at least.
+    Forbidden(Obstacles),
+}
+
+impl fmt::Display for Storability {
+    fn fmt<W: fmt::Write>(&self, f: &mut fmt::Formatter<W>) -> fmt::Result {
+        match self {
+            Storability::Allowed(permission) => write!(f, "storable: {permission}"),
+            Storability::Forbidden(obstacles) => write!(f, "not storable: {obstacles}"),
+        }
+    }
+}
+
+// What lets the response be stored, the first of all that does.
+fn permission_of(parts: &StoredParts, directives: &StoredDirectives) -> Option<Permission>
+    ensures { directives.now ≡ stored_directives_of (stored_directives (exchange_in parts.now))
+        → result ≡ permission (exchange_in parts.now) }
+{
+    if contains_key(&parts.response_headers, EXPIRES) {
+        return Some(Permission::Expires);
+    }
+    if directives.max_age.is_said() {
+        return Some(Permission::MaxAge);
+    }
+    if parts.options.shared && directives.s_maxage.is_said() {
+        return Some(Permission::SMaxage);
+    }
+    if directives.public {
+        return Some(Permission::Public);
+    }
+    if is_status_cacheable_by_default(parts.status) {
+        return Some(Permission::Status);
+    }
+    None
+}
+
+// Which conditions forbid to store the response, by whether nothing lets it be stored too.
+fn obstacles_of(
+    parts: &StoredParts,
+    directives: &StoredDirectives,
+    no_permission: bool,
+) -> Obstacles
+    ensures { no_permission ≡ is_none (permission (exchange_in parts.now))
+        → directives.now ≡ stored_directives_of (stored_directives (exchange_in parts.now))
+        → result ≡ obstacles (exchange_in parts.now) }
+{
+    let shared = parts.options.shared;
+    let authorized = contains_key(&parts.request_headers, AUTHORIZATION);
+    Obstacles {
+        request_no_store: forbids_storing(&parts.request_headers),
+        method: !is_method_cacheable(&parts.method, has_explicit_expiration(parts, directives)),
+        status: !is_status_understood(parts.status),
+        response_no_store: directives.no_store,
+        private: shared && directives.private,
+        authorization: shared && authorized && !allows_authorized(directives),
+        no_permission,
+    }
+}
+
+/// Why the response may be stored, or may not, by its directives too.
+#[tactic(auto, unfolding(crate::specs::Storability::storability))]
+pub fn storability_of(parts: &StoredParts, directives: &StoredDirectives) -> Storability
+    ensures { directives.now ≡ stored_directives_of (stored_directives (exchange_in parts.now))
+        → result ≡ storability (exchange_in parts.now) }
+{
+    let permission = permission_of(parts, directives);
+    let obstacles = obstacles_of(parts, directives, permission.is_none());
+    match permission {
+        Some(permission) if !obstacles.is_any() => Storability::Allowed(permission),
+        _ => Storability::Forbidden(obstacles),
+    }
+}
