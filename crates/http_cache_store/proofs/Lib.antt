@@ -1,0 +1,2 @@
+-- The lemmas about a store.
+pub mod StoreLemmas

@@ -1,0 +1,78 @@
+//! What is read of a row.
+ghost use Rattle.std.specs.Prelude.{◌≡◌, ℤ, IfOk, IfSome, IfNone, IsOkUnless};
+ghost use Rattle.sqlite.specs.Order.{column};
+ghost use Rattle.http_cache_semantics.specs.Exchange.{Exchange};
+ghost use Rattle.http_cache_store.specs.Row.{IsPolicyOf, IsReadFrom};
+ghost use Rattle.http_cache_store.specs.Text.{IsReadAs};
+
+use crate::error::StoreError;
+use crate::text::policy_of;
+use http_cache_semantics::{CacheError, CachePolicy};
+use sqlite::types::FromSql;
+use sqlite::{Error, ErrorCode, Row};
+use std::alloc::Global;
+
+/// What stands under an id.
+#[derive(Drop)]
+pub enum Found {
+    /// A response.
+    Response {
+        /// Its id, which no other response gets.
+        id: i64,
+        /// Its policy.
+        policy: CachePolicy,
+        /// Its body.
+        body: Vec<u8>,
+    },
+    /// Something that was damaged, of which no policy or no body can be read.
+    Malformed {
+        /// Its id.
+        id: i64,
+    },
+}
+
+// None where the column has a value of another kind, or a text that isn't UTF-8.
+fn readable<T: FromSql>(row: &Row, at: usize) -> Result<Option<T>, Error>
+    ensures some { IfOk result (λ value. IfSome value (T.FromSql.reads_as (column row.now at))) }
+    ensures none { IfOk result (λ value. IfNone value
+        (¬ T.FromSql.is_readable (column row.now at))) }
+{
+    match row.get(at) {
+        Ok(value) => Ok(Some(value)),
+        Err(e @ (Error::SqliteFailure(ErrorCode::OutOfMemory) | Error::InvalidColumnIndex(_))) => {
+            Err(e)
+        }
+        Err(_) => Ok(None),
+    }
+}
+
+// None where the text is of no policy.
+fn readable_policy(alloc: Global, text: &str) -> Result<Option<CachePolicy>, CacheError>
+    ensures some { IfOk result (λ policy. IfSome policy (IsPolicyOf text.now)) }
+    ensures none { IfOk result (λ policy. IfNone policy
+        ((e : Exchange) → IsReadAs text.now e → ⊥)) }
+    ensures only_memory { IsOkUnless result CacheError.Memory }
+{
+    match policy_of(alloc, text) {
+        Ok(policy) => Ok(Some(policy)),
+        Err(CacheError::Malformed) => Ok(None),
+        Err(e) => Err(e),
+    }
+}
+
+/// What a row of an id, a policy's text and a body holds.
+pub(crate) fn found_in(alloc: Global, row: &Row) -> Result<Found, StoreError>
+    ensures { IfOk result (IsReadFrom row.now) }
+{
+    let id = row.get(0)?;
+    let Some(text) = readable::<String>(row, 1)? else {
+        return Ok(Found::Malformed { id });
+    };
+    let Some(body) = readable::<Vec<u8>>(row, 2)? else {
+        return Ok(Found::Malformed { id });
+    };
+    let Some(policy) = readable_policy(alloc, text.as_str())? else {
+        return Ok(Found::Malformed { id });
+    };
+    Ok(Found::Response { id, policy, body })
+}

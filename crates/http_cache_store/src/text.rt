@@ -1,0 +1,41 @@
+//! A policy as JSON text.
+ghost use Rattle.std.specs.Prelude.{◌≡◌, ◌⊎◌, IfOk, IfErr, IsErrOf, IsOkUnless, string_bytes};
+ghost use Rattle.http_cache_semantics.specs.Exchange.{Exchange};
+ghost use Rattle.http_cache_semantics.specs.Kept.{kept_exchange};
+ghost use Rattle.http_cache_semantics.specs.Stored.{ReadsBack, with_target};
+ghost use Rattle.http_cache_store.specs.Text.{IsTextOf, IsReadAs};
+
+use http_cache_semantics::{CacheError, CachePolicy};
+use serde_json::Value;
+use std::alloc::Global;
+
+/// The text that a policy is stored as. It is refused for want of memory alone.
+pub fn text_of(alloc: Global, policy: &CachePolicy) -> Result<String, CacheError>
+    ensures text { IfOk result (λ text. IsTextOf policy.now (string_bytes text)) }
+    ensures only_memory { IsOkUnless result CacheError.Memory }
+{
+    let value = policy.to_value(alloc)?;
+    Ok(value.to_string(alloc)?)
+}
+
+/// The policy of a text. `Malformed` comes only where the text isn't JSON of the stored form, and
+/// `Memory` may come in its place.
+pub fn policy_of(alloc: Global, text: &str) -> Result<CachePolicy, CacheError>
+    ensures reads { IfOk result (λ _. (e : Exchange) × IsReadAs text.now e) }
+    ensures value { IfOk result (λ policy. (e : Exchange) → IsReadAs text.now e
+        → policy ≡ kept_exchange e) }
+    ensures restored { IfOk result (λ policy. (e : Exchange) → IsTextOf e text.now
+        → policy ≡ with_target e policy.target) }
+    ensures same { IfOk result (λ policy. (e : Exchange) → IsTextOf e text.now
+        → ReadsBack e e → policy ≡ e) }
+    ensures malformed { IsErrOf result CacheError.Malformed
+        → (e : Exchange) → IsReadAs text.now e → ⊥ }
+    ensures causes { IfErr result (λ e.
+        (e ≡ CacheError.Memory) ⊎ (e ≡ CacheError.Malformed)) }
+{
+    match Value::from_str(alloc, text) {
+        Ok(value) => CachePolicy::from_value(alloc, &value),
+        Err(e) if e.is_memory() => Err(CacheError::Memory),
+        Err(_) => Err(CacheError::Malformed),
+    }
+}
