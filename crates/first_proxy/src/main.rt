@@ -23,5 +23,10 @@ fn main(rt: HostRuntime) -> io::Result<()> {
         clock: &clock,
     };
     let mut connection = Connection::new(alloc, RandomState::new(&rt)?, Config::default());
-    serve(&mut connection, &mut proxy, &mut rt.stdin(), &mut rt.stdout())
+    serve(
+        &mut connection,
+        &mut proxy,
+        &mut rt.stdin(),
+        &mut rt.stdout(),
+    )
 }
