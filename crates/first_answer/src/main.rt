@@ -33,7 +33,8 @@ impl Origin for Site {
 
 fn main(rt: HostRuntime) -> anyhow::Result<()> {
     let alloc = rt.alloc();
-    let mut client = Client::new(alloc, CacheOptions::default());
+    let name = String::from_str(alloc, "first_answer")?;
+    let mut client = Client::new(alloc, CacheOptions::default(), name);
     let mut site = Site {
         alloc,
         now: Timestamp::UNIX_EPOCH,

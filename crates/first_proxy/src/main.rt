@@ -16,9 +16,10 @@ use std::io;
 fn main(rt: HostRuntime) -> io::Result<()> {
     let alloc = rt.alloc();
     let clock = StepClock::new();
+    let name = String::from_str(alloc, "first_proxy")?;
     let mut proxy = Proxy {
         alloc,
-        client: Client::new(alloc, CacheOptions::default()),
+        client: Client::new(alloc, CacheOptions::default(), name),
         origin: Site::new(alloc, &clock),
         clock: &clock,
     };

@@ -1,13 +1,12 @@
 -- Headers without the names that texts spell, text by text.
 use Rattle.std.proofs.Common.{◌≡◌, ℕ, Bool, true, false, not, ◌||◌, List, [], ◌∷◌, ◌++◌, cond, bytes_eq}
 use Rattle.std.proofs.Common.{None, refl, sym, ap, ◌∙◌}
-use Rattle.std.specs.List.{list_any}
 use Rattle.std.specs.Cmp.Lexicographic.{nat_list_cmp_total}
 use Rattle.std.specs.FinMap as fin
 use Rattle.std.proofs.lemmas.List.Folds.{list_any-append}
 use Rattle.http_header.specs.Token.{lowercase}
 use Rattle.http_cache_fields.specs.Headers.{Headers}
-use Rattle.http_cache_fields.proofs.HeadersLemmas.{by_name, ties, same_headers}
+use Rattle.http_cache_fields.proofs.HeadersLemmas.{ties, same_headers}
 use Rattle.http_cache_rules.specs.Filter.{is_spelled}
 use Rattle.http_cache_semantics.specs.Forwarding.{without_named}
 

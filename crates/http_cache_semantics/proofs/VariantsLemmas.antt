@@ -2,6 +2,7 @@
 use Rattle.std.proofs.Common.{◌≡◌, ◌⊎◌, inl, inr, ℕ, ℤ, ◌+◌, ◌&&◌, List, []}
 use Rattle.std.proofs.Common.{◌∷◌, Bool, true, false, true≢false, Option, Some, None}
 use Rattle.std.proofs.Common.{option_map, find, refl, sym, ap, subst, ◌∙◌, slice_get}
+use Rattle.std.proofs.Common.{not, is_some, is_none, position}
 use Rattle.std.specs.Prelude.{IsSomeAnd}
 use Rattle.std.specs.Option.{option_or}
 use Rattle.std.proofs.lemmas.Bool.{and_parts}
@@ -12,6 +13,7 @@ use Rattle.http_cache_policy.specs.Messages.{RequestSeen}
 use Rattle.http_cache_policy.specs.Exchange.{Exchange}
 use Rattle.http_cache_policy.specs.Match.{request_matches}
 use Rattle.http_cache_policy.specs.Verdict.{satisfies, is_fresh_for}
+use Rattle.http_cache_policy.specs.Explain.{explanation}
 use Rattle.http_cache_policy.specs.Fresh.{IsFreshParts}
 use Rattle.http_cache_policy.specs.Stale.{IsStaleRequest}
 use Rattle.http_cache_policy.specs.declared.before.BeforeRequest.{BeforeRequest}
@@ -21,6 +23,7 @@ use Rattle.http_cache_semantics.specs.Variants.{fresh_place, matching_place, cho
 use Rattle.http_cache_semantics.specs.Variants.{IsAtPlace, IsChoice, IsPassedOver, one_further}
 use Rattle.http_cache_semantics.specs.Variants.{choice_of, matching, Kind, used, validated}
 use Rattle.http_cache_semantics.specs.Variants.{nothing, kind_of, exchange_chosen, IsSameChoice}
+use Rattle.http_cache_semantics.specs.Variants.{is_for_stored, told_place, target_missed, explanation_among}
 use Rattle.http_cache_semantics.specs.declared.variants.Choice.{Choice}
 use Rattle.http_cache_semantics.specs.declared.variants.Choice.TheVariants.{Fresh, Validate, Nothing}
 use Rattle.http_cache_semantics.proofs.PlaceLemmas.{at_place, position-passes}
@@ -277,3 +280,56 @@ same_choice es request now choice is fs same other other_is =
       exchange = two.chosen_is ∙ ap (λ (o : Option Exchange). option_or o (matching_one request fs)) fresh
           ∙ ap (option_or (fresh_one request now es)) matched ∙ sym one.chosen_is;
     }
+
+-- ---- what is told
+
+chosen-matches : (request : RequestSeen) (now : ℤ) (es : List Exchange) (place : ℕ) (e : Exchange)
+    → chosen_place request now es ≡ Some place → slice_get es place ≡ Some e → request_matches e request ≡ true
+chosen-matches request now es place e chosen at =
+    elim (first_or_second (fresh_place request now es) (matching_place request es) place chosen) [
+      | inl is ↦ fresh-matches e request now (position-passes (λ e. is_fresh_for e request now) es place e is at)
+      | inr is ↦ position-passes (λ e. request_matches e request) es place e is.1 at
+    ]
+
+-- the explanation of the exchange that is told of
+pub told-is : (request : RequestSeen) (now : ℤ) (es : List Exchange) (place : ℕ) (e : Exchange)
+    → told_place request now es ≡ Some place → slice_get es place ≡ Some e
+    → explanation e request now ≡ explanation_among es request now
+unfolding explanation_among
+told-is request now es place e told at = rw (told, at) refl
+
+-- it is used exactly where one is fresh
+pub told-hit : (request : RequestSeen) (now : ℤ) (es : List Exchange) (place : ℕ) (e : Exchange)
+    → told_place request now es ≡ Some place → slice_get es place ≡ Some e
+    → is_fresh_for e request now ≡ is_some (fresh_place request now es)
+told-hit request now es place e told at = by (fresh_place request now es) refl
+  where
+    by : (o : Option ℕ) → fresh_place request now es ≡ o → is_fresh_for e request now ≡ is_some o
+    by (Some i) is =
+        let named = position (is_for_stored request) es in
+        let same : Some i ≡ Some place =
+        subst (λ (o : Option ℕ). option_or (option_or o (matching_place request es)) named ≡ Some place) is told in
+        position-passes (λ e. is_fresh_for e request now) es place e (is ∙ same) at
+    by None is = position-fails (λ e. is_fresh_for e request now) es place e is at
+
+-- it is the answer to the request exactly where one is chosen
+pub told-mismatch : (request : RequestSeen) (now : ℤ) (es : List Exchange) (place : ℕ) (e : Exchange)
+    → told_place request now es ≡ Some place → slice_get es place ≡ Some e
+    → not (request_matches e request) ≡ is_none (chosen_place request now es)
+told-mismatch request now es place e told at = by (chosen_place request now es) refl
+  where
+    by : (o : Option ℕ) → chosen_place request now es ≡ o → not (request_matches e request) ≡ is_none o
+    by (Some i) is =
+        let same : Some i ≡ Some place =
+        subst (λ (o : Option ℕ). option_or o (position (is_for_stored request) es) ≡ Some place) is told in
+        ap not (chosen-matches request now es place e (is ∙ same) at)
+    by None is = ap not (position-fails (λ e. request_matches e request) es place e (unchosen request now es is).1 at)
+
+-- none is told of: none is chosen, and the target is missed
+pub untold : (request : RequestSeen) (now : ℤ) (es : List Exchange) → told_place request now es ≡ None
+    → (fresh_place request now es ≡ None) × (chosen_place request now es ≡ None)
+    × (target_missed ≡ explanation_among es request now)
+unfolding explanation_among
+untold request now es none =
+    let chosen = (both_none (chosen_place request now es) (position (is_for_stored request) es) none).0 in
+    ((unchosen request now es chosen).0, chosen, rw none refl)

@@ -1,11 +1,14 @@
 -- Which of several stored responses answers a request (RFC 7234, sections 4 and 4.1).
-use Rattle.std.specs.Prelude.{◌≡◌, ◌+◌, ℕ, ℤ, true, false, List, Option, Some, None, filter, position, slice_get}
-use Rattle.std.specs.Prelude.{IsSomeAnd}
+use Rattle.std.specs.Prelude.{◌≡◌, ◌+◌, ℕ, ℤ, Bool, true, false, ◌&&◌, List, Option, Some, None, filter, position}
+use Rattle.std.specs.Prelude.{IsSomeAnd, slice_get, bytes_eq, option_map, option_and_then, unwrap_or}
 use Rattle.std.specs.Option.{option_or}
+use Rattle.http_cache_rules.specs.declared.freshness.LifetimeSource.TheVariants.{Nothing as NoLifetime}
+use Rattle.http_cache_reasons.specs.Reason.{other_target, ExplanationSeen}
 use Rattle.http_cache_policy.specs.Messages.{RequestSeen}
 use Rattle.http_cache_policy.specs.Exchange.{Exchange}
 use Rattle.http_cache_policy.specs.Match.{request_matches}
 use Rattle.http_cache_policy.specs.Verdict.{is_fresh_for}
+use Rattle.http_cache_policy.specs.Explain.{explanation}
 use Rattle.http_cache_policy.specs.Fresh.{IsFreshParts}
 use Rattle.http_cache_policy.specs.Stale.{IsStaleRequest}
 use Rattle.http_cache_policy.specs.declared.before.BeforeRequest.{BeforeRequest}
@@ -115,3 +118,25 @@ pub record IsSameChoice
     (es : List Exchange) (choice : Choice) (fs : List Exchange) (other : Choice) : Type 0 where
   pub kind : kind_of other ≡ kind_of choice
   pub exchange : exchange_chosen fs other ≡ exchange_chosen es choice
+
+-- ---- what is told of several policies
+
+-- the request is for the stored target, by the stored method
+abbrev pub is_for_stored : RequestSeen → Exchange → Bool
+is_for_stored request e = bytes_eq e.method request.method && request.is_same_target e.target
+
+-- the place of the exchange that is told of: the chosen one, or else the first that is for the
+-- request's method and target
+abbrev pub told_place : RequestSeen → ℤ → List Exchange → Option ℕ
+told_place request now es =
+    option_or (chosen_place request now es) (position (is_for_stored request) es)
+
+-- that nothing is stored for the target: no age, and nothing that gives a lifetime
+abbrev pub target_missed : ExplanationSeen
+target_missed = record { reason = Some other_target; age = 0; freshness = (NoLifetime, 0) }
+
+-- the explanation of the exchange that is told of, or that the target is missed
+unfoldable pub explanation_among : List Exchange → RequestSeen → ℤ → ExplanationSeen
+explanation_among es request now =
+    let told = option_and_then (slice_get es) (told_place request now es) in
+    unwrap_or (option_map (λ e. explanation e request now) told) target_missed

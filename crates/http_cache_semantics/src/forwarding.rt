@@ -6,6 +6,7 @@ ghost use Rattle.http_cache_semantics.specs.Forwarding.{without_named, forwarded
 use http::HeaderMap;
 use http::header::CONNECTION;
 use http_cache_fields::CacheError;
+pub use http_cache_fields::headers::append;
 use http_cache_fields::headers::{copy_of_map, remove};
 use http_cache_fields::pieces::{Commas, pieces_under};
 pub use http_cache_rules::dates::print_date;

@@ -1,22 +1,27 @@
 //! Several stored responses under one key, of which one answers a request (RFC 7234, section 4.1).
 ghost use Rattle.std.specs.Prelude.{◌≡◌, ◌≢◌, ◌∷◌, ◌≤◌, ◌<◌, ◌↔◌, List, [], Ok, Err, Some, None, true, length, remove};
 ghost use Rattle.std.specs.Prelude.{slice_get, slice_set, option_copied, IsTrue, IsErr, IfOk, IfErr, IfSome, OnOk, OnErr, OnSome, IfNone};
-ghost use Rattle.std.specs.Prelude.{IsErrOf, IsNone};
+ghost use Rattle.std.specs.Prelude.{IsErrOf, IsNone, false, is_some, is_none, option_map, position};
+ghost use Rattle.std.specs.Option.{option_map_or};
+ghost use Rattle.http_cache_reasons.specs.Reason.{reason_seen, is_mismatch, explanation_seen};
 ghost use Rattle.http_cache_policy.specs.Exchange.{Exchange};
 ghost use Rattle.http_cache_policy.specs.Match.{request_matches};
 ghost use Rattle.http_cache_policy.specs.Bound.{is_fresh_by_bound};
 ghost use Rattle.http_cache_policy.specs.Refused.{RefusesAnswer, HasUndatedAnswer};
 ghost use Rattle.http_cache_policy.specs.declared.before.BeforeRequest.{BeforeRequest};
 ghost use Rattle.http_cache_policy.specs.Run.{IsAnswer};
+ghost use Rattle.http_cache_semantics.specs.Variants.{is_for_stored};
 
 use http::{request, response};
 use http_cache_fields::CacheError;
 use http_cache_policy::before::BeforeRequest;
+use http_cache_policy::explain::{Explanation, Freshness, LifetimeSource, Reason};
 use http_cache_policy::policy::{CachePolicy, RequestLike};
 use jiff::Timestamp;
 use std::alloc::Global;
 use std::marker::Model;
 use std::mem;
+use std::time::Duration;
 
 /// The policies of several responses that are stored under one key, the newest first. A place is
 /// counted from 0.
@@ -58,10 +63,17 @@ pub enum Choice {
     Nothing,
 }
 
+// Whether a request is for the stored target, by the stored method.
+fn is_for_stored<Req: RequestLike>(policy: &CachePolicy, req: &Req) -> bool
+    ensures { result ≡ is_for_stored (Req.seen req.now) policy.now }
+{
+    *policy.stored_method() == *req.method() && req.is_same_uri(policy.stored_target())
+}
+
 impl Variants {
     ghost use Rattle.http_cache_semantics.specs.Variants.{fresh_place, matching_place, chosen_place, IsChoice};
     ghost use Rattle.http_cache_semantics.specs.Variants.{IsOfChosen, IsOfFresh, IsOfValidate, IsPassedOver, choice_of};
-    ghost use Rattle.http_cache_semantics.specs.Variants.{matching, IsSameChoice};
+    ghost use Rattle.http_cache_semantics.specs.Variants.{matching, IsSameChoice, told_place, explanation_among};
 
     /// No policies. It takes no memory; the allocator is kept for `add`.
     pub fn new(alloc: Global) -> Variants
@@ -147,7 +159,9 @@ impl Variants {
         &self.policies[place]
     }
 
-    fn fresh_place<Req: RequestLike>(&self, req: &Req, now: Timestamp) -> Option<usize>
+    /// The place of the first policy whose response may be used for a request at a moment without
+    /// validation (RFC 7234, section 4). It takes no memory.
+    pub fn fresh_place<Req: RequestLike>(&self, req: &Req, now: Timestamp) -> Option<usize>
         ensures value { result ≡ fresh_place (Req.seen req.now) now.nanosecond self.now }
         ensures within { IfSome result (λ place. place < length self.now) }
     {
@@ -156,7 +170,9 @@ impl Variants {
             .position(|policy| policy.fresh_at(req, now))
     }
 
-    fn matching_place<Req: RequestLike>(&self, req: &Req) -> Option<usize>
+    /// The place of the first policy whose response is the answer to a request, fresh or not
+    /// (RFC 7234, section 4.1). It takes no memory.
+    pub fn matching_place<Req: RequestLike>(&self, req: &Req) -> Option<usize>
         ensures value { result ≡ matching_place (Req.seen req.now) self.now }
         ensures within { IfSome result (λ place. place < length self.now) }
     {
@@ -221,5 +237,52 @@ impl Variants {
             BeforeRequest::Fresh(parts) => Ok(Choice::Fresh { place, parts }),
             BeforeRequest::Stale { request, .. } => Ok(Choice::Validate { place, request }),
         }
+    }
+
+    // The place of the first whose method and target are a request's.
+    fn place_for_target<Req: RequestLike>(&self, req: &Req) -> Option<usize>
+        ensures value { result ≡ position (is_for_stored (Req.seen req.now)) self.now }
+        ensures within { IfSome result (λ place. place < length self.now) }
+    {
+        self.policies
+            .iter()
+            .position(|policy| is_for_stored(policy, req))
+    }
+
+    // The place of the chosen one, else of the first for the request's method and target.
+    fn told_place<Req: RequestLike>(&self, req: &Req, now: Timestamp) -> Option<usize>
+        ensures value { result ≡ told_place (Req.seen req.now) now.nanosecond self.now }
+        ensures within { IfSome result (λ place. place < length self.now) }
+    {
+        match self.chosen_place(req, now) {
+            Some(place) => Some(place),
+            None => self.place_for_target(req),
+        }
+    }
+
+    /// Why none of the stored responses is used for a request at a moment without validation, or
+    /// that one is. It tells of the policy that `choose` goes by; where that is none, of the first
+    /// for the request's method and target; and where there is none such, that the target is missed
+    /// (RFC 9211, section 2.2). It takes no memory.
+    #[tactic(auto, unfolding(crate::specs::Variants::explanation_among))]
+    pub fn explain<Req: RequestLike>(&self, req: &Req, now: Timestamp) -> Explanation<'_>
+        ensures value { explanation_seen result
+            ≡ explanation_among self.now (Req.seen req.now) now.nanosecond }
+        ensures hit { is_none result.reason
+            ≡ is_some (fresh_place (Req.seen req.now) now.nanosecond self.now) }
+        ensures mismatch { option_map_or is_mismatch (option_map reason_seen result.reason) false
+            ≡ is_none (chosen_place (Req.seen req.now) now.nanosecond self.now) }
+    {
+        let Some(place) = self.told_place(req, now) else {
+            return Explanation {
+                reason: Some(Reason::Target),
+                age: Duration::ZERO,
+                freshness: Freshness {
+                    source: LifetimeSource::Nothing,
+                    lifetime: Duration::ZERO,
+                },
+            };
+        };
+        self.stored_at(place).explain(req, now)
     }
 }

@@ -1,5 +1,5 @@
 -- Two lists that are changed at one place stay of one length.
-use Rattle.std.proofs.Common.{◌≡◌, ℕ, ◌<◌, List, length, remove, sym, ap, ◌∙◌, arith}
+use Rattle.std.proofs.Common.{◌≡◌, ℕ, ◌<◌, List, length, remove, arith}
 use Rattle.std.proofs.lemmas.List.Edits.{length-remove}
 
 pub removed-alike : {A B : Type 0} (xs : List A) (ys : List B) (i : ℕ) → i < length xs → length ys ≡ length xs

@@ -1,18 +1,24 @@
 //! What a caching client keeps under one key, and what it does with a request.
-ghost use Rattle.std.specs.Prelude.{◌≡◌, ◌<◌, ◌∷◌, true, false, IfOk, OnOk, OnErr, IsOkUnless, length, set, remove};
+ghost use Rattle.std.specs.Prelude.{◌≡◌, ◌<◌, ◌∷◌, ◌↔◌, true, false, IfOk, OnOk, OnErr, IsErrOf, IsOkUnless};
+ghost use Rattle.std.specs.Prelude.{length, set, remove, codes, string_bytes};
 ghost use Rattle.http.specs.Request.{head_of as head_of_request};
 ghost use Rattle.http.specs.Response.{head_of, body_of};
 ghost use Rattle.http_cache_semantics.specs.Exchange.{exchange_of};
+ghost use Rattle.http_cache_semantics.specs.Headers.{headers_of, RefusesValue};
 ghost use Rattle.http_cache_semantics.specs.Kept.{kept_exchange};
 ghost use Rattle.http_cache_semantics.specs.Messages.{request_seen, response_seen};
 ghost use Rattle.http_cache_semantics.specs.Options.{options_of};
+ghost use Rattle.http_cache_semantics.specs.StructuredField.{IsItem};
 ghost use Rattle.http_cache_uses.specs.Client.{nothing_stored, IsAt, renewed, without, superseded};
-ghost use Rattle.http_cache_uses.specs.Client.{in_front, with_further, IsAskedOf, IsReceived};
+ghost use Rattle.http_cache_uses.specs.Client.{in_front, with_further, status_of, IsTold, IsToldIn};
+ghost use Rattle.http_cache_uses.specs.Client.{IsAskedOf, IsReceived, IsAccepted};
 ghost use Rattle.http_cache_uses.specs.Client.{IsValidated, IsPassedOn, IsFetched, HasSentOneAtMost};
 
 use crate::origin::{FetchError, Origin};
 use bytes::Bytes;
-use http::{Request, Response, request, response};
+use http::header::{CACHE_STATUS, HeaderValueError};
+use http::{HeaderValue, Request, Response, request, response};
+use http_cache_semantics::forwarding::append;
 use http_cache_semantics::{
     AfterResponse, CacheError, CacheOptions, CachePolicy, Choice, RequestLike, Variants,
 };
@@ -20,16 +26,18 @@ use jiff::Timestamp;
 use std::alloc::Global;
 use std::marker::Model;
 
-/// The responses that are stored under one key, each with its body.
+/// The responses that are stored under one key, each with its body, and the name under which the
+/// client tells in Cache-Status what it did (RFC 9211).
 #[derive(Drop)]
 pub struct Client {
+    name: String,
     options: CacheOptions,
     variants: Variants,
     bodies: Vec<Bytes>,
 }
 
 impl Model for Client {
-    ghost use Rattle.std.specs.Prelude.{◌≡◌, length};
+    ghost use Rattle.std.specs.Prelude.{◌≡◌, length, string_bytes};
     ghost use Rattle.http_cache_semantics.specs.Options.{options_of};
     ghost use Rattle.http_cache_uses.specs.Client.{Stored, stored_code};
 
@@ -38,6 +46,7 @@ impl Model for Client {
     ghost coded = { stored_code };
 
     ghost view = { λ c. record {
+      name = string_bytes c.name;
       options = options_of c.options;
       policies = c.variants;
       bodies = c.bodies.items;
@@ -46,20 +55,72 @@ impl Model for Client {
     ghost invariant = { λ c. length c.bodies.items ≡ length c.variants };
 }
 
-/// What is done with a request.
+/// What is done with a request. Where it goes to the origin, the value of Cache-Status that tells
+/// why is for the answer that comes of it.
 #[derive(Drop)]
 pub enum Asked {
-    /// It is answered from the store.
-    Answer(response::Parts, Bytes),
+    /// It is answered from the store; the answer has that value too.
+    Answer(Response<Bytes>),
     /// What is stored at a place answers it, once the origin has validated that.
     Validate {
         /// The place of the stored response.
         place: usize,
         /// The request for the origin, without a body.
         request: request::Parts,
+        /// Why it goes there.
+        status: HeaderValue,
     },
     /// Nothing that is stored is an answer to it: it goes to the origin as it is.
-    Pass,
+    Pass {
+        /// Why it goes there.
+        status: HeaderValue,
+    },
+}
+
+// An item of a structured field as a value.
+fn value_of(item: String) -> Result<HeaderValue, CacheError>
+    requires { IsItem (string_bytes item) }
+    ensures value { IfOk result (λ value. value.bytes ≡ string_bytes item) }
+    ensures only_memory { IsOkUnless result CacheError.Memory }
+{
+    match HeaderValue::from_string(item) {
+        Ok(value) => Ok(value),
+        Err(HeaderValueError::OutOfMemory) => Err(CacheError::Memory),
+        Err(HeaderValueError::Invalid) => unreachable!(),
+    }
+}
+
+// A head with one value of Cache-Status more, behind those of earlier caches (RFC 9211, section 2).
+fn told(mut head: response::Parts, status: HeaderValue) -> Result<response::Parts, CacheError>
+    ensures told { IfOk result (IsTold status.bytes head) }
+    ensures full { IsErrOf result CacheError.HeaderMapFull
+        ↔ RefusesValue (headers_of head.headers) (codes "cache-status") }
+{
+    append(&mut head.headers, CACHE_STATUS, status)?;
+    Ok(head)
+}
+
+// The answer of a head and a body, with one value of Cache-Status more.
+fn answer_of(
+    head: response::Parts,
+    body: &Bytes,
+    status: HeaderValue,
+) -> Result<Response<Bytes>, CacheError>
+    ensures head { IfOk result (λ answer. IsTold status.bytes head (head_of answer)) }
+    ensures body { IfOk result (λ answer. body_of answer ≡ body.now) }
+{
+    let head = told(head, status)?;
+    Ok(Response::from_parts(head, body.clone()?))
+}
+
+// A response with one value of Cache-Status more.
+fn told_in(came: Response<Bytes>, status: HeaderValue) -> Result<Response<Bytes>, CacheError>
+    ensures told { IfOk result (IsToldIn status.bytes came) }
+    ensures full { IsErrOf result CacheError.HeaderMapFull
+        ↔ RefusesValue (headers_of (head_of came).headers) (codes "cache-status") }
+{
+    let (head, body) = came.into_parts();
+    Ok(Response::from_parts(told(head, status)?, body))
 }
 
 // One place for each, since the prover looks into each policy that is let go.
@@ -86,11 +147,13 @@ fn add_policy(variants: &mut Variants, policy: CachePolicy) -> bool
 }
 
 impl Client {
-    /// A client with nothing stored, as one that serves a single user (`shared: false`) or several.
-    pub fn new(alloc: Global, options: CacheOptions) -> Client
-        ensures { result ≡ nothing_stored (options_of options) }
+    /// A client of a name with nothing stored, as one that serves a single user (`shared: false`) or
+    /// several.
+    pub fn new(alloc: Global, options: CacheOptions, name: String) -> Client
+        ensures { result ≡ nothing_stored (string_bytes name) (options_of options) }
     {
         Client {
+            name,
             options,
             variants: Variants::new(alloc),
             bodies: Vec::new(alloc),
@@ -114,8 +177,25 @@ impl Client {
         &self.bodies[place]
     }
 
+    // The value of Cache-Status that tells what is done with a request.
+    fn status<Req: RequestLike>(
+        &self,
+        alloc: Global,
+        req: &Req,
+        now: Timestamp,
+    ) -> Result<HeaderValue, CacheError>
+        ensures value { IfOk result (λ status.
+            status.bytes ≡ status_of self.now (Req.seen req.now) now.nanosecond) }
+        ensures only_memory { IsOkUnless result CacheError.Memory }
+    {
+        let explanation = self.variants.explain(req, now);
+        value_of(explanation.cache_status(alloc, self.name.as_str())?)
+    }
+
     /// Answers a request from the store where that will do at the moment, or tells what goes to the
-    /// origin (RFC 7234, section 4). It is refused where `choose` of `Variants` is.
+    /// origin (RFC 7234, section 4), and why in Cache-Status (RFC 9211). It is refused where
+    /// `choose` of `Variants` is, and with `HeaderMapFull` where the answer has no room for one
+    /// value more.
     pub fn ask<Req: RequestLike>(
         &self,
         alloc: Global,
@@ -124,10 +204,17 @@ impl Client {
     ) -> Result<Asked, CacheError>
         ensures asked { IfOk result (IsAskedOf self.now (Req.seen req.now) now.nanosecond) }
     {
+        let status = self.status(alloc, req, now)?;
         Ok(match self.variants.choose(alloc, req, now)? {
-            Choice::Fresh { place, parts } => Asked::Answer(parts, self.body_at(place).clone()?),
-            Choice::Validate { place, request } => Asked::Validate { place, request },
-            Choice::Nothing => Asked::Pass,
+            Choice::Fresh { place, parts } => {
+                Asked::Answer(answer_of(parts, self.body_at(place), status)?)
+            }
+            Choice::Validate { place, request } => Asked::Validate {
+                place,
+                request,
+                status,
+            },
+            Choice::Nothing => Asked::Pass { status },
         })
     }
 
@@ -164,8 +251,9 @@ impl Client {
     }
 
     /// Takes the origin's answer to a request that validates what is stored at a place, and gives
-    /// the answer to the client's request (RFC 7234, section 4.3.3). It is refused where
-    /// `after_response` is, and then what is stored is as it was.
+    /// the answer to the client's request (RFC 7234, section 4.3.3), with a value of Cache-Status
+    /// more, which isn't stored. It is refused where `after_response` is, and with `HeaderMapFull`
+    /// where the answer has no room for that value; then what is stored is as it was.
     pub fn receive<Req: RequestLike>(
         &mut self,
         alloc: Global,
@@ -173,10 +261,11 @@ impl Client {
         req: &Req,
         came: Response<Bytes>,
         received: Timestamp,
+        status: HeaderValue,
     ) -> Result<Response<Bytes>, CacheError>
         requires { place < length self.old.policies }
         ensures received { IfOk result (IsReceived self.old self.new place (Req.seen req.now)
-            came received.nanosecond) }
+            came received.nanosecond status.bytes) }
         ensures kept { OnErr result (self.new ≡ self.old) }
     {
         match self
@@ -184,14 +273,14 @@ impl Client {
             .after_response(alloc, req, &came, received)?
         {
             AfterResponse::NotModified(policy, parts) => {
-                let body = self.body_at(place).clone()?;
+                let answer = answer_of(parts, self.body_at(place), status)?;
                 self.renew(place, policy);
-                Ok(Response::from_parts(parts, body))
+                Ok(answer)
             }
             AfterResponse::Modified(policy, parts) => {
-                let body = came.body().clone()?;
+                let answer = answer_of(parts, came.body(), status)?;
                 self.supersede(place, policy, came.into_body());
-                Ok(Response::from_parts(parts, body))
+                Ok(answer)
             }
         }
     }
@@ -212,6 +301,20 @@ impl Client {
         Err(CacheError::Memory)
     }
 
+    // Stores a policy and the body of its response, if that may be stored.
+    fn keep(&mut self, policy: CachePolicy, body: &Bytes) -> Result<(), CacheError>
+        ensures ok { OnOk result (self.new ≡ with_further self.old policy body.now) }
+        ensures kept { OnErr result (self.new ≡ self.old) }
+        ensures only_memory { IsOkUnless result CacheError.Memory }
+    {
+        if policy.is_storable() {
+            self.insert(policy, body.clone()?)
+        } else {
+            drop(policy);
+            Ok(())
+        }
+    }
+
     /// Stores the response that came for a request, if it may be stored (RFC 7234, section 3). It is
     /// refused for want of memory alone, and then what is stored is as it was.
     pub fn store<Req: RequestLike>(
@@ -228,12 +331,31 @@ impl Client {
         ensures only_memory { IsOkUnless result CacheError.Memory }
     {
         let policy = CachePolicy::new_options(alloc, req, came, received, self.options)?;
-        if policy.is_storable() {
-            self.insert(policy, came.body().clone()?)
-        } else {
-            drop(policy);
-            Ok(())
-        }
+        self.keep(policy, came.body())
+    }
+
+    /// Stores the response that came for a request which was passed on, if it may be stored, and
+    /// gives it as the answer, with a value of Cache-Status more, which isn't stored. It is refused
+    /// for want of memory, and with `HeaderMapFull` where the response has no room for that value;
+    /// then what is stored is as it was.
+    pub fn accept<Req: RequestLike>(
+        &mut self,
+        alloc: Global,
+        req: &Req,
+        came: Response<Bytes>,
+        received: Timestamp,
+        status: HeaderValue,
+    ) -> Result<Response<Bytes>, CacheError>
+        ensures accepted { IfOk result (IsAccepted self.old self.new (Req.seen req.now)
+            came received.nanosecond status.bytes) }
+        ensures kept { OnErr result (self.new ≡ self.old) }
+        ensures full { IsErrOf result CacheError.HeaderMapFull
+            → RefusesValue (headers_of (head_of came).headers) (codes "cache-status") }
+    {
+        let policy = CachePolicy::new_options(alloc, req, &came, received, self.options)?;
+        let answer = told_in(came, status)?;
+        self.keep(policy, answer.body())?;
+        Ok(answer)
     }
 
     // The origin is asked whether what is stored at a place still holds.
@@ -244,16 +366,17 @@ impl Client {
         req: &Request<Bytes>,
         place: usize,
         sent: request::Parts,
+        status: HeaderValue,
     ) -> Result<Response<Bytes>, FetchError>
         requires { place < length self.old.policies }
         ensures validated { IfOk result (IsValidated O.sent origin.old origin.new self.old self.new
-            place (request_seen (head_of_request req.now)) sent) }
+            place (request_seen (head_of_request req.now)) sent status.bytes) }
         ensures kept { OnErr result (self.new ≡ self.old) }
         ensures once { HasSentOneAtMost O.sent origin.old origin.new }
     {
         let sent = Request::from_parts(sent, Bytes::new());
         let (came, received) = origin.send(&sent)?;
-        Ok(self.receive(alloc, place, req, came, received)?)
+        Ok(self.receive(alloc, place, req, came, received, status)?)
     }
 
     // The origin answers the request itself.
@@ -262,20 +385,21 @@ impl Client {
         alloc: Global,
         origin: &mut O,
         req: &Request<Bytes>,
+        status: HeaderValue,
     ) -> Result<Response<Bytes>, FetchError>
-        ensures passed_on { IfOk result
-            (IsPassedOn O.sent origin.old origin.new self.old self.new req.now) }
+        ensures passed_on { IfOk result (IsPassedOn O.sent origin.old origin.new self.old self.new
+            req.now status.bytes) }
         ensures kept { OnErr result (self.new ≡ self.old) }
         ensures once { HasSentOneAtMost O.sent origin.old origin.new }
     {
         let (came, received) = origin.send(req)?;
-        self.store(alloc, req, &came, received)?;
-        Ok(came)
+        Ok(self.accept(alloc, req, came, received, status)?)
     }
 
     /// Answers a request from the store where that will do at the moment, and else by sending the
-    /// origin one request. `NoResponse` comes where the origin gave none, `Cache` where one of the
-    /// calls above is refused; then what is stored is as it was.
+    /// origin one request. The answer tells which in a value of Cache-Status (RFC 9211), behind those
+    /// that came. `NoResponse` comes where the origin gave none, `Cache` where one of the calls above
+    /// is refused; then what is stored is as it was.
     pub fn fetch<O: Origin>(
         &mut self,
         alloc: Global,
@@ -289,11 +413,13 @@ impl Client {
         ensures once { HasSentOneAtMost O.sent origin.old origin.new }
     {
         match self.ask(alloc, req, now)? {
-            Asked::Answer(parts, body) => Ok(Response::from_parts(parts, body)),
-            Asked::Validate { place, request } => {
-                self.validate(alloc, origin, req, place, request)
-            }
-            Asked::Pass => self.pass_on(alloc, origin, req),
+            Asked::Answer(answer) => Ok(answer),
+            Asked::Validate {
+                place,
+                request,
+                status,
+            } => self.validate(alloc, origin, req, place, request, status),
+            Asked::Pass { status } => self.pass_on(alloc, origin, req, status),
         }
     }
 }

@@ -1,5 +1,6 @@
 //! What a client answers to requests for one key, and what it sends to the origin.
 use bytes::Bytes;
+use http::header::CACHE_STATUS;
 use http::{Request, Response, request, response};
 use http_cache_semantics::directives::GetHeaderStr;
 use http_cache_semantics::{CacheError, CacheOptions};
@@ -11,28 +12,29 @@ use std::test::Fail;
 use test_cases::fixtures::{after, field, request, response};
 
 // Requests in turn: the seconds after the first, the headers, what the origin would answer (its
-// status, headers and body), the status and the body of the answer, and what the origin was sent:
-// nothing, the request with the tag of what is to be validated, or the request as it is.
+// status, headers and body), the status and the body of the answer, its values of Cache-Status, and
+// what the origin was sent: nothing, the request with the tag of what is to be validated, or the
+// request as it is.
 fn steps() -> &'static str {
-    r#"0|Accept: a|200|Cache-Control: max-age=10 ~ ETag: "1" ~ Vary: Accept|one|200 one|as it is
-       5|Accept: a|500||no|200 one|nothing
-       15|Accept: a|304|ETag: "1" ~ Cache-Control: max-age=10|no|200 one|"1"
-       20|Accept: a|500||no|200 one|nothing
-       20|Accept: b|200|Cache-Control: max-age=100 ~ ETag: "2" ~ Vary: Accept|two|200 two|as it is
-       21|Accept: b|500||no|200 two|nothing
-       22|Accept: a|500||no|200 one|nothing
-       40|Accept: a|200|Cache-Control: max-age=10 ~ ETag: "3" ~ Vary: Accept|three|200 three|"1"
-       41|Accept: a|500||no|200 three|nothing
-       41|Accept: b|500||no|200 two|nothing
-       60|Accept: a|200|Cache-Control: no-store ~ Vary: Accept|four|200 four|"3"
-       61|Accept: a|200|Cache-Control: no-store ~ Vary: Accept|five|200 five|as it is
-       62|Accept: b|500||no|200 two|nothing
-       200|Accept: b|none||no|no response|"2"
-       200|Accept: b|304|ETag: "2"|no|200 two|"2"
-       201|Accept: b ~ Cache-Control: no-cache|304|ETag: "2"|no|200 two|"2"
-       202|Accept: b|200|Cache-Control: max-age=9|six|200 two|nothing
-       400|Accept: b|200|Cache-Control: max-age=9|six|200 six|"2"
-       401|Accept: c|500||no|200 six|nothing"#
+    r#"0|A: a|200|Cache-Control: max-age=10 ~ ETag: "1" ~ Vary: A|one|200 one|C; fwd=uri-miss|as it is
+       5|A: a|500||no|200 one|C; hit; ttl=5|nothing
+       15|A: a|304|ETag: "1" ~ Cache-Control: max-age=10|no|200 one|C; fwd=stale; ttl=-5|"1"
+       20|A: a|500||no|200 one|C; hit; ttl=5|nothing
+       20|A: b|200|Cache-Control: max-age=100 ~ ETag: "2" ~ Vary: A|two|200 two|C; fwd=vary-miss; detail="A"|as it is
+       21|A: b|500||no|200 two|C; hit; ttl=99|nothing
+       22|A: a|500||no|200 one|C; hit; ttl=3|nothing
+       40|A: a|200|Cache-Control: max-age=10 ~ ETag: "3" ~ Vary: A|three|200 three|C; fwd=stale; ttl=-15|"1"
+       41|A: a|500||no|200 three|C; hit; ttl=9|nothing
+       41|A: b|500||no|200 two|C; hit; ttl=79|nothing
+       60|A: a|200|Cache-Control: no-store ~ Vary: A|four|200 four|C; fwd=stale; ttl=-10|"3"
+       61|A: a|200|Cache-Control: no-store ~ Vary: A|five|200 five|C; fwd=vary-miss; detail="A"|as it is
+       62|A: b|500||no|200 two|C; hit; ttl=58|nothing
+       200|A: b|none||no|no response||"2"
+       200|A: b|304|ETag: "2"|no|200 two|C; fwd=stale; ttl=-80|"2"
+       201|A: b ~ Cache-Control: no-cache|304|ETag: "2"|no|200 two|C; fwd=request; ttl=99; detail="no-cache"|"2"
+       202|A: b|200|Cache-Control: max-age=9|six|200 two|C; hit; ttl=99|nothing
+       400|A: b|200|Cache-Control: max-age=9 ~ Cache-Status: O; hit|six|200 six|O; hit, C; fwd=stale; ttl=-99|"2"
+       401|A: c|500||no|200 six|O; hit, C; hit; ttl=8|nothing"#
 }
 
 // Gives the response that it has, once, and keeps what it was sent.
@@ -83,10 +85,30 @@ impl Origin for Recorded {
     }
 }
 
+// The values of Cache-Status in their order.
+fn cache_status_of(alloc: Global, answer: &Response<Bytes>) -> Result<String, Fail> {
+    let mut text = String::new(alloc);
+    for value in answer.headers().get_all(CACHE_STATUS) {
+        if !text.as_str().is_empty() {
+            text.push_str(", ")?;
+        }
+        text.push_str(value.to_str()?)?;
+    }
+    Ok(text)
+}
+
 fn told(alloc: Global, answer: &Response<Bytes>) -> Result<String, Fail> {
     let status = answer.status().as_u16();
     let body = str::from_utf8(answer.body().as_slice())?;
-    Ok(format!(in alloc; "{status} {body}")?)
+    let caches = cache_status_of(alloc, answer)?;
+    Ok(format!(in alloc; "{status} {body}|{caches}")?)
+}
+
+// What is due of the answer in a row.
+fn due(alloc: Global, row: &str) -> Result<String, Fail> {
+    let answer = field(row, 5)?;
+    let caches = field(row, 6)?;
+    Ok(format!(in alloc; "{answer}|{caches}")?)
 }
 
 fn answer_of(
@@ -98,7 +120,7 @@ fn answer_of(
     let now = origin.now;
     match client.fetch(alloc, origin, asking, now) {
         Ok(answer) => told(alloc, &answer),
-        Err(FetchError::NoResponse) => Ok(String::from_str(alloc, "no response")?),
+        Err(FetchError::NoResponse) => Ok(String::from_str(alloc, "no response|")?),
         Err(FetchError::Cache(e)) => Err(e)?,
     }
 }
@@ -114,8 +136,8 @@ fn take_step(rt: &impl Abort, alloc: Global, client: &mut Client, row: &str) -> 
     };
     let asking = Request::from_parts(request(alloc, "GET", field(row, 1)?)?, Bytes::new());
     let answer = answer_of(alloc, client, &mut origin, &asking)?;
-    assert_eq!(rt; answer.as_str(), field(row, 5)?, "at {row}");
-    assert_eq!(rt; origin.sent.as_str(), field(row, 6)?, "at {row}");
+    assert_eq!(rt; answer.as_str(), due(alloc, row)?.as_str(), "at {row}");
+    assert_eq!(rt; origin.sent.as_str(), field(row, 7)?, "at {row}");
     assert!(rt; origin.requests <= 1, "at {row}");
     Ok(())
 }
@@ -126,7 +148,8 @@ fn answers_of_a_client(rt: HostRuntime) -> Result<(), Fail> {
         shared: false,
         ..CacheOptions::default()
     };
-    let mut client = Client::new(rt.alloc(), options);
+    let name = String::from_str(rt.alloc(), "C")?;
+    let mut client = Client::new(rt.alloc(), options, name);
     for row in steps().lines() {
         take_step(&rt, rt.alloc(), &mut client, row)?;
     }

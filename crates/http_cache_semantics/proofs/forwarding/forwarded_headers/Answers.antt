@@ -1,7 +1,6 @@
 -- What Connection spells goes behind what speaks of one connection in any case.
-use Rattle.std.proofs.Common.{◌≡◌, List, ℕ, codes, ap, ◌∙◌}
-use Rattle.http_cache_fields.specs.Headers.{Headers, headers_of}
-use Rattle.http_cache_fields.specs.Pieces.{pieces_under}
+use Rattle.std.proofs.Common.{◌≡◌, ap, ◌∙◌}
+use Rattle.http_cache_fields.specs.Headers.{headers_of}
 use Rattle.http_cache_semantics.specs.Forwarding.{connection_fields, without_named, forwarded_headers}
 use Rattle.http_cache_semantics.proofs.forwarding.forwarded_headers.Goals as goal
 

@@ -6,8 +6,8 @@ use Rattle.http_cache_semantics.specs.Update.{selects}
 use Rattle.http.specs.Response.{head_of}
 use Rattle.http_cache_uses.proofs.client.Client.receive.Goals as goal
 
-pub returns-in_ok-body-in-NotModified-clause-received : goal.returns-in_ok-body-in-NotModified-clause-received
-returns-in_ok-body-in-NotModified-clause-received g c =
+pub returns-in_ok-answer-in-NotModified-clause-received : goal.returns-in_ok-answer-in-NotModified-clause-received
+returns-in_ok-answer-in-NotModified-clause-received g c =
     let told = c.in_ok-policy.ensures in
     let is = c.in-NotModified.is in
     let selected : selects c.policy_at.result.now (response_seen (head_of c.args.came)) ≡ true =
@@ -20,12 +20,14 @@ returns-in_ok-body-in-NotModified-clause-received g c =
         next_is = sym (ap policy_in is) ∙ told.policy;
         renews = λ _. (c.renew.ensures, search rules);
         supersedes = λ no. absurd (true≢false (sym selected ∙ no));
-        head = search rules;
+        head = c.in-NotModified.parts;
+        head_is = search rules;
+        told = search rules;
       };
     }
 
-pub returns-in_ok-body-in-Modified-clause-received : goal.returns-in_ok-body-in-Modified-clause-received
-returns-in_ok-body-in-Modified-clause-received g c =
+pub returns-in_ok-answer-in-Modified-clause-received : goal.returns-in_ok-answer-in-Modified-clause-received
+returns-in_ok-answer-in-Modified-clause-received g c =
     let told = c.in_ok-policy.ensures in
     let is = c.in-Modified.is in
     let selected : selects c.policy_at.result.now (response_seen (head_of c.args.came)) ≡ false =
@@ -38,6 +40,8 @@ returns-in_ok-body-in-Modified-clause-received g c =
         next_is = sym (ap policy_in is) ∙ told.policy;
         renews = λ yes. absurd (true≢false (sym yes ∙ selected));
         supersedes = λ _. (search rules, search rules);
-        head = search rules;
+        head = c.in-Modified.parts;
+        head_is = search rules;
+        told = search rules;
       };
     }
