@@ -1,0 +1,35 @@
+-- What was taken out comes back as the entry leaves it.
+use Rattle.std.proofs.Common.{◌≡◌, ◌∙◌, ap, subst, cond, List}
+use Rattle.indexmap.specs.IndexMap.{get}
+use Rattle.http_cache_semantics.specs.Options.{options_of}
+use Rattle.http_cache_semantics.specs.Exchange.{Exchange}
+use Rattle.http_cache_audit.specs.declared.shelves.Key.{Key}
+use Rattle.http_cache_audit.specs.Key.{key_eq, shelf_at}
+use Rattle.http_cache_audit.specs.Walk.{walked_seen, key_of, step, verdict_among}
+use Rattle.http_cache_audit.proofs.WalkLemmas.{shelf-put}
+use Rattle.http_cache_audit.proofs.walk.visit.Goals as goal
+
+pub returns-clause-verdict : goal.returns-clause-verdict
+returns-clause-verdict c =
+    let o = options_of c.args.options in
+    let w = walked_seen c.args.walked.now in
+    let taken : c.take_shelf-variants.result ≡ shelf_at c.args.shelves.now (key_of w) =
+    c.take_shelf-variants.ensures.value ∙ ap (λ (k : Key). shelf_at c.args.shelves.now k) c.in_ok-key.ensures in
+    c.in_ok-verdict.ensures.verdict ∙ ap (λ (es : List Exchange). verdict_among o es w) taken
+
+pub returns-clause-stored : goal.returns-clause-stored
+returns-clause-stored c = λ key.
+    let o = options_of c.args.options in
+    let w = walked_seen c.args.walked.now in
+    let taken : c.take_shelf-variants.result ≡ shelf_at c.args.shelves.now (key_of w) =
+    c.take_shelf-variants.ensures.value ∙ ap (λ (k : Key). shelf_at c.args.shelves.now k) c.in_ok-key.ensures in
+    let left : c.step.new.variants ≡ (step o w (shelf_at c.args.shelves.now (key_of w))).0 =
+    c.in_ok-verdict.ensures.stored ∙ ap (λ (es : List Exchange). (step o w es).0) taken in
+    let put = shelf-put (key_eq c.in_ok-key.key key) (get key_eq c.put_shelf.new.shelves key)
+    (get key_eq c.take_shelf-variants.new.shelves key) (get key_eq c.args.shelves.now key) c.step.new.variants
+    (c.in_ok-put_shelf.ensures key) (c.take_shelf-variants.ensures.others key) in
+    subst (λ (k : Key).
+    shelf_at c.put_shelf.new.shelves key
+    ≡ cond (key_eq k key) (step o w (shelf_at c.args.shelves.now (key_of w))).0 (shelf_at c.args.shelves.now key))
+    c.in_ok-key.ensures
+    (put ∙ ap (λ (es : List Exchange). cond (key_eq c.in_ok-key.key key) es (shelf_at c.args.shelves.now key)) left)

@@ -1,0 +1,54 @@
+-- What looks wrong in a response, though the rules of caching give it a meaning.
+use Rattle.std.specs.Prelude.{ℕ, ℤ, ◌-ℤ◌, ◌==◌, pos, int_lt, Bool, false, not, ◌&&◌, ◌||◌, List, [], ◌∷◌}
+use Rattle.std.specs.Prelude.{codes, bytes_eq, nat_eq, option_and_then}
+use Rattle.std.specs.List.{find, list_any, before_first}
+use Rattle.std.specs.Option.{option_map_or}
+use Rattle.std.specs.Result.{result_ok}
+use Rattle.std.specs.Char.{is_ascii_uppercase}
+use Rattle.jiff_fmt.specs.Rfc2822.{timestamp}
+use Rattle.http_cache_fields.specs.Text.{is_equals}
+use Rattle.http_cache_fields.specs.Headers.{Headers, first_text_under}
+use Rattle.http_cache_fields.specs.Pieces.{pieces_under}
+use Rattle.http_cache_fields.specs.Directives.{name_of, raw_value_of, same_value}
+
+-- the pieces of the Cache-Control lines
+abbrev pub cache_pieces : Headers → List (List ℕ)
+cache_pieces h = pieces_under h (codes "cache-control")
+
+-- the directive of a piece has the name
+abbrev pub is_named : List ℕ → List ℕ → Bool
+is_named name piece = bytes_eq (name_of piece) name
+
+-- a piece has the name of another, and says something else
+abbrev pub says_other : List ℕ → List ℕ → List ℕ → Bool
+says_other name one piece = is_named name piece && not (same_value (raw_value_of one) (raw_value_of piece))
+
+-- two pieces of a name say different things: one says something else than the first
+unfoldable pub is_in_conflict : List ℕ → Headers → Bool
+is_in_conflict name h =
+    option_map_or (λ one. list_any (says_other name one) (cache_pieces h)) (find (is_named name) (cache_pieces h)) false
+
+-- a `;` stands in a piece
+abbrev pub has_semicolon : List ℕ → Bool
+has_semicolon piece = list_any (λ b. nat_eq b 59) piece
+
+-- a quote stands in front
+abbrev pub begins_quoted : List ℕ → Bool
+begins_quoted [] = false
+begins_quoted (b ∷ bs) = b == 34
+
+-- the seconds of `max-age` or `s-maxage` are in quotes
+abbrev pub is_quoted : List ℕ → Bool
+is_quoted piece =
+    (is_named (codes "max-age") piece || is_named (codes "s-maxage") piece)
+    && option_map_or begins_quoted (raw_value_of piece) false
+
+-- the name of a directive has a letter in upper case
+abbrev pub is_upper_case : List ℕ → Bool
+is_upper_case piece = list_any is_ascii_uppercase (before_first is_equals piece)
+
+-- the moment of the Date is more than a minute before another
+abbrev pub is_dated_before : ℤ → Headers → Bool
+is_dated_before received h =
+    option_map_or (λ date. int_lt (pos 60_000_000_000) (received -ℤ date))
+    (option_and_then (λ text. result_ok (timestamp false text)) (first_text_under h (codes "date"))) false

@@ -1,0 +1,30 @@
+-- What is written for the bytes of a recording, and why nothing is.
+use Rattle.std.specs.Prelude.{◌<◌, ◌+◌, ℕ, List, Bool, length, take, ⊤, Option, option_map, IfSome}
+use Rattle.http_cache_semantics.specs.Options.{Options}
+use Rattle.http_cache_recording.specs.Entry.{RecordedSeen}
+use Rattle.http_cache_recording.specs.Recording.{IsRecording, IsCause}
+use Rattle.http_cache_audit.specs.declared.error.AuditError.{AuditError}
+use Rattle.http_cache_audit.specs.declared.error.AuditError.TheVariants.{NotReadable, TooLong, Recording, Cache, NotWritten}
+use Rattle.http_cache_audit.specs.Lines.{IsAudit}
+
+-- how many bytes the longest recording has
+abbrev pub longest_recording : ℕ
+longest_recording = 1_073_741_824
+
+-- the front of what a reader has left that is read, one byte more than that
+abbrev pub front_of : Option (List ℕ) → Option (List ℕ)
+front_of known = option_map (take (longest_recording + 1)) known
+
+-- the bytes are a recording, and the text is of its audit
+pub record IsAudited (options : Options) (json : Bool) (bytes text : List ℕ) : Type 0 where
+  pub recorded : List RecordedSeen
+  pub is_recording : IsRecording bytes recorded
+  pub is_audit : IsAudit options json recorded text
+
+-- what an error says of what a reader has left, where that is known
+abbrev pub IsRefusal : Option (List ℕ) → AuditError → Type 0
+IsRefusal known NotReadable = ⊤
+IsRefusal known TooLong = IfSome known (λ bytes. longest_recording < length bytes)
+IsRefusal known (Recording cause) = IfSome known (λ bytes. IsCause bytes cause)
+IsRefusal known (Cache cause) = ⊤
+IsRefusal known NotWritten = ⊤

@@ -1,0 +1,41 @@
+//! Why a recording wasn't audited.
+use http_cache_recording::ReadingError;
+use http_cache_semantics::CacheError;
+use thiserror::Error;
+
+/// Why a recording wasn't audited.
+#[derive(Clone, Copy, Debug, PartialEq, Eq, Error)]
+pub enum AuditError {
+    /// The reader failed.
+    #[error("recording: not readable")]
+    NotReadable,
+    /// It gave more than a gibibyte.
+    #[error("recording: longer than 1 GiB")]
+    TooLong,
+    /// What it gave is no recording.
+    #[error("{0}")]
+    Recording(ReadingError),
+    /// The cache was refused something.
+    #[error("{0}")]
+    Cache(CacheError),
+    /// The writer failed.
+    #[error("output: not written")]
+    NotWritten,
+}
+
+impl AuditError {
+    ghost use Rattle.std.specs.Prelude.{◌≡◌};
+    ghost use Rattle.http_cache_audit.specs.Status.{status_of};
+
+    /// The exit status: 2 where the input is no recording, 3 where memory or the output fails.
+    pub fn status(&self) -> u8
+        ensures { result ≡ status_of self.now }
+    {
+        match self {
+            AuditError::Recording(ReadingError::Memory)
+            | AuditError::Cache(_)
+            | AuditError::NotWritten => 3,
+            AuditError::NotReadable | AuditError::TooLong | AuditError::Recording(_) => 2,
+        }
+    }
+}

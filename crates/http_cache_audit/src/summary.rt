@@ -1,0 +1,767 @@
+//! What a whole audit counts.
+ghost use Rattle.std.specs.Prelude.{◌≡◌, ◌≢◌, ◌*◌, ◌/◌, not};
+ghost use Rattle.http_cache_recording.specs.Entry.{answer_seen, reading_seen, skip_seen};
+ghost use Rattle.http_cache_audit.specs.Asked.{asked_seen};
+ghost use Rattle.http_cache_audit.specs.Heard.{heard_seen, kept_seen};
+ghost use Rattle.http_cache_audit.specs.Walk.{verdict_seen};
+ghost use Rattle.http_cache_audit.specs.Summary.{is_validated, is_missed, is_missed_by_vary, has_come, is_changed};
+ghost use Rattle.http_cache_audit.specs.Summary.{has_obstacle, is_forbidden_by, source_number, gives_zero, is_zero_by};
+ghost use Rattle.http_cache_audit.specs.Summary.{has_mark, count_of, bytes_for, bytes_if, bytes_of, not_storable_of};
+ghost use Rattle.http_cache_audit.specs.Summary.{is_same, earlier_of, repeat_if, repeated_of};
+ghost use Rattle.http_cache_audit.specs.Summary.{zero_lifetimes_of, is_skip, is_skipped_for, skips_of, skipped_of};
+ghost use Rattle.http_cache_audit.specs.Summary.{assumed_of, sets_cookies, is_private, has_private, any_private};
+
+use crate::asked::Cause;
+use crate::heard::{Heard, Kept};
+use crate::walk::{Verdict, Walked};
+use http::header::{AUTHORIZATION, COOKIE, SET_COOKIE};
+use http_cache_fields::headers::contains_key;
+use http_cache_recording::{Answer, Reading, Recorded, Skip};
+use http_cache_semantics::explain::{LifetimeSource, Obstacles};
+use std::fmt;
+
+/// A condition that forbids to store a response: a field of `Obstacles`.
+#[derive(Clone, Copy, Debug)]
+pub enum Obstacle {
+    /// The request says `no-store`.
+    RequestNoStore,
+    /// The method isn't cacheable.
+    Method,
+    /// The status isn't understood.
+    Status,
+    /// The response says `no-store`.
+    ResponseNoStore,
+    /// The response says `private`, and the cache is shared.
+    Private,
+    /// The request has Authorization, and the cache is shared.
+    Authorization,
+    /// Nothing lets it be stored.
+    NoPermission,
+}
+
+/// What became of what came: some of the variants of `Heard`.
+#[derive(Clone, Copy, Debug)]
+pub enum Came {
+    /// A 304 renewed the stored response that was to be validated.
+    Updated,
+    /// The response was stored.
+    Stored,
+    /// The browser answered from its own cache, and the response is taken as received earlier.
+    Seeded,
+    /// The response may not be stored.
+    NotStorable,
+    /// Nothing came.
+    Failed,
+    /// The browser answered from its own cache.
+    Browser,
+}
+
+/// Which verdicts are counted.
+#[derive(Clone, Copy, Debug)]
+pub enum Mark {
+    /// All.
+    Any,
+    /// A stored response was used.
+    Hit,
+    /// No stored response was the answer to the request.
+    Missed,
+    /// The same, as one that was stored varies by a header.
+    MissedByVary,
+    /// A stored response was to be validated.
+    Validated,
+    /// A validation brought another response.
+    Changed,
+    /// A full answer came though a 304 would have done.
+    Unchanged,
+    /// What came became that.
+    Came(Came),
+    /// The response may not be stored, for this condition at least.
+    Forbidden(Obstacle),
+    /// The response was stored with a lifetime of zero, which this gave.
+    Zero(LifetimeSource),
+}
+
+/// Why an entry isn't audited: a variant of `Skip`.
+#[derive(Clone, Copy, Debug)]
+pub enum SkipKind {
+    /// It has no request.
+    NoRequest,
+    /// The scheme of its target is neither http nor https.
+    Scheme,
+    /// Its target, or its method, is none that a request can have.
+    NoTarget,
+    /// It asks for a tunnel.
+    Connect,
+    /// The connection went over to another protocol.
+    Upgrade,
+    /// A service worker answered.
+    ServiceWorker,
+    /// When it was sent is no moment since 1970.
+    NoMoment,
+    /// It has more headers than a header map holds.
+    TooManyHeaders,
+}
+
+/// How many responses may not be stored, and for each condition how many are forbidden by it.
+#[derive(Clone, Copy, Debug)]
+pub struct NotStorable {
+    /// All.
+    pub all: u64,
+    /// The request says `no-store`.
+    pub request_no_store: u64,
+    /// The method isn't cacheable.
+    pub method: u64,
+    /// The status isn't understood.
+    pub status: u64,
+    /// The response says `no-store`.
+    pub response_no_store: u64,
+    /// The response says `private`, and the cache is shared.
+    pub private: u64,
+    /// The request has Authorization, and the cache is shared.
+    pub authorization: u64,
+    /// Nothing lets it be stored.
+    pub no_permission: u64,
+}
+
+/// How many responses were stored with a lifetime of zero, by what gave it.
+#[derive(Clone, Copy, Debug)]
+pub struct ZeroLifetimes {
+    /// It says `no-cache`.
+    pub no_cache: u64,
+    /// It sets cookies, and the cache is shared.
+    pub own_cookies: u64,
+    /// Its first Vary is `*`.
+    pub vary_any: u64,
+    /// It says `proxy-revalidate`, and the cache is shared.
+    pub proxy_revalidate: u64,
+    /// Its `s-maxage`.
+    pub s_maxage: u64,
+    /// Its `max-age`.
+    pub max_age: u64,
+    /// Its Expires is no date.
+    pub unreadable_expires: u64,
+    /// Its Expires isn't after Date.
+    pub past_expires: u64,
+    /// Its Last-Modified.
+    pub last_modified: u64,
+    /// It is `immutable`, and so is the least lifetime zero.
+    pub immutable: u64,
+    /// Nothing says how long.
+    pub nothing: u64,
+}
+
+/// How many entries aren't audited, by why.
+#[derive(Clone, Copy, Debug)]
+pub struct Skipped {
+    /// It has no request.
+    pub no_request: u64,
+    /// The scheme of its target is neither http nor https.
+    pub scheme: u64,
+    /// Its target, or its method, is none that a request can have.
+    pub no_target: u64,
+    /// It asks for a tunnel.
+    pub connect: u64,
+    /// The connection went over to another protocol.
+    pub upgrade: u64,
+    /// A service worker answered.
+    pub service_worker: u64,
+    /// When it was sent is no moment since 1970.
+    pub no_moment: u64,
+    /// It has more headers than a header map holds.
+    pub too_many_headers: u64,
+}
+
+/// What a whole audit counts. Sums of bytes stop at the greatest number.
+#[derive(Clone, Copy, Debug)]
+pub struct Summary {
+    /// The requests that were walked.
+    pub requests: u64,
+    /// Those that a stored response answered.
+    pub hits: u64,
+    /// Those that repeat an earlier request, by method and target.
+    pub repeated: u64,
+    /// Those of them that a stored response answered.
+    pub repeated_hits: u64,
+    /// The bytes that came for all requests.
+    pub bytes: u64,
+    /// The bytes that came for those that a stored response answered.
+    pub hit_bytes: u64,
+    /// Those for which a stored response was to be validated.
+    pub validated: u64,
+    /// Those of them whose 304 renewed it.
+    pub updated: u64,
+    /// Those of them that brought another response.
+    pub changed: u64,
+    /// Those of them that brought the stored response again, in full.
+    pub unchanged: u64,
+    /// The bytes that came for these.
+    pub unchanged_bytes: u64,
+    /// Those for which no stored response was the answer.
+    pub missed: u64,
+    /// Those of them for which one was stored that varies by a header.
+    pub missed_by_vary: u64,
+    /// The responses that were stored.
+    pub stored: u64,
+    /// Those that weren't.
+    pub not_storable: NotStorable,
+    /// Those that were stored with a lifetime of zero.
+    pub zero_lifetimes: ZeroLifetimes,
+    /// The requests for which nothing came.
+    pub failed: u64,
+    /// Those that the browser answered from its own cache, where a response was stored here too.
+    pub browser: u64,
+    /// Those that it answered so, where nothing was stored here.
+    pub seeded: u64,
+    /// The entries that weren't walked.
+    pub skipped: Skipped,
+    /// The requests of which headers are assumed.
+    pub assumed: u64,
+    /// No entry has Cookie, Set-Cookie or Authorization: the export left them out, and hits may
+    /// come out wrong.
+    pub sanitized: bool,
+}
+
+// The counts that aren't zero, each behind its words.
+fn write_counts<W: fmt::Write>(f: &mut fmt::Formatter<W>, rows: &[(&str, u64)]) -> fmt::Result {
+    let mut separator = "";
+    for row in rows {
+        if row.1 > 0 {
+            write!(f, "{separator}{} {}", row.0, row.1)?;
+            separator = ", ";
+        }
+    }
+    if separator.is_empty() {
+        write!(f, "none")?;
+    }
+    Ok(())
+}
+
+impl fmt::Display for NotStorable {
+    fn fmt<W: fmt::Write>(&self, f: &mut fmt::Formatter<W>) -> fmt::Result {
+        write_counts(
+            f,
+            &[
+                ("no-store of the request", self.request_no_store),
+                ("method", self.method),
+                ("status", self.status),
+                ("no-store", self.response_no_store),
+                ("private", self.private),
+                ("Authorization", self.authorization),
+                ("nothing allows it", self.no_permission),
+            ],
+        )
+    }
+}
+
+impl fmt::Display for ZeroLifetimes {
+    fn fmt<W: fmt::Write>(&self, f: &mut fmt::Formatter<W>) -> fmt::Result {
+        write_counts(
+            f,
+            &[
+                ("no-cache", self.no_cache),
+                ("Set-Cookie in a shared cache", self.own_cookies),
+                ("Vary: *", self.vary_any),
+                ("proxy-revalidate", self.proxy_revalidate),
+                ("s-maxage", self.s_maxage),
+                ("max-age", self.max_age),
+                ("Expires is no date", self.unreadable_expires),
+                ("Expires isn't after Date", self.past_expires),
+                ("Last-Modified", self.last_modified),
+                ("immutable", self.immutable),
+                ("nothing says how long", self.nothing),
+            ],
+        )
+    }
+}
+
+impl fmt::Display for Skipped {
+    fn fmt<W: fmt::Write>(&self, f: &mut fmt::Formatter<W>) -> fmt::Result {
+        write_counts(
+            f,
+            &[
+                ("no request", self.no_request),
+                ("other scheme", self.scheme),
+                ("no target", self.no_target),
+                ("CONNECT", self.connect),
+                ("other protocol", self.upgrade),
+                ("service worker", self.service_worker),
+                ("no moment", self.no_moment),
+                ("too many headers", self.too_many_headers),
+            ],
+        )
+    }
+}
+
+// A part of a whole in percent, rounded down; 0 of nothing.
+fn percent(part: u64, whole: u64) -> u128
+    ensures { whole ≢ 0 → result ≡ part * 100 / whole }
+{
+    if whole == 0 {
+        return 0;
+    }
+    u128::from(part) * 100 / u128::from(whole)
+}
+
+impl Summary {
+    fn write_hits<W: fmt::Write>(&self, f: &mut fmt::Formatter<W>) -> fmt::Result {
+        let hits = percent(self.hits, self.requests);
+        let repeated = percent(self.repeated_hits, self.repeated);
+        let bytes = percent(self.hit_bytes, self.bytes);
+        write!(
+            f,
+            "requests {}, hits {} ({hits} %), ",
+            self.requests, self.hits
+        )?;
+        writeln!(
+            f,
+            "of {} repeated {} ({repeated} %)",
+            self.repeated, self.repeated_hits
+        )?;
+        writeln!(
+            f,
+            "bytes {}, of hits {} ({bytes} %)",
+            self.bytes, self.hit_bytes
+        )
+    }
+
+    fn write_validations<W: fmt::Write>(&self, f: &mut fmt::Formatter<W>) -> fmt::Result {
+        write!(f, "validated {}: 304 {}, ", self.validated, self.updated)?;
+        write!(f, "changed {}, ", self.changed)?;
+        writeln!(
+            f,
+            "unchanged in full {} ({} bytes)",
+            self.unchanged, self.unchanged_bytes
+        )?;
+        writeln!(f, "missed {}, by Vary {}", self.missed, self.missed_by_vary)
+    }
+
+    fn write_responses<W: fmt::Write>(&self, f: &mut fmt::Formatter<W>) -> fmt::Result {
+        writeln!(f, "stored {}", self.stored)?;
+        writeln!(f, "lifetime zero: {}", self.zero_lifetimes)?;
+        writeln!(
+            f,
+            "not storable {}: {}",
+            self.not_storable.all, self.not_storable
+        )?;
+        write!(
+            f,
+            "failed {}, by the browser {}, ",
+            self.failed, self.browser
+        )?;
+        writeln!(f, "stored before {}", self.seeded)
+    }
+}
+
+impl fmt::Display for Summary {
+    fn fmt<W: fmt::Write>(&self, f: &mut fmt::Formatter<W>) -> fmt::Result {
+        self.write_hits(f)?;
+        self.write_validations(f)?;
+        self.write_responses(f)?;
+        writeln!(f, "skipped: {}", self.skipped)?;
+        writeln!(f, "headers assumed of {}", self.assumed)?;
+        if self.sanitized {
+            writeln!(
+                f,
+                "no cookies or credentials are recorded, so hits may be wrong"
+            )?;
+        }
+        Ok(())
+    }
+}
+
+// A stored response was the answer to the request, and wasn't used without validation.
+fn is_validated(verdict: &Verdict) -> bool
+    ensures { result ≡ is_validated (verdict_seen verdict.now) }
+{
+    match &verdict.asked.cause {
+        None => false,
+        Some(Cause::Method | Cause::Target | Cause::Host | Cause::Vary(_)) => false,
+        Some(_) => true,
+    }
+}
+
+// No stored response was the answer to the request.
+fn is_missed(verdict: &Verdict) -> bool
+    ensures { result ≡ is_missed (verdict_seen verdict.now) }
+{
+    match &verdict.asked.cause {
+        None => false,
+        Some(Cause::Method | Cause::Target | Cause::Host | Cause::Vary(_)) => true,
+        Some(_) => false,
+    }
+}
+
+fn is_missed_by_vary(verdict: &Verdict) -> bool
+    ensures { result ≡ is_missed_by_vary (verdict_seen verdict.now) }
+{
+    matches!(&verdict.asked.cause, Some(Cause::Vary(_)))
+}
+
+fn has_come(what: Came, heard: &Heard) -> bool
+    ensures { result ≡ has_come what (heard_seen heard.now) }
+{
+    match what {
+        Came::Updated => matches!(heard, Heard::Updated(_)),
+        Came::Stored => matches!(heard, Heard::Stored(_)),
+        Came::Seeded => matches!(heard, Heard::Seeded(_)),
+        Came::NotStorable => matches!(heard, Heard::NotStorable(_)),
+        Came::Failed => matches!(heard, Heard::Failed),
+        Came::Browser => matches!(heard, Heard::Browser),
+    }
+}
+
+// A validation brought a full answer, which isn't the stored one sent again.
+fn is_changed(verdict: &Verdict) -> bool
+    ensures { result ≡ is_changed (verdict_seen verdict.now) }
+{
+    let stored = has_come(Came::Stored, &verdict.heard);
+    let not_storable = has_come(Came::NotStorable, &verdict.heard);
+    is_validated(verdict) && ((stored || not_storable) && !verdict.unchanged)
+}
+
+fn has_obstacle(what: Obstacle, obstacles: &Obstacles) -> bool
+    ensures { result ≡ has_obstacle what obstacles.now }
+{
+    match what {
+        Obstacle::RequestNoStore => obstacles.request_no_store,
+        Obstacle::Method => obstacles.method,
+        Obstacle::Status => obstacles.status,
+        Obstacle::ResponseNoStore => obstacles.response_no_store,
+        Obstacle::Private => obstacles.private,
+        Obstacle::Authorization => obstacles.authorization,
+        Obstacle::NoPermission => obstacles.no_permission,
+    }
+}
+
+fn is_forbidden_by(what: Obstacle, heard: &Heard) -> bool
+    ensures { result ≡ is_forbidden_by what (heard_seen heard.now) }
+{
+    match heard {
+        Heard::NotStorable(obstacles) => has_obstacle(what, obstacles),
+        _ => false,
+    }
+}
+
+// A number for each source, by which they are told apart.
+fn source_number(source: LifetimeSource) -> u8
+    ensures { result ≡ source_number source }
+{
+    match source {
+        LifetimeSource::NotStorable => 0,
+        LifetimeSource::NoCache => 1,
+        LifetimeSource::OwnCookies => 2,
+        LifetimeSource::VaryAny => 3,
+        LifetimeSource::ProxyRevalidate => 4,
+        LifetimeSource::SMaxage => 5,
+        LifetimeSource::MaxAge => 6,
+        LifetimeSource::UnreadableExpires => 7,
+        LifetimeSource::PastExpires => 8,
+        LifetimeSource::Expires => 9,
+        LifetimeSource::LastModified => 10,
+        LifetimeSource::Immutable => 11,
+        LifetimeSource::Nothing => 12,
+    }
+}
+
+fn gives_zero(why: LifetimeSource, kept: &Kept) -> bool
+    ensures { result ≡ gives_zero why (kept_seen kept.now) }
+{
+    let source = source_number(kept.freshness.source);
+    source_number(why) == source && kept.freshness.lifetime.as_nanos() == 0
+}
+
+fn is_zero_by(why: LifetimeSource, heard: &Heard) -> bool
+    ensures { result ≡ is_zero_by why (heard_seen heard.now) }
+{
+    match heard {
+        Heard::Stored(kept) => gives_zero(why, kept),
+        _ => false,
+    }
+}
+
+/// Whether a verdict is one of those that are counted.
+pub fn has_mark(mark: Mark, verdict: &Verdict) -> bool
+    ensures { result ≡ has_mark mark (verdict_seen verdict.now) }
+{
+    match mark {
+        Mark::Any => true,
+        Mark::Hit => verdict.asked.cause.is_none(),
+        Mark::Missed => is_missed(verdict),
+        Mark::MissedByVary => is_missed_by_vary(verdict),
+        Mark::Validated => is_validated(verdict),
+        Mark::Changed => is_changed(verdict),
+        Mark::Unchanged => verdict.unchanged,
+        Mark::Came(what) => has_come(what, &verdict.heard),
+        Mark::Forbidden(what) => is_forbidden_by(what, &verdict.heard),
+        Mark::Zero(why) => is_zero_by(why, &verdict.heard),
+    }
+}
+
+/// How many verdicts are counted.
+pub fn count_of(mark: Mark, verdicts: &[Verdict]) -> u64
+    ensures { result ≡ count_of mark verdicts.now }
+{
+    verdicts
+        .iter()
+        .filter(|verdict| has_mark(mark, verdict))
+        .count() as u64
+}
+
+// The bytes that came for an entry.
+fn bytes_for(recorded: &[Recorded], walked: &Walked<'_>) -> u64
+    ensures { result ≡ bytes_for recorded.now walked.now }
+{
+    match recorded.get(walked.place) {
+        Some(recorded) => recorded.told.bytes,
+        None => 0,
+    }
+}
+
+fn bytes_if(mark: Mark, recorded: &[Recorded], walked: &Walked<'_>, verdict: &Verdict) -> u64
+    ensures { result ≡ bytes_if mark recorded.now (walked.now, verdict.now) }
+{
+    if has_mark(mark, verdict) {
+        bytes_for(recorded, walked)
+    } else {
+        0
+    }
+}
+
+/// The bytes that came for the entries whose verdicts are counted.
+pub fn bytes_of(
+    mark: Mark,
+    recorded: &[Recorded],
+    walked: &[Walked<'_>],
+    verdicts: &[Verdict],
+) -> u64
+    ensures { result ≡ bytes_of mark recorded.now walked.now verdicts.now }
+{
+    let end = walked.len().min(verdicts.len());
+    let mut sum: u64 = 0;
+    for place in 0..end {
+        sum = sum.saturating_add(bytes_if(mark, recorded, &walked[place], &verdicts[place]));
+    }
+    sum
+}
+
+fn is_same(a: &Walked<'_>, b: &Walked<'_>) -> bool
+    ensures { result ≡ is_same a.now b.now }
+{
+    a.entry.request.method == b.entry.request.method && a.entry.request.uri == b.entry.request.uri
+}
+
+// How many of those before are by the same method for the same target.
+fn earlier_of(before: &[Walked<'_>], walked: &Walked<'_>) -> usize
+    ensures { result ≡ earlier_of before.now walked.now }
+{
+    before
+        .iter()
+        .filter(|earlier| is_same(walked, earlier))
+        .count()
+}
+
+// 1 for a request that repeats another and whose verdict is counted.
+fn repeat_if(mark: Mark, before: &[Walked<'_>], walked: &Walked<'_>, verdict: &Verdict) -> u64
+    ensures { result ≡ repeat_if mark ((before.now, walked.now), verdict.now) }
+{
+    if earlier_of(before, walked) > 0 && has_mark(mark, verdict) {
+        1
+    } else {
+        0
+    }
+}
+
+/// How many requests repeat an earlier one, by method and target, and have their verdicts counted.
+/// It looks through those before each.
+pub fn repeated_of(mark: Mark, walked: &[Walked<'_>], verdicts: &[Verdict]) -> u64
+    ensures { result ≡ repeated_of mark walked.now verdicts.now }
+{
+    let end = walked.len().min(verdicts.len());
+    let mut count: u64 = 0;
+    for place in 0..end {
+        let one = repeat_if(mark, &walked[..place], &walked[place], &verdicts[place]);
+        count = count.saturating_add(one);
+    }
+    count
+}
+
+fn not_storable_of(verdicts: &[Verdict]) -> NotStorable
+    ensures { result ≡ not_storable_of verdicts.now }
+{
+    NotStorable {
+        all: count_of(Mark::Came(Came::NotStorable), verdicts),
+        request_no_store: count_of(Mark::Forbidden(Obstacle::RequestNoStore), verdicts),
+        method: count_of(Mark::Forbidden(Obstacle::Method), verdicts),
+        status: count_of(Mark::Forbidden(Obstacle::Status), verdicts),
+        response_no_store: count_of(Mark::Forbidden(Obstacle::ResponseNoStore), verdicts),
+        private: count_of(Mark::Forbidden(Obstacle::Private), verdicts),
+        authorization: count_of(Mark::Forbidden(Obstacle::Authorization), verdicts),
+        no_permission: count_of(Mark::Forbidden(Obstacle::NoPermission), verdicts),
+    }
+}
+
+fn zero_lifetimes_of(verdicts: &[Verdict]) -> ZeroLifetimes
+    ensures { result ≡ zero_lifetimes_of verdicts.now }
+{
+    ZeroLifetimes {
+        no_cache: count_of(Mark::Zero(LifetimeSource::NoCache), verdicts),
+        own_cookies: count_of(Mark::Zero(LifetimeSource::OwnCookies), verdicts),
+        vary_any: count_of(Mark::Zero(LifetimeSource::VaryAny), verdicts),
+        proxy_revalidate: count_of(Mark::Zero(LifetimeSource::ProxyRevalidate), verdicts),
+        s_maxage: count_of(Mark::Zero(LifetimeSource::SMaxage), verdicts),
+        max_age: count_of(Mark::Zero(LifetimeSource::MaxAge), verdicts),
+        unreadable_expires: count_of(Mark::Zero(LifetimeSource::UnreadableExpires), verdicts),
+        past_expires: count_of(Mark::Zero(LifetimeSource::PastExpires), verdicts),
+        last_modified: count_of(Mark::Zero(LifetimeSource::LastModified), verdicts),
+        immutable: count_of(Mark::Zero(LifetimeSource::Immutable), verdicts),
+        nothing: count_of(Mark::Zero(LifetimeSource::Nothing), verdicts),
+    }
+}
+
+fn is_skip(kind: SkipKind, why: &Skip) -> bool
+    ensures { result ≡ is_skip kind (skip_seen why.now) }
+{
+    match kind {
+        SkipKind::NoRequest => matches!(why, Skip::NoRequest),
+        SkipKind::Scheme => matches!(why, Skip::Scheme(_)),
+        SkipKind::NoTarget => matches!(why, Skip::NoTarget),
+        SkipKind::Connect => matches!(why, Skip::Connect),
+        SkipKind::Upgrade => matches!(why, Skip::Upgrade),
+        SkipKind::ServiceWorker => matches!(why, Skip::ServiceWorker),
+        SkipKind::NoMoment => matches!(why, Skip::NoMoment),
+        SkipKind::TooManyHeaders => matches!(why, Skip::TooManyHeaders),
+    }
+}
+
+fn is_skipped_for(kind: SkipKind, reading: &Reading) -> bool
+    ensures { result ≡ is_skipped_for kind (reading_seen reading.now) }
+{
+    match reading {
+        Reading::Entry(_) => false,
+        Reading::Skipped(why) => is_skip(kind, why),
+    }
+}
+
+fn skips_of(kind: SkipKind, recorded: &[Recorded]) -> u64
+    ensures { result ≡ skips_of kind recorded.now }
+{
+    recorded
+        .iter()
+        .filter(|recorded| is_skipped_for(kind, &recorded.reading))
+        .count() as u64
+}
+
+fn skipped_of(recorded: &[Recorded]) -> Skipped
+    ensures { result ≡ skipped_of recorded.now }
+{
+    Skipped {
+        no_request: skips_of(SkipKind::NoRequest, recorded),
+        scheme: skips_of(SkipKind::Scheme, recorded),
+        no_target: skips_of(SkipKind::NoTarget, recorded),
+        connect: skips_of(SkipKind::Connect, recorded),
+        upgrade: skips_of(SkipKind::Upgrade, recorded),
+        service_worker: skips_of(SkipKind::ServiceWorker, recorded),
+        no_moment: skips_of(SkipKind::NoMoment, recorded),
+        too_many_headers: skips_of(SkipKind::TooManyHeaders, recorded),
+    }
+}
+
+fn assumed_of(walked: &[Walked<'_>]) -> u64
+    ensures { result ≡ assumed_of walked.now }
+{
+    walked
+        .iter()
+        .filter(|walked| walked.assumed.is_some())
+        .count() as u64
+}
+
+fn sets_cookies(answer: &Answer) -> bool
+    ensures { result ≡ sets_cookies (answer_seen answer.now) }
+{
+    match answer {
+        Answer::Failed => false,
+        Answer::Cached(response) | Answer::Received(response) => {
+            contains_key(&response.headers, SET_COOKIE)
+        }
+    }
+}
+
+// An entry has headers that an export that is sanitized leaves out.
+fn is_private(reading: &Reading) -> bool
+    ensures { result ≡ is_private (reading_seen reading.now) }
+{
+    match reading {
+        Reading::Entry(entry) => {
+            contains_key(&entry.request.headers, COOKIE)
+                || (contains_key(&entry.request.headers, AUTHORIZATION)
+                    || sets_cookies(&entry.answer))
+        }
+        Reading::Skipped(_) => false,
+    }
+}
+
+#[tactic(auto, unfolding(crate::specs::Summary::has_private))]
+fn has_private(recorded: &Recorded) -> bool
+    ensures { result ≡ has_private recorded.now }
+{
+    is_private(&recorded.reading)
+}
+
+fn any_private(recorded: &[Recorded]) -> bool
+    ensures { result ≡ any_private recorded.now }
+{
+    recorded.iter().any(|recorded| has_private(recorded))
+}
+
+/// The summary of an audit: of a recording, its entries on the walk and their verdicts.
+pub fn summary_of(recorded: &[Recorded], walked: &[Walked<'_>], verdicts: &[Verdict]) -> Summary
+    ensures requests { result.requests ≡ count_of Mark.Any verdicts.now }
+    ensures hits { result.hits ≡ count_of Mark.Hit verdicts.now }
+    ensures repeated { result.repeated ≡ repeated_of Mark.Any walked.now verdicts.now }
+    ensures repeated_hits { result.repeated_hits
+        ≡ repeated_of Mark.Hit walked.now verdicts.now }
+    ensures bytes { result.bytes ≡ bytes_of Mark.Any recorded.now walked.now verdicts.now }
+    ensures hit_bytes { result.hit_bytes ≡ bytes_of Mark.Hit recorded.now walked.now verdicts.now }
+    ensures validated { result.validated ≡ count_of Mark.Validated verdicts.now }
+    ensures updated { result.updated ≡ count_of (Mark.Came Came.Updated) verdicts.now }
+    ensures changed { result.changed ≡ count_of Mark.Changed verdicts.now }
+    ensures unchanged { result.unchanged ≡ count_of Mark.Unchanged verdicts.now }
+    ensures unchanged_bytes { result.unchanged_bytes
+        ≡ bytes_of Mark.Unchanged recorded.now walked.now verdicts.now }
+    ensures missed { result.missed ≡ count_of Mark.Missed verdicts.now }
+    ensures missed_by_vary { result.missed_by_vary ≡ count_of Mark.MissedByVary verdicts.now }
+    ensures stored { result.stored ≡ count_of (Mark.Came Came.Stored) verdicts.now }
+    ensures not_storable { result.not_storable ≡ not_storable_of verdicts.now }
+    ensures zero_lifetimes { result.zero_lifetimes ≡ zero_lifetimes_of verdicts.now }
+    ensures failed { result.failed ≡ count_of (Mark.Came Came.Failed) verdicts.now }
+    ensures browser { result.browser ≡ count_of (Mark.Came Came.Browser) verdicts.now }
+    ensures seeded { result.seeded ≡ count_of (Mark.Came Came.Seeded) verdicts.now }
+    ensures skipped { result.skipped ≡ skipped_of recorded.now }
+    ensures assumed { result.assumed ≡ assumed_of walked.now }
+    ensures sanitized { result.sanitized ≡ not (any_private recorded.now) }
+{
+    Summary {
+        requests: count_of(Mark::Any, verdicts),
+        hits: count_of(Mark::Hit, verdicts),
+        repeated: repeated_of(Mark::Any, walked, verdicts),
+        repeated_hits: repeated_of(Mark::Hit, walked, verdicts),
+        bytes: bytes_of(Mark::Any, recorded, walked, verdicts),
+        hit_bytes: bytes_of(Mark::Hit, recorded, walked, verdicts),
+        validated: count_of(Mark::Validated, verdicts),
+        updated: count_of(Mark::Came(Came::Updated), verdicts),
+        changed: count_of(Mark::Changed, verdicts),
+        unchanged: count_of(Mark::Unchanged, verdicts),
+        unchanged_bytes: bytes_of(Mark::Unchanged, recorded, walked, verdicts),
+        missed: count_of(Mark::Missed, verdicts),
+        missed_by_vary: count_of(Mark::MissedByVary, verdicts),
+        stored: count_of(Mark::Came(Came::Stored), verdicts),
+        not_storable: not_storable_of(verdicts),
+        zero_lifetimes: zero_lifetimes_of(verdicts),
+        failed: count_of(Mark::Came(Came::Failed), verdicts),
+        browser: count_of(Mark::Came(Came::Browser), verdicts),
+        seeded: count_of(Mark::Came(Came::Seeded), verdicts),
+        skipped: skipped_of(recorded),
+        assumed: assumed_of(walked),
+        sanitized: !any_private(recorded),
+    }
+}

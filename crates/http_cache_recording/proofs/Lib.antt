@@ -1,0 +1,4 @@
+-- The lemmas of recordings.
+pub mod FieldLemmas
+pub mod MendLemmas
+pub mod ToldLemmas

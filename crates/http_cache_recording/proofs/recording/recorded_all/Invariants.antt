@@ -1,0 +1,10 @@
+-- The entries so far are those of the values before the one at hand.
+use Rattle.std.proofs.Common.{map, take}
+use Rattle.std.specs.List.{AllZip}
+use Rattle.serde_json.specs.View.{view}
+use Rattle.http_cache_recording.specs.Entry.{recorded_seen}
+use Rattle.http_cache_recording.specs.Element.{IsRecorded}
+use Rattle.http_cache_recording.proofs.recording.recorded_all.Given as goal
+
+abbrev pub invariant-loop-value : goal.invariant-loop-value
+invariant-loop-value l = AllZip IsRecorded (map view (take l.value-index l.values)) (map recorded_seen l.all.items)

@@ -1,0 +1,9 @@
+pub mod Entry
+pub mod Mend
+pub mod Number
+pub mod Moment
+pub mod Target
+pub mod Fields
+pub mod Told
+pub mod Element
+pub mod Recording
