@@ -12,6 +12,7 @@ pub mod session;
 mod shelf;
 mod shelves;
 pub mod summary;
+mod target;
 pub mod tell;
 pub mod walk;
 pub mod words;

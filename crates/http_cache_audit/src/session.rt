@@ -12,6 +12,7 @@ ghost use Rattle.http_cache_audit.specs.Session.{source_of, value_from, supposed
 ghost use Rattle.http_cache_audit.specs.Session.{supposed, assumed_seen, assuming, assumed_by, session_seen};
 ghost use Rattle.http_cache_audit.specs.Session.{session_by, session_after, IsSession};
 
+use crate::target::is_same_target;
 use crate::walk::{Assumed, Walked};
 use http::{HeaderMap, HeaderName, HeaderValue, Uri, request, response};
 use http_cache_fields::headers::{contains_key, copy_of_map, has_same_first, insert};
@@ -134,7 +135,7 @@ fn is_alike(by: Alike, entry: &Entry, other: &Entry) -> bool
 {
     is_asked_for(&other.answer)
         && match by {
-            Alike::Target => entry.request.uri == other.request.uri,
+            Alike::Target => is_same_target(&entry.request.uri, &other.request.uri),
             Alike::Host => has_same_first(&entry.request.headers, &other.request.headers, &HOST),
         }
 }

@@ -13,6 +13,7 @@ ghost use Rattle.http_cache_audit.specs.Summary.{assumed_of, sets_cookies, is_pr
 
 use crate::asked::Cause;
 use crate::heard::{Heard, Kept};
+use crate::target::is_same_target;
 use crate::walk::{Verdict, Walked};
 use http::header::{AUTHORIZATION, COOKIE, SET_COOKIE};
 use http_cache_fields::headers::contains_key;
@@ -547,7 +548,8 @@ pub fn bytes_of(
 fn is_same(a: &Walked<'_>, b: &Walked<'_>) -> bool
     ensures { result ≡ is_same a.now b.now }
 {
-    a.entry.request.method == b.entry.request.method && a.entry.request.uri == b.entry.request.uri
+    a.entry.request.method == b.entry.request.method
+        && is_same_target(&a.entry.request.uri, &b.entry.request.uri)
 }
 
 // How many of those before are by the same method for the same target.
@@ -564,7 +566,7 @@ fn earlier_of(before: &[Walked<'_>], walked: &Walked<'_>) -> usize
 fn repeat_if(mark: Mark, before: &[Walked<'_>], walked: &Walked<'_>, verdict: &Verdict) -> u64
     ensures { result ≡ repeat_if mark ((before.now, walked.now), verdict.now) }
 {
-    if earlier_of(before, walked) > 0 && has_mark(mark, verdict) {
+    if has_mark(mark, verdict) && earlier_of(before, walked) > 0 {
         1
     } else {
         0
