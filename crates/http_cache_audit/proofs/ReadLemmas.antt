@@ -1,5 +1,5 @@
 -- What a reader has left, by its front.
-use Rattle.std.proofs.Common.{◌≡◌, ◌<◌, ◌≤◌, ◌+◌, ◌∙◌, ◌++◌, ℕ, min, List, [], Option, Some, None, option_map, length, take, arith, ap, sym, IfSome}
+use Rattle.std.proofs.Common.{◌≡◌, ◌<◌, ◌≤◌, ◌+◌, ◌∙◌, ◌++◌, ℕ, min, List, [], Option, Some, None, option_map, length, take, arith, ap, IfSome}
 use Rattle.std.proofs.lemmas.List.{length-take, take_all}
 
 -- it is longer than a number where its front is

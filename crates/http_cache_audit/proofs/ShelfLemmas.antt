@@ -1,6 +1,6 @@
 -- What goes and what stays of what is stored.
 use Rattle.std.proofs.Common.{◌≡◌, ℕ, zero, suc, List, [], ◌∷◌, Bool, true, false, not, cond, Option, Some, None}
-use Rattle.std.proofs.Common.{◌||◌, ◌&&◌, ◌≤◌, ◌+◌, length, option_map, if◌then◌else◌, codes, is_some, filter, find, position, slice_get, remove, drop, refl, sym, ◌∙◌, true≢false}
+use Rattle.std.proofs.Common.{◌||◌, ◌&&◌, if◌then◌else◌, codes, is_some, filter, find, position, slice_get, remove, drop, refl, sym, ◌∙◌}
 use Rattle.http_cache_semantics.proofs.PlaceLemmas.{position-here, position-further, one_further-None}
 use Rattle.http_cache_semantics.specs.Headers.{first_text_under}
 use Rattle.http_cache_semantics.specs.Messages.{ResponseSeen}

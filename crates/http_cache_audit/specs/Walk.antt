@@ -1,5 +1,5 @@
 -- What a cache would have answered to the requests of a session, one after the other.
-use Rattle.std.specs.Prelude.{◌≡◌, ℕ, ℤ, int_le, Bool, false, not, ◌&&◌, nat_lt, List, [], ◌∷◌, ◌++◌, codes, filter, fold}
+use Rattle.std.specs.Prelude.{ℤ, int_le, Bool, false, not, ◌&&◌, nat_lt, List, [], ◌∷◌, ◌++◌, codes, filter, fold}
 use Rattle.std.specs.Prelude.{Option, is_some, if◌then◌else◌, option_map, option_and_then, unwrap_or}
 use Rattle.std.specs.Option.{option_map_or}
 use Rattle.std.specs.Result.{result_ok}

@@ -12,9 +12,9 @@ ghost use Rattle.http_cache_audit.specs.Session.{source_of, value_from, supposed
 ghost use Rattle.http_cache_audit.specs.Session.{supposed, assumed_seen, assuming, assumed_by, session_seen};
 ghost use Rattle.http_cache_audit.specs.Session.{session_by, session_after, IsSession};
 
-use crate::target::is_same_target;
+use crate::target::{copy_of_target, is_same_target};
 use crate::walk::{Assumed, Walked};
-use http::{HeaderMap, HeaderName, HeaderValue, Uri, request, response};
+use http::{HeaderMap, HeaderName, HeaderValue, request, response};
 use http_cache_fields::headers::{contains_key, copy_of_map, has_same_first, insert};
 use http_cache_fields::pieces::pieces_under;
 use http_cache_recording::{Answer, Entry, Reading, Recorded};
@@ -293,12 +293,6 @@ fn suppose(
         add_piece(alloc, &mut supposed, sources, piece)?;
     }
     Ok(supposed)
-}
-
-fn copy_of_target(target: &Uri) -> Result<Uri, AllocError>
-    ensures { IfOk result (λ copy. copy ≡ target.now) }
-{
-    target.clone()
 }
 
 // The request with those headers, where there are some.

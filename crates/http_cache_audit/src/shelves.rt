@@ -3,6 +3,7 @@ ghost use Rattle.std.specs.Prelude.{◌≡◌, [], cond, true, false, None, Some
 ghost use Rattle.indexmap.specs.IndexMap.{get};
 ghost use Rattle.http_cache_audit.specs.Key.{key_in};
 
+use crate::target::copy_of_target;
 use http::{Method, Uri, request};
 use http_cache_semantics::{CacheError, Variants};
 use indexmap::IndexMap;
@@ -14,12 +15,6 @@ use std::hash::Hash;
 pub(crate) struct Key {
     method: Method,
     target: Uri,
-}
-
-fn copy_of_target(target: &Uri) -> Result<Uri, AllocError>
-    ensures { IfOk result (λ copy. copy ≡ target.now) }
-{
-    target.clone()
 }
 
 /// The method and the target of a request.

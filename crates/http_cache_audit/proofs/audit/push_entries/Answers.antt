@@ -1,5 +1,5 @@
 -- One line more.
-use Rattle.std.proofs.Common.{rules, ◌≡◌, ◌∙◌, ◌<◌, ◌≤◌, ◌+◌, suc, min, refl, ap, map, slice_get, Some, option_map, length, add-one, string_bytes, arith}
+use Rattle.std.proofs.Common.{rules, ◌≡◌, ◌∙◌, ◌≤◌, ◌+◌, suc, min, refl, ap, map, slice_get, Some, option_map, length, add-one, string_bytes}
 use Rattle.std.proofs.lemmas.List.{length-map}
 use Rattle.std.proofs.lemmas.Option.{slice_get-map, slice_get_read}
 use Rattle.http_cache_recording.specs.Entry.{recorded_seen}

@@ -1,5 +1,5 @@
 -- Without a validator none is named; else the first that is renewed is the first that is.
-use Rattle.std.proofs.Common.{◌≡◌, false, sym, ◌∙◌, refl, find, Some, None, add-one}
+use Rattle.std.proofs.Common.{◌≡◌, sym, ◌∙◌, refl, find, Some, None, add-one}
 use Rattle.http_cache_audit.specs.Shelf.{arrival_seen, renewal, names}
 use Rattle.http_cache_semantics.specs.Messages.{response_seen}
 use Rattle.http_cache_audit.proofs.ShelfLemmas.{unnamed, find-passed, find-reached, not-named, named}

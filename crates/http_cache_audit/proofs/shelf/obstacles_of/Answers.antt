@@ -1,8 +1,7 @@
 -- What is told to forbid is all that does.
-use Rattle.std.proofs.Common.{rules, ◌≡◌, false, sym, ap, Some, ◌∙◌, refl}
+use Rattle.std.proofs.Common.{◌≡◌, false, sym, ap, ◌∙◌, refl}
 use Rattle.http_cache_semantics.specs.Storing.{is_storable}
-use Rattle.http_cache_semantics.specs.Storability.{storability, permission, obstacles, is_allowed}
-use Rattle.http_cache_semantics.specs.declared.explain.Storability.TheVariants.{Forbidden}
+use Rattle.http_cache_semantics.specs.Storability.{obstacles, is_allowed}
 use Rattle.http_cache_audit.proofs.ShelfLemmas.{told}
 use Rattle.http_cache_audit.proofs.shelf.obstacles_of.Goals as goal
 

@@ -1,5 +1,5 @@
 -- One goes that is the answer, until none is.
-use Rattle.std.proofs.Common.{rules, ◌≡◌, ◌∙◌, sym, ap, not, false, true, Some, None, slice_get}
+use Rattle.std.proofs.Common.{◌∙◌, sym, ap, not}
 use Rattle.http_cache_semantics.specs.Messages.{request_seen}
 use Rattle.http_cache_semantics.specs.Match.{request_matches}
 use Rattle.http_cache_semantics.proofs.PlaceLemmas.{find-at, position-passes}

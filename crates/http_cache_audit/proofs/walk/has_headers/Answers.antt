@@ -1,5 +1,5 @@
 -- Its length is the count of its values.
-use Rattle.std.proofs.Common.{sym, refl}
+use Rattle.std.proofs.Common.{refl}
 use Rattle.http_cache_fields.proofs.HeadersLemmas.{value_count-headers_of}
 use Rattle.http_cache_audit.proofs.walk.has_headers.Goals as goal
 

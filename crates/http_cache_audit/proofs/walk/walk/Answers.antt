@@ -4,7 +4,7 @@ use Rattle.std.proofs.lemmas.List.{map-append}
 use Rattle.std.proofs.lemmas.Option.{slice_get-map, slice_get_read}
 use Rattle.http_cache_semantics.specs.Options.{options_of}
 use Rattle.http_cache_semantics.specs.Exchange.{Exchange}
-use Rattle.http_cache_audit.specs.Walk.{walked_seen, verdict_seen, verdict_among, key_of, stored_under, verdicts_after}
+use Rattle.http_cache_audit.specs.Walk.{walked_seen, verdict_seen, verdict_among, key_of, verdicts_after}
 use Rattle.http_cache_audit.proofs.WalkLemmas.{take-at, shelf-next, told-next}
 use Rattle.http_cache_audit.proofs.walk.walk.Goals as goal
 
