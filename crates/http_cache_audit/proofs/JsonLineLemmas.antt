@@ -6,7 +6,7 @@ use Rattle.std.specs.Cmp.Lexicographic.{slice_cmp}
 use Rattle.serde_json.specs.Data.{Data, string, Members, no_members, member, put}
 use Rattle.serde_json.specs.View.{items_of}
 use Rattle.serde_json.specs.Written.{has_float, items_have_float, members_have_float}
-use Rattle.http_cache_audit.specs.JsonLine.{Shown, text, count, texts, shown_data, Named, with_member, with_members}
+use Rattle.http_cache_audit.specs.JsonLine.{Shown, text, count, texts, yes, shown_data, Named, with_member, with_members}
 
 both_false : (a b : Bool) → a ≡ false → b ≡ false → (a || b) ≡ false
 both_false false b h k = k
@@ -28,6 +28,7 @@ shown-plain : (s : Shown) → has_float (shown_data s) ≡ false
 shown-plain (text t) = refl
 shown-plain (count n) = refl
 shown-plain (texts ts) = texts-plain ts
+shown-plain yes = refl
 
 either-plain : (o : Ordering) (a b c : Members) → members_have_float a ≡ false → members_have_float b ≡ false
     → members_have_float c ≡ false → members_have_float (match_ordering o a b c) ≡ false

@@ -1,10 +1,8 @@
 -- Sums that stop at a greatest number.
-use Rattle.std.proofs.Common.{arith, ◌≡◌, ◌≤◌, ◌∙◌, ℕ, zero, suc, ◌+◌, List, [], ◌∷◌, ◌++◌, min, Some, refl, slice_get, take, length, sym, ap, add-one}
+use Rattle.std.proofs.Common.{arith, ◌≡◌, ◌≤◌, ◌∙◌, ℕ, ◌+◌, List, min, Some, slice_get, take, length, sym, ap, add-one}
 use Rattle.std.specs.Prelude.{sum_by}
-use Rattle.std.proofs.lemmas.List.{take_all, append_assoc, append-nil}
+use Rattle.std.proofs.lemmas.List.{take_all}
 use Rattle.std.proofs.lemmas.List.Sums.{sum_by_push}
-use Rattle.http_cache_audit.specs.declared.walk.Walked.{Walked}
-use Rattle.http_cache_audit.specs.Summary.{with_before}
 use Rattle.http_cache_audit.proofs.WalkLemmas.{take-at}
 
 -- one more of the list
@@ -28,19 +26,3 @@ stopped-next f xs k x s more most at is so_far =
 pub sum-whole : {X : Type 0} (f : X → ℕ) (xs : List X) (k : ℕ) → length xs ≤ k
     → sum_by f (take k xs) ≡ sum_by f xs
 sum-whole f xs k past = ap (sum_by f) (take_all k xs past)
-
--- ---- those before each
-
-pub with_before-at : (before ws : List Walked) (k : ℕ) (w : Walked) → slice_get ws k ≡ Some w
-    → slice_get (with_before before ws) k ≡ Some (before ++ take k ws, w)
-with_before-at before [] k w at = cc
-with_before-at before (x ∷ ws) zero w at =
-    let same : x ≡ w = cc in
-    rw (append-nil before, same) refl
-with_before-at before (x ∷ ws) (suc k) w at =
-    with_before-at (before ++ x ∷ []) ws k w at
-    ∙ ap (λ (front : List Walked). Some (front, w)) (append_assoc before (x ∷ []) (take k ws))
-
-pub length-with_before : (before ws : List Walked) → length (with_before before ws) ≡ length ws
-length-with_before before [] = refl
-length-with_before before (x ∷ ws) = ap (λ (n : ℕ). suc n) (length-with_before (before ++ x ∷ []) ws)

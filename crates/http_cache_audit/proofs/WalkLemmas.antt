@@ -1,5 +1,5 @@
 -- What is stored under each key, and what is told, entry by entry.
-use Rattle.std.proofs.Common.{◌≡◌, ℕ, zero, suc, List, [], ◌∷◌, ◌++◌, Bool, true, false, cond, Option, Some, unwrap_or}
+use Rattle.std.proofs.Common.{◌≡◌, ℕ, zero, suc, List, [], ◌∷◌, ◌++◌, Bool, true, false, ◌||◌, cond, Option, Some, is_some, unwrap_or}
 use Rattle.std.proofs.Common.{filter, fold, slice_get, take, drop, refl, sym, ap, ◌∙◌}
 use Rattle.std.specs.Cmp.{IsEquivalence}
 use Rattle.std.specs.Cmp.Lexicographic.{nat_list_eq_equiv}
@@ -12,7 +12,7 @@ use Rattle.http_cache_semantics.specs.Options.{Options}
 use Rattle.http_cache_semantics.specs.Exchange.{Exchange}
 use Rattle.http_cache_audit.specs.declared.shelves.Key.{Key}
 use Rattle.http_cache_audit.specs.Key.{key_eq}
-use Rattle.http_cache_audit.specs.Walk.{WalkedSeen, VerdictSeen, key_of, step, stored_under, verdicts_after, verdict_among}
+use Rattle.http_cache_audit.specs.Walk.{WalkedSeen, VerdictSeen, key_of, step, is_known, stored_under, verdicts_after, verdict_among}
 
 -- ---- lists up to a place and from it on
 
@@ -80,7 +80,26 @@ pub shelf-put : (b : Bool) (new mid old : Option (List Exchange)) (es : List Exc
 shelf-put true new mid old es is others = rw is refl
 shelf-put false new mid old es is others = rw (is, others refl) refl
 
+-- what is put under a key is there, and so is what was elsewhere
+pub known-put : (b : Bool) (new mid old : Option (List Exchange)) (es : List Exchange)
+    → new ≡ cond b (Some es) mid → (b ≡ false → mid ≡ old) → is_some new ≡ (b || is_some old)
+known-put true new mid old es is others = rw is refl
+known-put false new mid old es is others = rw (is, others refl) refl
+
 -- ---- one entry more
+
+or-swap : (a b c : Bool) → (a || (b || c)) ≡ (b || (a || c))
+or-swap true true c = refl
+or-swap true false c = refl
+or-swap false b c = refl
+
+-- one entry more is known by its key
+pub known-next : (ws : List WalkedSeen) (w : WalkedSeen) (key : Key)
+    → (key_eq (key_of w) key || is_known ws key) ≡ is_known (ws ++ w ∷ []) key
+known-next [] w key = rw (key_laws.symm (key_of w) key) refl
+known-next (v ∷ ws) w key =
+    or-swap (key_eq (key_of w) key) (key_eq key (key_of v)) (is_known ws key)
+    ∙ ap (λ (b : Bool). key_eq key (key_of v) || b) (known-next ws w key)
 
 shelf-next_step : (o : Options) (ws : List WalkedSeen) (w : WalkedSeen) (key : Key) (b : Bool)
     → key_eq (key_of w) key ≡ b
@@ -101,10 +120,11 @@ shelf-next o ws w key here there is others =
 
 -- what is told with one verdict more, and what is left to tell
 pub told-next : (o : Options) (ws : List WalkedSeen) (k : ℕ) (w : WalkedSeen) (all told : List VerdictSeen) (v : VerdictSeen)
-    → slice_get ws k ≡ Some w → v ≡ verdict_among o (stored_under o (take k ws) (key_of w)) w
+    → slice_get ws k ≡ Some w
+    → v ≡ verdict_among o (is_known (take k ws) (key_of w)) (stored_under o (take k ws) (key_of w)) w
     → told ++ verdicts_after o (take k ws) (drop k ws) ≡ all
     → (told ++ v ∷ []) ++ verdicts_after o (take (suc k) ws) (drop (suc k) ws) ≡ all
 told-next o ws k w all told v at is so_far =
     rw (take-at ws k w at, is)
-    (append_assoc told (verdict_among o (stored_under o (take k ws) (key_of w)) w ∷ []) _
+    (append_assoc told (verdict_among o (is_known (take k ws) (key_of w)) (stored_under o (take k ws) (key_of w)) w ∷ []) _
     ∙ (sym (ap (λ (left : List WalkedSeen). told ++ verdicts_after o (take k ws) left) (drop-at ws k w at)) ∙ so_far))

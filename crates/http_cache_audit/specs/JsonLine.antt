@@ -1,7 +1,7 @@
 -- The JSON object of a line.
 use Rattle.std.specs.Prelude.{ℕ, ◌-◌, List, [], ◌∷◌, map, codes, Option, Some, None, option_map, option_and_then}
-use Rattle.std.specs.Prelude.{if◌then◌else◌, string_bytes}
-use Rattle.serde_json.specs.Data.{Data, number, string, array, object, unsigned, Members, no_members, put}
+use Rattle.std.specs.Prelude.{Bool, true, false, if◌then◌else◌, string_bytes}
+use Rattle.serde_json.specs.Data.{Data, boolean, number, string, array, object, unsigned, Members, no_members, put}
 use Rattle.serde_json.specs.View.{items_of}
 use Rattle.http_cache_semantics.specs.Freshness.{Sourced}
 use Rattle.http_cache_semantics.specs.Reason.{ReasonSeen, ExplanationSeen, is_mismatch}
@@ -13,17 +13,19 @@ use Rattle.http_cache_audit.specs.Walk.{VerdictSeen}
 use Rattle.http_cache_audit.specs.Words.{whole_seconds, verdict_word, heard_word, source_word, skip_words}
 use Rattle.http_cache_audit.specs.Words.{why_words, reasons, kept_in, is_miss}
 
--- what stands under a name: a text, a whole number or a list of texts
+-- what stands under a name: a text, a whole number, a list of texts or `true`
 pub data Shown : Type 0 where
   text : List ℕ → Shown
   count : ℕ → Shown
   texts : List (List ℕ) → Shown
+  yes : Shown
 
 -- the same as JSON
 abbrev pub shown_data : Shown → Data
 shown_data (text t) = string t
 shown_data (count n) = number (unsigned n)
 shown_data (texts ts) = array (items_of (map string ts))
+shown_data yes = boolean true
 
 -- a name, and what stands under it, if something does
 abbrev pub Named : Type 0
@@ -114,16 +116,23 @@ assumed_shown why names = if is_miss why then None else option_and_then some_tex
 abbrev pub assumed_names : Walked → Option (List (List ℕ))
 assumed_names w = option_map (λ a. map string_bytes a.names.items) w.assumed
 
+-- a full answer came though a 304 would have done
+abbrev pub unchanged_shown : Bool → Option Shown
+unchanged_shown true = Some yes
+unchanged_shown false = None
+
 -- ---- the objects
 
--- that of an audited entry at a place, by the method of its request and the names that are assumed of it
-unfoldable pub json_of : ℕ → ToldSeen → List ℕ → Option (List (List ℕ)) → VerdictSeen → Data
-json_of place t method names v =
+-- that of an audited entry at a place, by the method of its request, the names that are assumed of it, and hints
+unfoldable pub json_of : ℕ → ToldSeen → List ℕ → Option (List (List ℕ)) → List (List ℕ) → VerdictSeen → Data
+json_of place t method names hints v =
     let told = with_members (told_members place t) no_members in
     let asked = with_members (asked_members v.asked) told in
     let heard = with_members (heard_members method t.status v.heard) asked in
-    let assumed = with_member (codes "assumed") (assumed_shown v.asked.reason names) heard in
-    object (with_member (codes "bytes") (Some (count t.bytes)) assumed)
+    let unchanged = with_member (codes "unchanged") (unchanged_shown v.unchanged) heard in
+    let assumed = with_member (codes "assumed") (assumed_shown v.asked.reason names) unchanged in
+    let hinted = with_member (codes "hints") (some_texts hints) assumed in
+    object (with_member (codes "bytes") (Some (count t.bytes)) hinted)
 
 -- that of an entry that isn't audited
 unfoldable pub json_of_skip : ℕ → ToldSeen → SkipSeen → Data

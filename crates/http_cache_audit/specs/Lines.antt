@@ -8,13 +8,14 @@ use Rattle.http_cache_audit.specs.declared.walk.Walked.{Walked}
 use Rattle.http_cache_audit.specs.Walk.{walked_seen, VerdictSeen, verdicts}
 use Rattle.http_cache_audit.specs.Session.{IsSession, session_seen}
 use Rattle.http_cache_audit.specs.Words.{verdict_word}
+use Rattle.http_cache_audit.specs.Lint.{hints_of}
 use Rattle.http_cache_audit.specs.JsonLine.{json_of, json_of_skip, assumed_names}
 use Rattle.http_cache_audit.specs.Tell.{IsLineBehind, request_text}
 
 -- the line of an entry that was audited, as an object or plain, behind a text
 abbrev pub IsEntryLine : Bool → ToldSeen → Walked → VerdictSeen → List ℕ → List ℕ → Type 0
 IsEntryLine true t w v before after =
-    after ≡ before ++ compact_text (json_of w.place t (walked_seen w).entry.request.method (assumed_names w) v) ++ codes "\n"
+    after ≡ before ++ compact_text (json_of w.place t (walked_seen w).entry.request.method (assumed_names w) (hints_of (walked_seen w).entry) v) ++ codes "\n"
 IsEntryLine false t w v before after = IsLineBehind (verdict_word v.asked.reason) (request_text t) before after
 
 -- the line of an entry that wasn't
@@ -53,7 +54,7 @@ AreSkipLines json place (r ∷ rs) before after =
 abbrev pub IsBehind : List ℕ → List ℕ → Type 0
 IsBehind before after = (told : List ℕ) × (after ≡ before ++ told)
 
--- behind plain lines stand hints and a summary, of which no definition tells the words
+-- behind plain lines stand hints, a summary and examples, of which no definition tells the words
 abbrev pub IsEnd : Bool → List ℕ → List ℕ → Type 0
 IsEnd true lines text = text ≡ lines
 IsEnd false lines text = IsBehind lines text

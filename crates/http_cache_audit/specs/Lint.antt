@@ -1,5 +1,5 @@
 -- What looks wrong in a response, though the rules of caching give it a meaning.
-use Rattle.std.specs.Prelude.{ℕ, ℤ, ◌-ℤ◌, ◌==◌, pos, int_lt, Bool, false, not, ◌&&◌, ◌||◌, List, [], ◌∷◌}
+use Rattle.std.specs.Prelude.{ℕ, ℤ, ◌-ℤ◌, ◌==◌, pos, int_lt, Bool, true, false, not, ◌&&◌, ◌||◌, List, [], ◌∷◌, ◌++◌}
 use Rattle.std.specs.Prelude.{codes, bytes_eq, nat_eq, option_and_then}
 use Rattle.std.specs.List.{find, list_any, before_first}
 use Rattle.std.specs.Option.{option_map_or}
@@ -7,9 +7,12 @@ use Rattle.std.specs.Result.{result_ok}
 use Rattle.std.specs.Char.{is_ascii_uppercase}
 use Rattle.jiff_fmt.specs.Rfc2822.{timestamp}
 use Rattle.http_cache_fields.specs.Text.{is_equals}
-use Rattle.http_cache_fields.specs.Headers.{Headers, first_text_under}
+use Rattle.http_cache_fields.specs.Headers.{Headers, contains_key, first_text_under}
 use Rattle.http_cache_fields.specs.Pieces.{pieces_under}
 use Rattle.http_cache_fields.specs.Directives.{name_of, raw_value_of, same_value}
+use Rattle.http_cache_recording.specs.Entry.{EntrySeen, AnswerSeen, failed, cached}
+use Rattle.http_cache_recording.specs.Entry.{received as came}
+use Rattle.http_cache_audit.specs.declared.lint.Lint.{Lint}
 
 -- the pieces of the Cache-Control lines
 abbrev pub cache_pieces : Headers → List (List ℕ)
@@ -52,3 +55,37 @@ abbrev pub is_dated_before : ℤ → Headers → Bool
 is_dated_before received h =
     option_map_or (λ date. int_lt (pos 60_000_000_000) (received -ℤ date))
     (option_and_then (λ text. result_ok (timestamp false text)) (first_text_under h (codes "date"))) false
+
+-- what looks wrong in a response
+abbrev pub lint_in : ℤ → Headers → Lint
+lint_in received h = record {
+  conflicting = is_in_conflict (codes "max-age") h || is_in_conflict (codes "s-maxage") h;
+  semicolon = list_any has_semicolon (cache_pieces h);
+  quoted = list_any is_quoted (cache_pieces h);
+  upper_case = list_any is_upper_case (cache_pieces h);
+  old_date = is_dated_before received h && not (contains_key h (codes "age"));
+}
+
+-- the words of a hint, where it holds
+abbrev pub hint : Bool → List ℕ → List (List ℕ)
+hint true words = words ∷ []
+hint false words = []
+
+-- the words for what looks wrong
+abbrev pub words_of : Lint → List (List ℕ)
+words_of l =
+    ((((hint l.conflicting (codes "conflicting directives")
+    ++ hint l.semicolon (codes "; in Cache-Control"))
+    ++ hint l.quoted (codes "seconds in quotes"))
+    ++ hint l.upper_case (codes "a directive in upper case"))
+    ++ hint l.old_date (codes "an old Date without Age"))
+
+-- the words for what looks wrong in what came
+abbrev pub hints_in : ℤ → AnswerSeen → List (List ℕ)
+hints_in received failed = []
+hints_in received (cached r) = []
+hints_in received (came r) = words_of (lint_in received r.headers)
+
+-- the same for an entry
+abbrev pub hints_of : EntrySeen → List (List ℕ)
+hints_of e = hints_in e.received e.answer

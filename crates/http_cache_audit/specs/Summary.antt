@@ -1,6 +1,6 @@
 -- What a whole audit counts.
-use Rattle.std.specs.Prelude.{ℕ, ◌-◌, ◌^◌, ◌==◌, ◌&&◌, ◌||◌, not, min, nat_lt, Bool, true, false, List, [], ◌∷◌, ◌++◌}
-use Rattle.std.specs.Prelude.{length, filter, sum_by, codes, is_none, is_some, slice_get, if◌then◌else◌}
+use Rattle.std.specs.Prelude.{ℕ, ◌-◌, ◌^◌, ◌==◌, ◌&&◌, ◌||◌, not, min, Bool, true, false, List}
+use Rattle.std.specs.Prelude.{length, filter, sum_by, codes, bytes_eq, position, Option, is_none, is_some, slice_get, if◌then◌else◌}
 use Rattle.std.specs.List.{zip, list_any}
 use Rattle.std.specs.Option.{option_map_or}
 use Rattle.http_cache_fields.specs.Headers.{contains_key}
@@ -25,10 +25,9 @@ use Rattle.http_cache_audit.specs.declared.summary.SkipKind.TheVariants as kind
 use Rattle.http_cache_audit.specs.declared.summary.NotStorable.{NotStorable}
 use Rattle.http_cache_audit.specs.declared.summary.ZeroLifetimes.{ZeroLifetimes}
 use Rattle.http_cache_audit.specs.declared.summary.Skipped.{Skipped}
-use Rattle.http_cache_audit.specs.Heard.{HeardSeen, KeptSeen, browser, stored, seeded, updated, not_storable}
-use Rattle.http_cache_audit.specs.Heard.{failed as nothing_came}
-use Rattle.http_cache_audit.specs.Key.{key_eq}
-use Rattle.http_cache_audit.specs.Walk.{VerdictSeen, verdict_seen, walked_seen, key_of}
+use Rattle.http_cache_audit.specs.Heard.{HeardSeen, KeptSeen, browser, stored, seeded, updated, updated_other}
+use Rattle.http_cache_audit.specs.Heard.{not_storable, not_selected, nothing_stored, failed as nothing_came}
+use Rattle.http_cache_audit.specs.Walk.{VerdictSeen, verdict_seen}
 
 -- ---- one verdict
 
@@ -48,9 +47,20 @@ is_by_vary why = false
 abbrev pub is_missed_by_vary : VerdictSeen → Bool
 is_missed_by_vary v = option_map_or is_by_vary v.asked.reason false
 
+-- no stored response was the answer, as one that was stored varies by the name
+abbrev pub is_by_name : List ℕ → ReasonSeen → Bool
+is_by_name name (varies_by other) = bytes_eq name other
+is_by_name name why = false
+
+abbrev pub is_missed_by_name : List ℕ → VerdictSeen → Bool
+is_missed_by_name name v = option_map_or (is_by_name name) v.asked.reason false
+
 -- what came became that
 abbrev pub has_come : Came → HeardSeen → Bool
 has_come came.Updated (updated k) = true
+has_come came.UpdatedOther (updated_other k) = true
+has_come came.NotSelected not_selected = true
+has_come came.NothingStored nothing_stored = true
 has_come came.Stored (stored k) = true
 has_come came.Seeded (seeded k) = true
 has_come came.NotStorable (not_storable o) = true
@@ -106,6 +116,8 @@ is_zero_by why heard = false
 abbrev pub has_mark : Mark → VerdictSeen → Bool
 has_mark mark.Any v = true
 has_mark mark.Hit v = is_none v.asked.reason
+has_mark mark.Repeated v = v.repeated
+has_mark mark.RepeatedHit v = v.repeated && is_none v.asked.reason
 has_mark mark.Missed v = is_missed v
 has_mark mark.MissedByVary v = is_missed_by_vary v
 has_mark mark.Validated v = is_validated v
@@ -121,6 +133,14 @@ has_mark (mark.Zero why) v = is_zero_by why v.heard
 abbrev pub count_of : Mark → List Verdict → ℕ
 count_of mark vs = length (filter (λ v. has_mark mark (verdict_seen v)) vs)
 
+-- how many missed by a name
+abbrev pub missed_by_name_of : List ℕ → List Verdict → ℕ
+missed_by_name_of name vs = length (filter (λ v. is_missed_by_name name (verdict_seen v)) vs)
+
+-- the place of the first that is counted
+abbrev pub first_of : Mark → List Verdict → Option ℕ
+first_of mark vs = position (λ v. has_mark mark (verdict_seen v)) vs
+
 -- the bytes that came for an entry
 abbrev pub bytes_for : List Recorded → Walked → ℕ
 bytes_for rs w = option_map_or (λ r. r.told.bytes) (slice_get rs w.place) 0
@@ -132,30 +152,6 @@ bytes_if mark rs both = if has_mark mark (verdict_seen both.1) then bytes_for rs
 -- the bytes that came for all of them, at most 2^64 - 1
 abbrev pub bytes_of : Mark → List Recorded → List Walked → List Verdict → ℕ
 bytes_of mark rs ws vs = min (sum_by (bytes_if mark rs) (zip ws vs)) (2 ^ 64 - 1)
-
--- ---- requests that repeat others
-
--- both are by one method for one target
-abbrev pub is_same : Walked → Walked → Bool
-is_same a b = key_eq (key_of (walked_seen a)) (key_of (walked_seen b))
-
--- how many of those before are the same
-abbrev pub earlier_of : List Walked → Walked → ℕ
-earlier_of before w = length (filter (is_same w) before)
-
--- each behind those before it
-abbrev pub with_before : List Walked → List Walked → List (List Walked × Walked)
-with_before before [] = []
-with_before before (w ∷ ws) = (before, w) ∷ with_before (before ++ w ∷ []) ws
-
--- 1 for a request that repeats another and whose verdict is counted
-abbrev pub repeat_if : Mark → (List Walked × Walked) × Verdict → ℕ
-repeat_if mark both =
-    if nat_lt 0 (earlier_of both.0.0 both.0.1) && has_mark mark (verdict_seen both.1) then 1 else 0
-
--- how many there are, at most 2^64 - 1
-abbrev pub repeated_of : Mark → List Walked → List Verdict → ℕ
-repeated_of mark ws vs = min (sum_by (repeat_if mark) (zip (with_before [] ws) vs)) (2 ^ 64 - 1)
 
 -- ---- the tables
 

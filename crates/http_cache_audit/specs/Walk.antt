@@ -1,6 +1,7 @@
 -- What a cache would have answered to the requests of a session, one after the other.
 use Rattle.std.specs.Prelude.{ℤ, int_le, Bool, false, not, ◌&&◌, nat_lt, List, [], ◌∷◌, ◌++◌, codes, filter, fold}
 use Rattle.std.specs.Prelude.{Option, is_some, if◌then◌else◌, option_map, option_and_then, unwrap_or}
+use Rattle.std.specs.List.{list_any}
 use Rattle.std.specs.Option.{option_map_or}
 use Rattle.std.specs.Result.{result_ok}
 use Rattle.jiff_fmt.specs.Rfc2822.{timestamp}
@@ -91,21 +92,25 @@ pub record VerdictSeen : Type 0 where
   pub asked : ExplanationSeen
   pub heard : HeardSeen
   pub unchanged : Bool
+  pub repeated : Bool
 
 abbrev pub verdict_seen : Verdict → VerdictSeen
 verdict_seen v = record {
   asked = asked_seen v.asked;
   heard = heard_seen v.heard;
   unchanged = v.unchanged;
+  repeated = v.repeated;
 }
 
-abbrev pub verdict_among : Options → List Exchange → WalkedSeen → VerdictSeen
-verdict_among options es w = record {
+-- the verdict of an entry by what is stored, and by whether it repeats an earlier one
+abbrev pub verdict_among : Options → Bool → List Exchange → WalkedSeen → VerdictSeen
+verdict_among options repeated es w = record {
   asked = explanation_among es (asked_request w es) w.entry.started;
   heard = (step options w es).1;
   unchanged =
       not (is_some (fresh_place (asked_request w es) w.entry.started es))
       && is_unchanged_by w.entry w.entry.answer es;
+  repeated = repeated;
 }
 
 -- ---- all of them
@@ -114,16 +119,20 @@ verdict_among options es w = record {
 abbrev pub key_of : WalkedSeen → Key
 key_of w = record { method = w.entry.request.method; target = w.entry.request.target }
 
+-- one of the entries has the method and the target
+abbrev pub is_known : List WalkedSeen → Key → Bool
+is_known ws key = list_any (λ w. key_eq key (key_of w)) ws
+
 -- what entries leave stored under a method and a target
 abbrev pub stored_under : Options → List WalkedSeen → Key → List Exchange
 stored_under options ws key =
     fold (λ es w. (step options w es).0) [] (filter (λ w. key_eq key (key_of w)) ws)
 
--- the verdicts of entries, each by what those before it have left under its key
+-- the verdicts of entries, each by those before it, and by what they have left under its key
 abbrev pub verdicts_after : Options → List WalkedSeen → List WalkedSeen → List VerdictSeen
 verdicts_after options before [] = []
 verdicts_after options before (w ∷ ws) =
-    verdict_among options (stored_under options before (key_of w)) w
+    verdict_among options (is_known before (key_of w)) (stored_under options before (key_of w)) w
     ∷ verdicts_after options (before ++ w ∷ []) ws
 
 -- the verdicts of a session

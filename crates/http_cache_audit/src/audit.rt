@@ -5,13 +5,14 @@ ghost use Rattle.http_cache_recording.specs.Entry.{recorded_seen, told_seen, rea
 ghost use Rattle.http_cache_audit.specs.Walk.{verdict_seen};
 ghost use Rattle.http_cache_audit.specs.Lines.{IsLineAt, told_at, AreEntryLines, IsSkipLineOf, AreSkipLines, IsBehind, IsEnd, IsAudit};
 
+use crate::examples::push_examples;
 use crate::json::{json_line, json_line_of_skip};
-use crate::lint::lint_of;
+use crate::lint::hints_of;
 use crate::session::session;
 use crate::summary::{Summary, summary_of};
-use crate::tell::{plain_line, plain_line_of_skip, request_text};
+use crate::tell::{listed, plain_line, plain_line_of_skip, request_text};
 use crate::walk::{Verdict, Walked, walk};
-use http_cache_recording::{Answer, Reading, Recorded};
+use http_cache_recording::{Reading, Recorded};
 use http_cache_semantics::{CacheError, CacheOptions};
 use std::alloc::{AllocError, Global};
 
@@ -108,18 +109,16 @@ fn push_hint(
 ) -> Result<(), AllocError>
     ensures { OnOk result (IsBehind (string_bytes out.old) (string_bytes out.new)) }
 {
-    let Answer::Received(response) = &walked.entry.answer else {
-        return Ok(());
-    };
-    let lint = lint_of(response, walked.entry.received);
+    let hints = hints_of(alloc, walked.entry)?;
     let Some(recorded) = recorded.get(walked.place) else {
         return Ok(());
     };
-    if !lint.is_any() {
+    if hints.is_empty() {
         return Ok(());
     }
     let request = request_text(alloc, &recorded.told)?;
-    let told = format!(in alloc; "hint      {request}: {lint}\n")?;
+    let words = listed(alloc, &hints)?;
+    let told = format!(in alloc; "hint      {request}: {words}\n")?;
     out.push_str(told.as_str())
 }
 
@@ -144,7 +143,7 @@ fn push_summary(alloc: Global, out: &mut String, summary: &Summary) -> Result<()
     out.push_str(told.as_str())
 }
 
-// What stands behind plain lines: hints and a summary.
+// What stands behind plain lines: hints, a summary and examples.
 fn push_end(
     alloc: Global,
     out: &mut String,
@@ -159,11 +158,12 @@ fn push_end(
         return Ok(());
     }
     push_hints(alloc, out, recorded, walked)?;
-    push_summary(alloc, out, &summary_of(recorded, walked, verdicts))
+    push_summary(alloc, out, &summary_of(recorded, walked, verdicts))?;
+    push_examples(alloc, out, recorded, walked, verdicts)
 }
 
 /// The text of the audit of a recording: a line each, those of what was audited first, in the order
-/// of the walk, and hints and a summary where the lines are plain. It is refused for want of memory, and with
+/// of the walk, and hints, a summary and examples where the lines are plain. It is refused for want of memory, and with
 /// `HeaderMapFull` where a stored response with as many headers as a map can hold is renewed.
 pub fn audit(alloc: Global, recorded: &[Recorded], settings: Settings) -> Result<String, CacheError>
     ensures audit { IfOk result (λ text. IsAudit (options_of settings.options) settings.json

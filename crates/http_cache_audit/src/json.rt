@@ -13,10 +13,12 @@ ghost use Rattle.http_cache_audit.specs.JsonLine.{text, count, texts, some_texts
 ghost use Rattle.http_cache_audit.specs.JsonLine.{with_member, with_members, told_members};
 ghost use Rattle.http_cache_audit.specs.JsonLine.{asked_members, age_members, heard_members};
 ghost use Rattle.http_cache_audit.specs.JsonLine.{reasons_shown, kept_members, assumed_shown};
-ghost use Rattle.http_cache_audit.specs.JsonLine.{assumed_names, json_of, json_of_skip};
+ghost use Rattle.http_cache_audit.specs.JsonLine.{assumed_names, unchanged_shown, json_of, json_of_skip};
+ghost use Rattle.http_cache_audit.specs.Lint.{hints_of};
 
 use crate::asked::{Asked, Cause};
 use crate::heard::{Heard, Kept};
+use crate::lint::hints_of;
 use crate::walk::{Verdict, Walked};
 use crate::words::{
     heard_word, is_mismatch, is_miss, kept_in, reasons, skip_words, source_word, verdict_word,
@@ -310,6 +312,23 @@ fn put_assumed(
     }
 }
 
+// That a full answer came though a 304 would have done.
+#[tactic(auto, unfolding(crate::specs::JsonLine::with_member))]
+fn put_unchanged(
+    members: &mut Map<String, Value>,
+    alloc: Global,
+    unchanged: bool,
+) -> Result<(), AllocError>
+    ensures { OnOk result (members_view members.new.entries ≡ with_member (codes "unchanged")
+        (unchanged_shown unchanged) (members_view members.old.entries)) }
+{
+    if unchanged {
+        put(members, alloc, "unchanged", Value::from(true))
+    } else {
+        Ok(())
+    }
+}
+
 // The line of an object whose members have no float.
 fn push_object(
     alloc: Global,
@@ -343,6 +362,8 @@ fn push_object(
 /// | `received` | what became of what came |
 /// | `reasons` | of what isn't storable, all |
 /// | `new_lifetime`, `new_ttl`, `by` | of what was stored or updated |
+/// | `unchanged` | `true` where a full answer came though a 304 would have done |
+/// | `hints` | what looks wrong in a response that came |
 #[tactic(auto, unfolding(crate::specs::JsonLine::json_of))]
 pub fn json_line(
     alloc: Global,
@@ -355,14 +376,17 @@ pub fn json_line(
     ensures line { OnOk result (string_bytes out.new ≡ string_bytes out.old
         ++ compact_text (json_of place (told_seen told.now)
         (walked_seen walked.now).entry.request.method (assumed_names walked.now)
-        (verdict_seen verdict.now)) ++ codes "\n") }
+        (hints_of (walked_seen walked.now).entry) (verdict_seen verdict.now)) ++ codes "\n") }
 {
     let mut members = Map::new(alloc);
     let method = walked.entry.request.method.as_str();
+    let hints = hints_of(alloc, walked.entry)?;
     put_told(&mut members, alloc, place, told)?;
     put_asked(&mut members, alloc, &verdict.asked)?;
     put_heard(&mut members, alloc, method, told.status, &verdict.heard)?;
+    put_unchanged(&mut members, alloc, verdict.unchanged)?;
     put_assumed(&mut members, alloc, walked, &verdict.asked)?;
+    put_some_texts(&mut members, alloc, "hints", &hints)?;
     put_count(&mut members, alloc, "bytes", told.bytes)?;
     push_object(alloc, out, members)
 }

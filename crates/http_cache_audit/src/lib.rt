@@ -4,6 +4,7 @@
 pub mod asked;
 pub mod audit;
 pub mod error;
+pub mod examples;
 pub mod heard;
 pub mod json;
 pub mod lint;

@@ -1,5 +1,6 @@
 //! What looks wrong in a response, though the rules of caching give it a meaning.
-ghost use Rattle.std.specs.Prelude.{◌≡◌, ◌≤◌, ◌&&◌, ◌||◌, not, length, codes, pos, int_lt, ◌-ℤ◌, option_copied};
+ghost use Rattle.std.specs.Prelude.{◌≡◌, ◌≤◌, ◌&&◌, ◌||◌, ◌++◌, not, length, codes, pos, int_lt, ◌-ℤ◌, option_copied};
+ghost use Rattle.std.specs.Prelude.{map, string_bytes, IfOk, OnOk};
 ghost use Rattle.std.specs.List.{find, list_any, position_or_len};
 ghost use Rattle.std.specs.Char.{is_ascii_uppercase};
 ghost use Rattle.http_header.specs.Token.{lowercase};
@@ -8,6 +9,8 @@ ghost use Rattle.http_cache_fields.specs.Headers.{contains_key};
 ghost use Rattle.http_cache_fields.specs.Text.{is_equals};
 ghost use Rattle.http_cache_audit.specs.Lint.{cache_pieces, is_named, says_other, is_in_conflict, has_semicolon};
 ghost use Rattle.http_cache_audit.specs.Lint.{begins_quoted, is_quoted, is_upper_case, is_dated_before};
+ghost use Rattle.http_cache_audit.specs.Lint.{lint_in, hint, words_of, hints_of};
+ghost use Rattle.http_cache_recording.specs.Entry.{entry_seen};
 
 use crate::walk::date_of;
 use http::header::{AGE, CACHE_CONTROL};
@@ -16,8 +19,9 @@ use http_cache_fields::directives::split_piece;
 use http_cache_fields::headers::contains_key;
 use http_cache_fields::names::is_same_name;
 use http_cache_fields::pieces::pieces_under;
+use http_cache_recording::{Answer, Entry};
 use jiff::Timestamp;
-use std::fmt;
+use std::alloc::{AllocError, Global};
 
 /// What looks wrong in a response. Each flag is a hint: the rules give the response a meaning, but
 /// it may not be the one that was meant.
@@ -33,37 +37,6 @@ pub struct Lint {
     pub upper_case: bool,
     /// Date is more than 60 s before the response came, and no Age tells where it was.
     pub old_date: bool,
-}
-
-impl Lint {
-    /// Whether one of them holds.
-    pub fn is_any(&self) -> bool {
-        self.conflicting || self.semicolon || self.quoted || self.upper_case || self.old_date
-    }
-
-    // Each with the words for it.
-    fn with_words(&self) -> [(bool, &'static str); 5] {
-        [
-            (self.conflicting, "conflicting directives"),
-            (self.semicolon, "; in Cache-Control"),
-            (self.quoted, "seconds in quotes"),
-            (self.upper_case, "a directive in upper case"),
-            (self.old_date, "an old Date without Age"),
-        ]
-    }
-}
-
-impl fmt::Display for Lint {
-    fn fmt<W: fmt::Write>(&self, f: &mut fmt::Formatter<W>) -> fmt::Result {
-        let mut separator = "";
-        for (holds, words) in self.with_words() {
-            if holds {
-                write!(f, "{separator}{words}")?;
-                separator = ", ";
-            }
-        }
-        Ok(())
-    }
 }
 
 // The directive of a piece has the name, which is in lower case.
@@ -189,20 +162,9 @@ fn is_dated_before(received: Timestamp, headers: &HeaderMap) -> bool
     }
 }
 
-/// What looks wrong in a response, by when it came.
-pub fn lint_of(response: &response::Parts, received: Timestamp) -> Lint
-    ensures conflicting { result.conflicting
-        ≡ (is_in_conflict (codes "max-age") (headers_of response.now.headers)
-        || is_in_conflict (codes "s-maxage") (headers_of response.now.headers)) }
-    ensures semicolon { result.semicolon
-        ≡ list_any has_semicolon (cache_pieces (headers_of response.now.headers)) }
-    ensures quoted { result.quoted
-        ≡ list_any is_quoted (cache_pieces (headers_of response.now.headers)) }
-    ensures upper_case { result.upper_case
-        ≡ list_any is_upper_case (cache_pieces (headers_of response.now.headers)) }
-    ensures old_date { result.old_date
-        ≡ (is_dated_before received.nanosecond (headers_of response.now.headers)
-        && not (contains_key (headers_of response.now.headers) (codes "age"))) }
+// What looks wrong in a response, by when it came.
+fn lint_of(response: &response::Parts, received: Timestamp) -> Lint
+    ensures { result ≡ lint_in received.nanosecond (headers_of response.now.headers) }
 {
     let headers = &response.headers;
     let max_age = is_in_conflict(headers, "max-age");
@@ -213,5 +175,50 @@ pub fn lint_of(response: &response::Parts, received: Timestamp) -> Lint
         quoted: any_quoted(headers),
         upper_case: any_upper_case(headers),
         old_date: is_dated_before(received, headers) && !contains_key(headers, AGE),
+    }
+}
+
+// The words of a hint behind others, where it holds.
+fn push_hint(
+    alloc: Global,
+    all: &mut Vec<String>,
+    holds: bool,
+    words: &str,
+) -> Result<(), AllocError>
+    ensures { OnOk result (map string_bytes all.new.items
+        ≡ map string_bytes all.old.items ++ hint holds words.now) }
+{
+    if holds {
+        all.push(String::from_str(alloc, words)?)?;
+    }
+    Ok(())
+}
+
+// The words for what looks wrong.
+fn words_of(alloc: Global, lint: Lint) -> Result<Vec<String>, AllocError>
+    ensures { IfOk result (λ all. map string_bytes all.items ≡ words_of lint) }
+{
+    let mut all = Vec::new(alloc);
+    push_hint(alloc, &mut all, lint.conflicting, "conflicting directives")?;
+    push_hint(alloc, &mut all, lint.semicolon, "; in Cache-Control")?;
+    push_hint(alloc, &mut all, lint.quoted, "seconds in quotes")?;
+    push_hint(
+        alloc,
+        &mut all,
+        lint.upper_case,
+        "a directive in upper case",
+    )?;
+    push_hint(alloc, &mut all, lint.old_date, "an old Date without Age")?;
+    Ok(all)
+}
+
+/// What looks wrong in the response that came for an entry, in words. Nothing is hinted at where
+/// nothing came, or where the browser answered from its own cache.
+pub fn hints_of(alloc: Global, entry: &Entry) -> Result<Vec<String>, AllocError>
+    ensures { IfOk result (λ all. map string_bytes all.items ≡ hints_of (entry_seen entry.now)) }
+{
+    match &entry.answer {
+        Answer::Failed | Answer::Cached(_) => Ok(Vec::new(alloc)),
+        Answer::Received(response) => words_of(alloc, lint_of(response, entry.received)),
     }
 }

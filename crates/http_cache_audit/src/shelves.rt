@@ -1,5 +1,5 @@
 //! What is stored under each method and target.
-ghost use Rattle.std.specs.Prelude.{◌≡◌, [], cond, true, false, None, Some, IfOk, OnOk, unwrap_or};
+ghost use Rattle.std.specs.Prelude.{◌≡◌, [], cond, true, false, None, Some, IfOk, OnOk, is_some, unwrap_or};
 ghost use Rattle.indexmap.specs.IndexMap.{get};
 ghost use Rattle.http_cache_audit.specs.Key.{key_in};
 
@@ -25,6 +25,13 @@ pub(crate) fn key_of(request: &request::Parts) -> Result<Key, AllocError>
         method: request.method.clone()?,
         target: copy_of_target(&request.uri)?,
     })
+}
+
+/// Whether something was put in under a key.
+pub(crate) fn has_shelf<K: Eq + Hash + Drop>(shelves: &IndexMap<K, Variants>, key: &K) -> bool
+    ensures { result ≡ is_some (get K.eq shelves.now key.now) }
+{
+    shelves.contains_key(key)
 }
 
 /// Takes out what is stored under a key, or nothing.

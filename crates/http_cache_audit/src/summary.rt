@@ -7,13 +7,11 @@ ghost use Rattle.http_cache_audit.specs.Walk.{verdict_seen};
 ghost use Rattle.http_cache_audit.specs.Summary.{is_validated, is_missed, is_missed_by_vary, has_come, is_changed};
 ghost use Rattle.http_cache_audit.specs.Summary.{has_obstacle, is_forbidden_by, source_number, gives_zero, is_zero_by};
 ghost use Rattle.http_cache_audit.specs.Summary.{has_mark, count_of, bytes_for, bytes_if, bytes_of, not_storable_of};
-ghost use Rattle.http_cache_audit.specs.Summary.{is_same, earlier_of, repeat_if, repeated_of};
 ghost use Rattle.http_cache_audit.specs.Summary.{zero_lifetimes_of, is_skip, is_skipped_for, skips_of, skipped_of};
 ghost use Rattle.http_cache_audit.specs.Summary.{assumed_of, sets_cookies, is_private, has_private, any_private};
 
 use crate::asked::Cause;
 use crate::heard::{Heard, Kept};
-use crate::target::is_same_target;
 use crate::walk::{Verdict, Walked};
 use http::header::{AUTHORIZATION, COOKIE, SET_COOKIE};
 use http_cache_fields::headers::contains_key;
@@ -40,11 +38,32 @@ pub enum Obstacle {
     NoPermission,
 }
 
-/// What became of what came: some of the variants of `Heard`.
+impl Obstacle {
+    /// The words for it.
+    pub fn words(self) -> &'static str {
+        match self {
+            Obstacle::RequestNoStore => "no-store of the request",
+            Obstacle::Method => "method",
+            Obstacle::Status => "status",
+            Obstacle::ResponseNoStore => "no-store",
+            Obstacle::Private => "private",
+            Obstacle::Authorization => "Authorization",
+            Obstacle::NoPermission => "nothing allows it",
+        }
+    }
+}
+
+/// What became of what came: the variants of `Heard`, but for what wasn't asked of the origin.
 #[derive(Clone, Copy, Debug)]
 pub enum Came {
     /// A 304 renewed the stored response that was to be validated.
     Updated,
+    /// A 304 renewed another stored response.
+    UpdatedOther,
+    /// A 304 wasn't of the stored response that was to be validated, which went.
+    NotSelected,
+    /// A 304 came, and nothing that is stored was of it.
+    NothingStored,
     /// The response was stored.
     Stored,
     /// The browser answered from its own cache, and the response is taken as received earlier.
@@ -64,6 +83,10 @@ pub enum Mark {
     Any,
     /// A stored response was used.
     Hit,
+    /// The request repeats an earlier one.
+    Repeated,
+    /// The same, and a stored response was used.
+    RepeatedHit,
     /// No stored response was the answer to the request.
     Missed,
     /// The same, as one that was stored varies by a header.
@@ -191,6 +214,8 @@ pub struct Summary {
     pub validated: u64,
     /// Those of them whose 304 renewed it.
     pub updated: u64,
+    /// Those of them whose 304 wasn't of it.
+    pub not_selected: u64,
     /// Those of them that brought another response.
     pub changed: u64,
     /// Those of them that brought the stored response again, in full.
@@ -201,6 +226,10 @@ pub struct Summary {
     pub missed: u64,
     /// Those of them for which one was stored that varies by a header.
     pub missed_by_vary: u64,
+    /// The 304 that renewed another stored response: it answers a condition of the client's own.
+    pub updated_other: u64,
+    /// The 304 that nothing stored was of.
+    pub nothing_stored: u64,
     /// The responses that were stored.
     pub stored: u64,
     /// Those that weren't.
@@ -242,13 +271,13 @@ impl fmt::Display for NotStorable {
         write_counts(
             f,
             &[
-                ("no-store of the request", self.request_no_store),
-                ("method", self.method),
-                ("status", self.status),
-                ("no-store", self.response_no_store),
-                ("private", self.private),
-                ("Authorization", self.authorization),
-                ("nothing allows it", self.no_permission),
+                (Obstacle::RequestNoStore.words(), self.request_no_store),
+                (Obstacle::Method.words(), self.method),
+                (Obstacle::Status.words(), self.status),
+                (Obstacle::ResponseNoStore.words(), self.response_no_store),
+                (Obstacle::Private.words(), self.private),
+                (Obstacle::Authorization.words(), self.authorization),
+                (Obstacle::NoPermission.words(), self.no_permission),
             ],
         )
     }
@@ -327,13 +356,20 @@ impl Summary {
 
     fn write_validations<W: fmt::Write>(&self, f: &mut fmt::Formatter<W>) -> fmt::Result {
         write!(f, "validated {}: 304 {}, ", self.validated, self.updated)?;
+        write!(f, "304 not selected {}, ", self.not_selected)?;
         write!(f, "changed {}, ", self.changed)?;
         writeln!(
             f,
             "unchanged in full {} ({} bytes)",
             self.unchanged, self.unchanged_bytes
         )?;
-        writeln!(f, "missed {}, by Vary {}", self.missed, self.missed_by_vary)
+        write!(
+            f,
+            "missed {}, by Vary {}, ",
+            self.missed, self.missed_by_vary
+        )?;
+        write!(f, "304 for another {}, ", self.updated_other)?;
+        writeln!(f, "304 for nothing stored {}", self.nothing_stored)
     }
 
     fn write_responses<W: fmt::Write>(&self, f: &mut fmt::Formatter<W>) -> fmt::Result {
@@ -403,6 +439,9 @@ fn has_come(what: Came, heard: &Heard) -> bool
 {
     match what {
         Came::Updated => matches!(heard, Heard::Updated(_)),
+        Came::UpdatedOther => matches!(heard, Heard::UpdatedOther(_)),
+        Came::NotSelected => matches!(heard, Heard::NotSelected),
+        Came::NothingStored => matches!(heard, Heard::NothingStored),
         Came::Stored => matches!(heard, Heard::Stored(_)),
         Came::Seeded => matches!(heard, Heard::Seeded(_)),
         Came::NotStorable => matches!(heard, Heard::NotStorable(_)),
@@ -487,6 +526,8 @@ pub fn has_mark(mark: Mark, verdict: &Verdict) -> bool
     match mark {
         Mark::Any => true,
         Mark::Hit => verdict.asked.cause.is_none(),
+        Mark::Repeated => verdict.repeated,
+        Mark::RepeatedHit => verdict.repeated && verdict.asked.cause.is_none(),
         Mark::Missed => is_missed(verdict),
         Mark::MissedByVary => is_missed_by_vary(verdict),
         Mark::Validated => is_validated(verdict),
@@ -543,48 +584,6 @@ pub fn bytes_of(
         sum = sum.saturating_add(bytes_if(mark, recorded, &walked[place], &verdicts[place]));
     }
     sum
-}
-
-fn is_same(a: &Walked<'_>, b: &Walked<'_>) -> bool
-    ensures { result ≡ is_same a.now b.now }
-{
-    a.entry.request.method == b.entry.request.method
-        && is_same_target(&a.entry.request.uri, &b.entry.request.uri)
-}
-
-// How many of those before are by the same method for the same target.
-fn earlier_of(before: &[Walked<'_>], walked: &Walked<'_>) -> usize
-    ensures { result ≡ earlier_of before.now walked.now }
-{
-    before
-        .iter()
-        .filter(|earlier| is_same(walked, earlier))
-        .count()
-}
-
-// 1 for a request that repeats another and whose verdict is counted.
-fn repeat_if(mark: Mark, before: &[Walked<'_>], walked: &Walked<'_>, verdict: &Verdict) -> u64
-    ensures { result ≡ repeat_if mark ((before.now, walked.now), verdict.now) }
-{
-    if has_mark(mark, verdict) && earlier_of(before, walked) > 0 {
-        1
-    } else {
-        0
-    }
-}
-
-/// How many requests repeat an earlier one, by method and target, and have their verdicts counted.
-/// It looks through those before each.
-pub fn repeated_of(mark: Mark, walked: &[Walked<'_>], verdicts: &[Verdict]) -> u64
-    ensures { result ≡ repeated_of mark walked.now verdicts.now }
-{
-    let end = walked.len().min(verdicts.len());
-    let mut count: u64 = 0;
-    for place in 0..end {
-        let one = repeat_if(mark, &walked[..place], &walked[place], &verdicts[place]);
-        count = count.saturating_add(one);
-    }
-    count
 }
 
 fn not_storable_of(verdicts: &[Verdict]) -> NotStorable
@@ -719,19 +718,24 @@ fn any_private(recorded: &[Recorded]) -> bool
 pub fn summary_of(recorded: &[Recorded], walked: &[Walked<'_>], verdicts: &[Verdict]) -> Summary
     ensures requests { result.requests ≡ count_of Mark.Any verdicts.now }
     ensures hits { result.hits ≡ count_of Mark.Hit verdicts.now }
-    ensures repeated { result.repeated ≡ repeated_of Mark.Any walked.now verdicts.now }
-    ensures repeated_hits { result.repeated_hits
-        ≡ repeated_of Mark.Hit walked.now verdicts.now }
+    ensures repeated { result.repeated ≡ count_of Mark.Repeated verdicts.now }
+    ensures repeated_hits { result.repeated_hits ≡ count_of Mark.RepeatedHit verdicts.now }
     ensures bytes { result.bytes ≡ bytes_of Mark.Any recorded.now walked.now verdicts.now }
     ensures hit_bytes { result.hit_bytes ≡ bytes_of Mark.Hit recorded.now walked.now verdicts.now }
     ensures validated { result.validated ≡ count_of Mark.Validated verdicts.now }
     ensures updated { result.updated ≡ count_of (Mark.Came Came.Updated) verdicts.now }
+    ensures not_selected { result.not_selected
+        ≡ count_of (Mark.Came Came.NotSelected) verdicts.now }
     ensures changed { result.changed ≡ count_of Mark.Changed verdicts.now }
     ensures unchanged { result.unchanged ≡ count_of Mark.Unchanged verdicts.now }
     ensures unchanged_bytes { result.unchanged_bytes
         ≡ bytes_of Mark.Unchanged recorded.now walked.now verdicts.now }
     ensures missed { result.missed ≡ count_of Mark.Missed verdicts.now }
     ensures missed_by_vary { result.missed_by_vary ≡ count_of Mark.MissedByVary verdicts.now }
+    ensures updated_other { result.updated_other
+        ≡ count_of (Mark.Came Came.UpdatedOther) verdicts.now }
+    ensures nothing_stored { result.nothing_stored
+        ≡ count_of (Mark.Came Came.NothingStored) verdicts.now }
     ensures stored { result.stored ≡ count_of (Mark.Came Came.Stored) verdicts.now }
     ensures not_storable { result.not_storable ≡ not_storable_of verdicts.now }
     ensures zero_lifetimes { result.zero_lifetimes ≡ zero_lifetimes_of verdicts.now }
@@ -745,17 +749,20 @@ pub fn summary_of(recorded: &[Recorded], walked: &[Walked<'_>], verdicts: &[Verd
     Summary {
         requests: count_of(Mark::Any, verdicts),
         hits: count_of(Mark::Hit, verdicts),
-        repeated: repeated_of(Mark::Any, walked, verdicts),
-        repeated_hits: repeated_of(Mark::Hit, walked, verdicts),
+        repeated: count_of(Mark::Repeated, verdicts),
+        repeated_hits: count_of(Mark::RepeatedHit, verdicts),
         bytes: bytes_of(Mark::Any, recorded, walked, verdicts),
         hit_bytes: bytes_of(Mark::Hit, recorded, walked, verdicts),
         validated: count_of(Mark::Validated, verdicts),
         updated: count_of(Mark::Came(Came::Updated), verdicts),
+        not_selected: count_of(Mark::Came(Came::NotSelected), verdicts),
         changed: count_of(Mark::Changed, verdicts),
         unchanged: count_of(Mark::Unchanged, verdicts),
         unchanged_bytes: bytes_of(Mark::Unchanged, recorded, walked, verdicts),
         missed: count_of(Mark::Missed, verdicts),
         missed_by_vary: count_of(Mark::MissedByVary, verdicts),
+        updated_other: count_of(Mark::Came(Came::UpdatedOther), verdicts),
+        nothing_stored: count_of(Mark::Came(Came::NothingStored), verdicts),
         stored: count_of(Mark::Came(Came::Stored), verdicts),
         not_storable: not_storable_of(verdicts),
         zero_lifetimes: zero_lifetimes_of(verdicts),

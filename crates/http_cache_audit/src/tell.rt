@@ -143,24 +143,33 @@ fn push_heard(out: &mut String, heard: &Heard) -> Result<(), AllocError> {
     }
 }
 
-// The names of headers that are assumed.
-fn push_names(out: &mut String, names: &[String]) -> Result<(), AllocError> {
-    let mut separator = " [assumed: ";
-    for name in names {
+/// Words behind one another, with commas between.
+pub(crate) fn listed(alloc: Global, words: &[String]) -> Result<String, AllocError> {
+    let mut out = String::new(alloc);
+    let mut separator = "";
+    for word in words {
         out.push_str(separator)?;
-        out.push_str(name)?;
+        out.push_str(word)?;
         separator = ", ";
     }
-    if names.is_empty() {
-        return Ok(());
-    }
-    out.push(']')
+    Ok(out)
+}
+
+// The names of headers that are assumed.
+fn push_names(alloc: Global, out: &mut String, names: &[String]) -> Result<(), AllocError> {
+    let names = listed(alloc, names)?;
+    write!(out, " [assumed: {names}]")
 }
 
 // What was assumed of the request.
-fn push_assumed(out: &mut String, walked: &Walked<'_>, asked: &Asked) -> Result<(), AllocError> {
+fn push_assumed(
+    alloc: Global,
+    out: &mut String,
+    walked: &Walked<'_>,
+    asked: &Asked,
+) -> Result<(), AllocError> {
     match &walked.assumed {
-        Some(assumed) if !is_miss(asked) => push_names(out, &assumed.names),
+        Some(assumed) if !is_miss(asked) => push_names(alloc, out, &assumed.names),
         _ => Ok(()),
     }
 }
@@ -207,7 +216,7 @@ pub fn plain_line(
     let mut rest = String::new(alloc);
     push_asked(&mut rest, &verdict.asked)?;
     push_heard(&mut rest, &verdict.heard)?;
-    push_assumed(&mut rest, walked, &verdict.asked)?;
+    push_assumed(alloc, &mut rest, walked, &verdict.asked)?;
     push_mark(&mut rest, told.error.as_deref())?;
     push_mark(&mut rest, told.mark.as_deref())?;
     push_line(out, verdict_word(&verdict.asked), &request, &rest)

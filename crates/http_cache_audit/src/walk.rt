@@ -1,5 +1,5 @@
 //! The walk over a session: what a cache would have answered to each request, one after the other.
-ghost use Rattle.std.specs.Prelude.{◌≡◌, ◌∷◌, [], ◌<◌, ◌&&◌, nat_lt, true, false, codes, cond, map, Some, None};
+ghost use Rattle.std.specs.Prelude.{◌≡◌, ◌∷◌, [], ◌<◌, ◌&&◌, ◌||◌, nat_lt, true, false, codes, cond, map, Some, None};
 ghost use Rattle.std.specs.Prelude.{IfOk, OnOk, IfSome, option_map, option_and_then, is_some, unwrap_or, if◌then◌else◌};
 ghost use Rattle.std.specs.Result.{result_ok};
 ghost use Rattle.jiff_fmt.specs.Rfc2822.{timestamp};
@@ -14,13 +14,13 @@ ghost use Rattle.http_cache_audit.specs.Heard.{heard_seen};
 ghost use Rattle.http_cache_audit.specs.Shelf.{arrival_seen};
 ghost use Rattle.http_cache_audit.specs.Walk.{walked_seen, date_until, seed, hear_cached, hear_answer, is_unchanged_by};
 ghost use Rattle.http_cache_audit.specs.Walk.{asked_request};
-ghost use Rattle.http_cache_audit.specs.Key.{key_eq, shelf_at};
+ghost use Rattle.http_cache_audit.specs.Key.{key_eq, has_shelf, shelf_at};
 ghost use Rattle.http_cache_audit.specs.Walk.{step, verdict_seen, verdict_among, key_of, verdicts};
 
 use crate::asked::{Asked, asked_of};
 use crate::heard::Heard;
 use crate::shelf::{Arrival, hear_response, is_unchanged, seed};
-use crate::shelves::{Key, key_of, put_shelf, take_shelf};
+use crate::shelves::{Key, has_shelf, key_of, put_shelf, take_shelf};
 use http::{HeaderMap, request, response};
 use http_cache_recording::{Answer, Entry};
 use http_cache_semantics::directives::GetHeaderStr;
@@ -61,6 +61,8 @@ pub struct Verdict {
     /// Whether a full answer came though a 304 would have done: it has the validator of the stored
     /// response that was to be validated.
     pub unchanged: bool,
+    /// Whether the request repeats an earlier one, by method and target.
+    pub repeated: bool,
 }
 
 // The moment that a response's Date tells, if it tells one.
@@ -170,10 +172,11 @@ fn step(
     alloc: Global,
     variants: &mut Variants,
     walked: &Walked<'_>,
+    repeated: bool,
     options: CacheOptions,
 ) -> Result<Verdict, CacheError>
     ensures verdict { IfOk result (λ verdict. verdict_seen verdict
-        ≡ verdict_among (options_of options) variants.old (walked_seen walked.now)) }
+        ≡ verdict_among (options_of options) repeated variants.old (walked_seen walked.now)) }
     ensures stored { OnOk result (variants.new
         ≡ (step (options_of options) (walked_seen walked.now) variants.old).0) }
 {
@@ -184,6 +187,7 @@ fn step(
             asked,
             heard: Heard::Unasked,
             unchanged: false,
+            repeated,
         });
     }
     let unchanged = is_unchanged_by(alloc, variants, walked.entry)?;
@@ -192,6 +196,7 @@ fn step(
         asked,
         heard,
         unchanged,
+        repeated,
     })
 }
 
@@ -203,8 +208,10 @@ fn visit(
     options: CacheOptions,
 ) -> Result<Verdict, CacheError>
     ensures verdict { IfOk result (λ verdict. verdict_seen verdict ≡ verdict_among
-        (options_of options) (shelf_at shelves.old (key_of (walked_seen walked.now)))
-        (walked_seen walked.now)) }
+        (options_of options) (has_shelf shelves.old (key_of (walked_seen walked.now)))
+        (shelf_at shelves.old (key_of (walked_seen walked.now))) (walked_seen walked.now)) }
+    ensures known { OnOk result ((key : Key) → has_shelf shelves.new key
+        ≡ (key_eq (key_of (walked_seen walked.now)) key || has_shelf shelves.old key)) }
     ensures stored { OnOk result ((key : Key) → shelf_at shelves.new key
         ≡ cond (key_eq (key_of (walked_seen walked.now)) key)
         (step (options_of options) (walked_seen walked.now)
@@ -212,8 +219,9 @@ fn visit(
         (shelf_at shelves.old key)) }
 {
     let key = key_of(&walked.entry.request)?;
+    let repeated = has_shelf(shelves, &key);
     let mut variants = take_shelf(alloc, shelves, &key);
-    let verdict = step(alloc, &mut variants, walked, options)?;
+    let verdict = step(alloc, &mut variants, walked, repeated, options)?;
     put_shelf(shelves, key, variants)?;
     Ok(verdict)
 }

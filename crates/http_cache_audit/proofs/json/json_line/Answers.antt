@@ -8,5 +8,7 @@ push_object-requires c =
     let told = members-plain _ _ _ c.in_ok-put_told.ensures (search rules) in
     let asked = members-plain _ _ _ c.in_ok-put_asked.ensures told in
     let heard = members-plain _ _ _ c.in_ok-put_heard.ensures asked in
-    let assumed = member-plain _ _ _ _ c.in_ok-put_assumed.ensures heard in
-    member-plain _ _ _ _ c.in_ok-put_count.ensures assumed
+    let unchanged = member-plain _ _ _ _ c.in_ok-put_unchanged.ensures heard in
+    let assumed = member-plain _ _ _ _ c.in_ok-put_assumed.ensures unchanged in
+    let hinted = member-plain _ _ _ _ c.in_ok-put_some_texts.ensures assumed in
+    member-plain _ _ _ _ c.in_ok-put_count.ensures hinted
