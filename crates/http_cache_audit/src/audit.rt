@@ -163,8 +163,9 @@ fn push_end(
 }
 
 /// The text of the audit of a recording: a line each, those of what was audited first, in the order
-/// of the walk, and hints, a summary and examples where the lines are plain. It is refused for want of memory, and with
-/// `HeaderMapFull` where a stored response with as many headers as a map can hold is renewed.
+/// of the walk, and hints, a summary and examples where the lines are plain. It is refused for want
+/// of memory, and with `HeaderMapFull` where a stored response with as many headers as a map can
+/// hold is renewed.
 pub fn audit(alloc: Global, recorded: &[Recorded], settings: Settings) -> Result<String, CacheError>
     ensures audit { IfOk result (λ text. IsAudit (options_of settings.options) settings.json
         (map recorded_seen recorded.now) (string_bytes text)) }
