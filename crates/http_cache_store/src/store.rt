@@ -93,7 +93,9 @@ impl<S: Alter + Drop> Store<S> {
             → IsMade S.Store conn store) }
     {
         conn.execute(
-            "CREATE TABLE IF NOT EXISTS response (id INTEGER PRIMARY KEY AUTOINCREMENT, target TEXT NOT NULL, method TEXT NOT NULL, policy TEXT NOT NULL, body BLOB NOT NULL) STRICT",
+            "CREATE TABLE IF NOT EXISTS response (id INTEGER PRIMARY KEY AUTOINCREMENT, \
+             target TEXT NOT NULL, method TEXT NOT NULL, policy TEXT NOT NULL, \
+             body BLOB NOT NULL) STRICT",
             &[],
         )?;
         conn.execute(

@@ -1,4 +1,4 @@
-//! The lifetimes of responses: the time to live when they come without an age.
+//! The lifetimes of responses: the time to live when they come, which is all of it without an age.
 use http_cache_semantics::policy::Fraction;
 use http_cache_semantics::{CacheOptions, CachePolicy};
 use jiff::Timestamp;
@@ -46,7 +46,7 @@ fn age(alloc: Global, case: &str, now: Timestamp) -> Result<Duration, Fail> {
     Ok(policy(alloc, case)?.age(now))
 }
 
-// The options, the moment in milliseconds, the headers, and the lifetime in milliseconds.
+// The options, the moment in milliseconds, the headers, and the time to live in milliseconds.
 fn by_directives() -> &'static str {
     "|1704067200000|Cache-Control: max-age=100, s-maxage=10|10000
      own|1704067200000|Cache-Control: max-age=100, s-maxage=10|100000
@@ -64,6 +64,10 @@ fn by_directives() -> &'static str {
      |1704067200000|Cache-Control: immutable, max-age=5|5000
      |1704067200000|Cache-Control: max-age=+007|7000
      |1704067200000|Cache-Control: max-age=18446744073709551616|0
+     |1704067200000|Cache-Control: max-age=100~Age: 40|60000
+     |1704067200000|Cache-Control: max-age=100, s-maxage=10~Age: 9|1000
+     |1704067200000|Cache-Control: max-age=100, s-maxage=10~Age: 11|0
+     |1704067200000|Cache-Control: immutable~Age: 86399|1000
      |1704067200000|Cache-Control: max-age=10~Vary: *|0
      |1704067200000|Cache-Control: pre-check=0, post-check=0, no-store, no-cache, max-age=100~Expires: 0|0
      cargo|1704067200000|Cache-Control: pre-check=0, post-check=0, no-store, no-cache, max-age=100~Expires: 0|100000
@@ -76,6 +80,9 @@ fn by_directives() -> &'static str {
 
 fn by_dates() -> &'static str {
     "|1704067200000|Date: Mon, 01 Jan 2024 00:00:00 GMT~Expires: Mon, 01 Jan 2024 00:01:40 GMT|100000
+     |1704067200000|Expires: Mon, 01 Jan 2024 00:01:40 GMT~Age: 40|60000
+     |1704067200000|Date: Mon, 01 Jan 2024 00:00:40 GMT~Expires: Mon, 01 Jan 2024 00:01:40 GMT|60000
+     |1704067200000|Last-Modified: Sat, 23 Sep 2023 00:00:00 GMT~Age: 1|863999000
      |1704067200000|Expires: 0|0
      |1704067200000|Cache-Control: immutable~Expires: 0|0
      |1704067200000|Cache-Control: max-age=10~Expires: Mon, 01 Jan 2024 00:01:40 GMT|10000

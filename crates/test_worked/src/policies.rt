@@ -1,5 +1,5 @@
 //! Policies of every kind of message, and their options.
-use http::{Method, Request, Response, request};
+use http::{Request, Response, request};
 use http_cache_semantics::policy::Fraction;
 use http_cache_semantics::{CacheOptions, CachePolicy, RequestLike, ResponseLike};
 use std::alloc::Global;
@@ -57,21 +57,6 @@ fn both_last_999_seconds<Req: RequestLike, Res: ResponseLike>(
 
 const LINES: &str = "Cache-Control: max-age=999";
 
-fn parts_last_999_seconds(
-    rt: &impl Abort,
-    alloc: Global,
-    request: &request::Parts,
-) -> Result<(), Fail> {
-    let response = response(alloc, "200", LINES)?;
-    both_last_999_seconds(rt, alloc, request, &response)
-}
-
-#[test]
-fn policies_of_parts(rt: HostRuntime) -> Result<(), Fail> {
-    let request = request(rt.alloc(), "GET", "")?;
-    parts_last_999_seconds(&rt, rt.alloc(), &request)
-}
-
 fn messages_last_999_seconds(
     rt: &impl Abort,
     alloc: Global,
@@ -85,54 +70,6 @@ fn messages_last_999_seconds(
 fn policies_of_messages(rt: HostRuntime) -> Result<(), Fail> {
     let request = Request::from_parts(request(rt.alloc(), "GET", "")?, ());
     messages_last_999_seconds(&rt, rt.alloc(), &request)
-}
-
-fn clone_lasts_999_seconds(
-    rt: &impl Abort,
-    alloc: Global,
-    policy: &CachePolicy,
-) -> Result<(), Fail> {
-    let copy = policy.try_clone(alloc)?;
-    lasts_999_seconds(rt, &copy)
-}
-
-#[test]
-fn a_clone_answers_as_its_policy(rt: HostRuntime) -> Result<(), Fail> {
-    let policy = policy(rt.alloc(), LINES)?;
-    clone_lasts_999_seconds(&rt, rt.alloc(), &policy)
-}
-
-fn means_a_get<Req: RequestLike>(
-    rt: &impl Abort,
-    alloc: Global,
-    request: &Req,
-) -> Result<(), Fail> {
-    let target = request.uri(alloc)?;
-    assert_eq!(rt; target.path(), "/a");
-    assert!(rt; request.is_same_uri(&target));
-    assert!(rt; *request.method() == Method::GET);
-    assert_eq!(rt; request.headers().len(), 0);
-    Ok(())
-}
-
-fn means_a_200<Res: ResponseLike>(rt: &impl Abort, response: &Res) {
-    assert_eq!(rt; response.status().as_u16(), 200);
-    assert_eq!(rt; response.headers().len(), 1);
-}
-
-#[test]
-fn requests_mean_their_fields(rt: HostRuntime) -> Result<(), Fail> {
-    let parts = request(rt.alloc(), "GET", "")?;
-    means_a_get(&rt, rt.alloc(), &parts)?;
-    means_a_get(&rt, rt.alloc(), &Request::from_parts(parts, ()))
-}
-
-#[test]
-fn responses_mean_their_fields(rt: HostRuntime) -> Result<(), Fail> {
-    let parts = response(rt.alloc(), "200", LINES)?;
-    means_a_200(&rt, &parts);
-    means_a_200(&rt, &Response::from_parts(parts, ()));
-    Ok(())
 }
 
 #[test]

@@ -133,20 +133,3 @@ fn choices_among_variants(rt: HostRuntime) -> Result<(), Fail> {
     }
     Ok(())
 }
-
-// The seconds that the policy at a place has left.
-fn left_at(variants: &Variants, place: usize) -> Result<u64, Fail> {
-    let policy = variants.policy_at(place).ok_or("no policy")?;
-    Ok(policy.time_to_live(after(0)?).as_secs())
-}
-
-#[test]
-fn the_newest_variant_comes_first(rt: HostRuntime) -> Result<(), Fail> {
-    let mut variants = Variants::new(rt.alloc());
-    for told in ["Cache-Control: max-age=1", "Cache-Control: max-age=2"] {
-        put(&mut variants, policy(rt.alloc(), "", told)?)?;
-    }
-    assert_eq!(rt; left_at(&variants, 0)?, 2);
-    assert_eq!(rt; left_at(&variants, 1)?, 1);
-    Ok(())
-}
