@@ -14,7 +14,7 @@ use Rattle.http_cache_fields.specs.Directives.{must_revalidate, with_conflict, d
 use Rattle.http_cache_fields.proofs.ReadLemmas.{HasRead, HasRead-none, HasRead-new, HasRead-again, has_name_of}
 
 -- the pieces say the directives at first positions
-abbrev Says : List (List ℕ) → Type 0
+abbrev pub Says : List (List ℕ) → Type 0
 Says ps = HasRead ps (first_directives ps) (has_conflict ps)
 
 Says-from_read : (ps : List (List ℕ)) (ds : List Directive) (conflict : Bool) → HasRead ps ds conflict → Says ps
@@ -30,7 +30,7 @@ Says-push ps p h = by (value_under (first_directives ps) (name_of p)) refl
     by None e = Says-from_read _ _ _ (HasRead-new ps (first_directives ps) (has_conflict ps) p h e)
     by (Some v) e = Says-from_read _ _ _ (HasRead-again ps (first_directives ps) (has_conflict ps) p v h e)
 
-Says-all : (done ps : List (List ℕ)) → Says done → Says (done ++ ps)
+pub Says-all : (done ps : List (List ℕ)) → Says done → Says (done ++ ps)
 Says-all done [] h = subst Says (sym (append-nil done)) h
 Says-all done (p ∷ ps) h =
     subst Says (append_assoc done (p ∷ []) ps) (Says-all (done ++ p ∷ []) ps (Says-push done p h))

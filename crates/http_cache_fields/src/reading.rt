@@ -61,7 +61,7 @@ impl<'a> FirstDirectives<'a> {
     }
 
     /// The value of the directive with the name in any case, if it is there.
-    pub fn get(&self, name: &'a str) -> Option<Option<&'a str>>
+    fn get(&self, name: &'a str) -> Option<Option<&'a str>>
         ensures { option_map option_copied result ≡ value_under self.now (lowercase name.now) }
     {
         let mut first = self.list.iter().take(LOOKED_THROUGH);
@@ -69,13 +69,6 @@ impl<'a> FirstDirectives<'a> {
             Some(directive) => Some(directive.1),
             None => self.later.get(&Name(name)).copied(),
         }
-    }
-
-    /// Whether a directive has the name in any case.
-    pub fn contains_key(&self, name: &'a str) -> bool
-        ensures { result ≡ has self.now (lowercase name.now) }
-    {
-        self.get(name).is_some()
     }
 
     // The same with a directive of a new name behind them.
@@ -106,28 +99,50 @@ pub struct Reading<'a> {
     pub conflict: bool,
 }
 
+impl<'a> Reading<'a> {
+    ghost use Rattle.http_cache_fields.specs.ReadMore.{nothing_read, read_more, IsDirectiveIfNamed};
+
+    /// No directives.
+    pub fn new(alloc: Global) -> Reading<'a>
+        ensures { result ≡ nothing_read }
+    {
+        Reading {
+            first: FirstDirectives::new(alloc),
+            conflict: false,
+        }
+    }
+
+    /// The same with one more directive behind them, by its name and its value as they were sent.
+    /// One without a name doesn't count.
+    pub fn with(self, name: &'a str, value: Option<&'a str>) -> Result<Reading<'a>, AllocError>
+        requires { IsDirectiveIfNamed (lowercase name.now) (option_copied value) }
+        ensures { IfOk result (λ more. more
+            ≡ read_more self.entry (lowercase name.now) (option_copied value.entry)) }
+    {
+        let Reading { first, conflict } = self;
+        if name.is_empty() {
+            return Ok(Reading { first, conflict });
+        }
+        if let Some(earlier) = first.get(name) {
+            let conflict = conflict || earlier != value;
+            return Ok(Reading { first, conflict });
+        }
+        let first = first.with(name, value.map(unquote))?;
+        Ok(Reading { first, conflict })
+    }
+}
+
 /// Reads the directives of a header.
 pub fn read<'a>(alloc: Global, all: GetAll<'a, HeaderValue>) -> Result<Reading<'a>, AllocError>
     ensures { IfOk result (λ read. with_conflict read.conflict read.first
         ≡ directives (pieces_of_values (bytes_of all.entry))) }
 {
-    let mut first = FirstDirectives::new(alloc);
-    let mut conflict = false;
+    let mut read = Reading::new(alloc);
     for piece in get_all_comma(all) {
         let (name, value) = split_piece(piece);
-        if name.is_empty() {
-            continue;
-        }
-        match first.get(name) {
-            Some(earlier) => {
-                if earlier != value {
-                    conflict = true;
-                }
-            }
-            None => first = first.with(name, value.map(unquote))?,
-        }
+        read = read.with(name, value)?;
     }
-    Ok(Reading { first, conflict })
+    Ok(read)
 }
 
 /// Reads the Cache-Control lines of a map.

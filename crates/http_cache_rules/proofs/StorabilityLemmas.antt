@@ -1,5 +1,5 @@
 -- A response may be stored exactly where no condition forbids it.
-use Rattle.std.proofs.Common.{◌≡◌, Bool, true, false, not, ◌&&◌, ◌||◌, List, [], ◌∷◌, codes, Option, Some, None}
+use Rattle.std.proofs.Common.{◌≡◌, Bool, true, false, not, ◌&&◌, ◌||◌, [], ◌∷◌, codes, Option, Some, None}
 use Rattle.std.proofs.Common.{is_none, cond, refl, sym, ap, ◌∙◌}
 use Rattle.http_cache_fields.specs.Headers.{contains_key}
 use Rattle.http_cache_fields.specs.Directives.{has}

@@ -1,15 +1,15 @@
 //! What the rules ask of the directives of a stored response.
-ghost use Rattle.std.specs.Prelude.{◌≡◌, IfOk};
-ghost use Rattle.http_header.specs.Token.{lowercase};
+ghost use Rattle.std.specs.Prelude.{◌≡◌, ℕ, List, option_map, option_copied, IfOk};
 ghost use Rattle.http_cache_fields.specs.Headers.{headers_of};
-ghost use Rattle.http_cache_fields.specs.Directives.{cache_control, with_conflict};
+ghost use Rattle.http_cache_fields.specs.Directives.{directives, cache_control};
 ghost use Rattle.http_cache_fields.specs.Pragma.{with_no_cache, with_pragma};
-ghost use Rattle.http_cache_rules.specs.DeltaSeconds.{delta_seconds_under};
+ghost use Rattle.http_cache_rules.specs.DeltaSeconds.{said_by_value};
 ghost use Rattle.http_cache_rules.specs.StoredDirectives.{stored_directives_of};
+ghost use Rattle.http_cache_rules.specs.Told.{IsTold};
 
 use crate::delta_seconds::DeltaSeconds;
+use crate::told::{Said, told_by};
 use http_cache_fields::pragma::pragma_stands_in;
-use http_cache_fields::reading::{FirstDirectives, Reading, read_cache_control};
 use http_header::HeaderMap;
 use std::alloc::{AllocError, Global};
 
@@ -36,32 +36,31 @@ pub struct StoredDirectives {
     pub max_age: DeltaSeconds,
 }
 
-// What the directive of a name says, in any case.
-fn delta_seconds_under<'a>(directives: &FirstDirectives<'a>, name: &'a str) -> DeltaSeconds
-    ensures { result ≡ delta_seconds_under directives.now (lowercase name.now) }
+// What a directive says that counts seconds, if it is there.
+fn delta_seconds(said: Said<'_>) -> DeltaSeconds
+    ensures { result ≡ said_by_value (option_map option_copied said.entry) }
 {
-    match directives.get(name) {
+    match said {
         Some(value) => DeltaSeconds::of_value(value),
         None => DeltaSeconds::Absent,
     }
 }
 
 // What directives say that were read, where a Pragma may say no-cache.
-fn found_in(read: &Reading<'_>, no_cache: bool) -> StoredDirectives
-    ensures { result ≡ stored_directives_of
-        (with_no_cache no_cache (with_conflict read.now.conflict read.now.first)) }
+fn found_in(asked: [Said<'_>; 9], conflict: bool, no_cache: bool) -> StoredDirectives
+    ensures { (pieces : List (List ℕ)) → IsTold pieces asked.entry conflict
+        → result ≡ stored_directives_of (with_no_cache no_cache (directives pieces)) }
 {
-    let first = &read.first;
     StoredDirectives {
-        no_store: first.contains_key("no-store"),
-        no_cache: no_cache || first.contains_key("no-cache"),
-        private: first.contains_key("private"),
-        public: first.contains_key("public"),
-        must_revalidate: read.conflict || first.contains_key("must-revalidate"),
-        proxy_revalidate: first.contains_key("proxy-revalidate"),
-        immutable: first.contains_key("immutable"),
-        s_maxage: delta_seconds_under(first, "s-maxage"),
-        max_age: delta_seconds_under(first, "max-age"),
+        no_store: asked[0].is_some(),
+        no_cache: no_cache || asked[1].is_some(),
+        private: asked[2].is_some(),
+        public: asked[3].is_some(),
+        must_revalidate: conflict || asked[4].is_some(),
+        proxy_revalidate: asked[5].is_some(),
+        immutable: asked[6].is_some(),
+        s_maxage: delta_seconds(asked[7]),
+        max_age: delta_seconds(asked[8]),
     }
 }
 
@@ -72,7 +71,7 @@ impl StoredDirectives {
         ensures { IfOk result (λ found. found ≡ stored_directives_of
             (with_pragma (headers_of res.now) (cache_control (headers_of res.now)))) }
     {
-        let read = read_cache_control(alloc, res)?;
-        Ok(found_in(&read, pragma_stands_in(res)))
+        let (asked, conflict) = told_by(alloc, res)?;
+        Ok(found_in(asked, conflict, pragma_stands_in(res)))
     }
 }

@@ -1,7 +1,7 @@
 -- The lifetime and its source are those of the first row that applies.
-use Rattle.std.proofs.Common.{◌≡◌, Option, None, option_map, sym, ap, ◌∙◌}
+use Rattle.std.proofs.Common.{option_map, sym, ap, ◌∙◌}
 use Rattle.std.proofs.lemmas.Result.{IfOk-weaker}
-use Rattle.http_cache_rules.specs.Exchange.{Exchange, exchange_in}
+use Rattle.http_cache_rules.specs.Exchange.{exchange_in}
 use Rattle.http_cache_rules.specs.Freshness.{Sourced, freshness_seen}
 use Rattle.http_cache_rules.proofs.LifetimeLemmas.{freshness-zero, freshness-seconds, freshness-dates}
 use Rattle.http_cache_rules.specs.declared.freshness.LifetimeSource.{LifetimeSource}

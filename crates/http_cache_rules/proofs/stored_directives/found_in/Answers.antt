@@ -1,42 +1,51 @@
--- Each directive is found as it is read, with what a conflict and a Pragma add.
-use Rattle.std.proofs.Common.{◌≡◌, Bool, ◌||◌, codes, refl, sym, ap, ◌∙◌, is_some}
-use Rattle.http_cache_fields.specs.Directives.{has}
+-- Each directive is found at its place, with what a conflict and a Pragma add.
+use Rattle.std.proofs.Common.{◌≡◌, ℕ, Bool, true, false, ◌||◌, List, None, codes, refl, sym, ap, ◌∙◌}
+use Rattle.std.proofs.Common.{filter, is_some, nat_lt, bytes_eq, slice_index_or}
+use Rattle.http_cache_fields.specs.Directives.{has, has_name, first_directives, has_conflict}
 use Rattle.http_cache_rules.specs.DeltaSeconds.{said_by_value}
+use Rattle.http_cache_rules.specs.Told.{place_of}
 use Rattle.http_cache_rules.proofs.StoredDirectivesLemmas.{found-other, found-no_cache, found-must_revalidate}
+use Rattle.http_cache_rules.proofs.ToldLemmas.{is_some-copied}
 use Rattle.http_cache_rules.proofs.stored_directives.found_in.Goals as goal
-use Rattle.http_cache_rules.proofs.stored_directives.found_in.Goals.{then-no_cache, else-no_cache, then-read, else-read}
+use Rattle.http_cache_rules.proofs.stored_directives.found_in.Goals.{then-no_cache, else-no_cache, then-conflict, else-conflict}
 
 pub returns : goal.returns
-returns c =
-    let ds = c.args.read.now.first in
+returns c = λ pieces told.
+    let ps = filter has_name pieces in
+    let ds = first_directives ps in
+    let asked = c.args.asked in
     let said = c.args.no_cache in
-    let conflict = c.args.read.now.conflict in
+    let conflict = has_conflict ps in
+    let clash = told.clash in
     let left = found-other said conflict ds in
+    let there = λ (n : List ℕ) (inside : nat_lt (place_of n) 9 ≡ true).
+    is_some-copied (slice_index_or asked (place_of n) None) ∙ ap is_some (told.under n inside) in
     let no_cache : c.if-no_cache.result ≡ (said || has ds (codes "no-cache")) =
     elim c.if-no_cache.branch [
       | then-no_cache w ↦ w.result-is ∙ w.if-no_cache.true
           ∙ ap (λ (b : Bool). b || has ds (codes "no-cache")) (sym w.if-no_cache.true)
-      | else-no_cache w ↦ w.result-is ∙ w.contains_key-else-no_cache.ensures
+      | else-no_cache w ↦ w.result-is ∙ w.is_some-else-no_cache.ensures ∙ there (codes "no-cache") refl
           ∙ ap (λ (b : Bool). b || has ds (codes "no-cache")) (sym w.if-no_cache.false)
     ] in
-    let must_revalidate : c.if-read.result ≡ (conflict || has ds (codes "must-revalidate")) =
-    elim c.if-read.branch [
-      | then-read w ↦ w.result-is ∙ w.if-read.true
-          ∙ ap (λ (b : Bool). b || has ds (codes "must-revalidate")) (sym w.if-read.true)
-      | else-read w ↦ w.result-is ∙ w.contains_key-else-read.ensures
-          ∙ ap (λ (b : Bool). b || has ds (codes "must-revalidate")) (sym w.if-read.false)
+    let must_revalidate : c.if-conflict.result ≡ (conflict || has ds (codes "must-revalidate")) =
+    elim c.if-conflict.branch [
+      | then-conflict w ↦ w.result-is ∙ w.if-conflict.true
+          ∙ ap (λ (b : Bool). b || has ds (codes "must-revalidate")) (sym w.if-conflict.true ∙ clash)
+      | else-conflict w ↦ w.result-is ∙ w.is_some-else-conflict.ensures ∙ there (codes "must-revalidate") refl
+          ∙ ap (λ (b : Bool). b || has ds (codes "must-revalidate")) (sym w.if-conflict.false ∙ clash)
     ] in
+    let has_left = λ (n : List ℕ) (inside : nat_lt (place_of n) 9 ≡ true) (e : bytes_eq n (codes "no-cache") ≡ false)
+    (f : bytes_eq n (codes "must-revalidate") ≡ false). there n inside ∙ ap is_some (sym (left n e f)) in
+    let said_left = λ (n : List ℕ) (inside : nat_lt (place_of n) 9 ≡ true) (e : bytes_eq n (codes "no-cache") ≡ false)
+    (f : bytes_eq n (codes "must-revalidate") ≡ false). ap said_by_value (told.under n inside ∙ sym (left n e f)) in
     λ i. record {
-      no_store = (c.contains_key.ensures ∙ ap is_some (sym (left (codes "no-store") refl refl))) i;
+      no_store = (c.is_some.ensures ∙ has_left (codes "no-store") refl refl refl) i;
       no_cache = (no_cache ∙ sym (found-no_cache said conflict ds)) i;
-      private = (c.contains_key-2.ensures ∙ ap is_some (sym (left (codes "private") refl refl))) i;
-      public = (c.contains_key-3.ensures ∙ ap is_some (sym (left (codes "public") refl refl))) i;
+      private = (c.is_some-2.ensures ∙ has_left (codes "private") refl refl refl) i;
+      public = (c.is_some-3.ensures ∙ has_left (codes "public") refl refl refl) i;
       must_revalidate = (must_revalidate ∙ sym (found-must_revalidate said conflict ds)) i;
-      proxy_revalidate =
-          (c.contains_key-4.ensures ∙ ap is_some (sym (left (codes "proxy-revalidate") refl refl))) i;
-      immutable = (c.contains_key-5.ensures ∙ ap is_some (sym (left (codes "immutable") refl refl))) i;
-      s_maxage =
-          (c.delta_seconds_under.ensures ∙ ap said_by_value (sym (left (codes "s-maxage") refl refl))) i;
-      max_age =
-          (c.delta_seconds_under-2.ensures ∙ ap said_by_value (sym (left (codes "max-age") refl refl))) i;
+      proxy_revalidate = (c.is_some-4.ensures ∙ has_left (codes "proxy-revalidate") refl refl refl) i;
+      immutable = (c.is_some-5.ensures ∙ has_left (codes "immutable") refl refl refl) i;
+      s_maxage = (c.delta_seconds.ensures ∙ said_left (codes "s-maxage") refl refl refl) i;
+      max_age = (c.delta_seconds-2.ensures ∙ said_left (codes "max-age") refl refl refl) i;
     }

@@ -1,0 +1,11 @@
+-- While pieces are read, what is told is what the named pieces so far say.
+use Rattle.std.proofs.Common.{◌≡◌, length}
+use Rattle.http_cache_fields.proofs.ReadLemmas.{named}
+use Rattle.http_cache_rules.specs.Told.{IsToldBy}
+use Rattle.http_cache_rules.proofs.told.told_by.Given as goal
+
+abbrev pub invariant-loop-piece : goal.invariant-loop-piece
+invariant-loop-piece l =
+    (goal.iterator-loop-piece).can_next l.piece-iterator
+    × (goal.iterator-loop-piece).is_finite l.piece-iterator × (length l.asked ≡ 9)
+    × IsToldBy (named l.yielded) l.asked l.others.first l.others.conflict
