@@ -1,6 +1,6 @@
 //! Tells how long the library's calls take on this machine.
 //!
-//! `timing COUNT < SCRIPT` makes a policy of the script's exchange and prints, for each call on it,
+//! `bench_calls COUNT < SCRIPT` makes a policy of the script's exchange and prints, for each call on it,
 //! the mean nanoseconds of so many runs, and then that of a choice among 1, 10, 100 and 1,000 copies
 //! of the policy of which none matches, in as many tests. Without a count it prints nothing.
 #![tactic(auto)]

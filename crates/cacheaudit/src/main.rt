@@ -3,11 +3,13 @@
 #![tactic(auto)]
 
 mod arguments;
+mod progress;
 
 use arguments::settings_of;
 use http_cache_audit::audit::Settings;
 use http_cache_audit::error::AuditError;
 use http_cache_audit::run::run;
+use progress::Watched;
 use std::process::ExitCode;
 use std::{env, io};
 
@@ -40,6 +42,11 @@ fn main(rt: HostRuntime) -> ExitCode {
         let _ = eprintln!(&rt; "{USAGE}");
         return ExitCode::from(NO_COMMAND);
     };
-    let ended = run(rt.alloc(), &mut rt.stdin(), &mut rt.stdout(), settings);
+    let ended = run(
+        rt.alloc(),
+        &mut Watched::new(&rt),
+        &mut rt.stdout(),
+        settings,
+    );
     status(&rt, ended)
 }

@@ -6,12 +6,13 @@ use Rattle.serde_json.specs.View.{items_of}
 use Rattle.http_cache_semantics.specs.Freshness.{Sourced}
 use Rattle.http_cache_semantics.specs.Reason.{ReasonSeen, ExplanationSeen, is_mismatch}
 use Rattle.http_cache_recording.specs.Entry.{ToldSeen, SkipSeen}
+use Rattle.http_cache_audit.specs.declared.asked.Validator.{Validator}
 use Rattle.http_cache_audit.specs.declared.walk.Walked.{Walked}
 use Rattle.http_cache_audit.specs.Heard.{HeardSeen, KeptSeen, unasked, failed, browser, stored, seeded, updated}
 use Rattle.http_cache_audit.specs.Heard.{updated_other, not_storable, not_selected, nothing_stored}
 use Rattle.http_cache_audit.specs.Walk.{VerdictSeen}
 use Rattle.http_cache_audit.specs.Words.{whole_seconds, verdict_word, heard_word, source_word, skip_words}
-use Rattle.http_cache_audit.specs.Words.{why_words, reasons, kept_in, is_miss}
+use Rattle.http_cache_audit.specs.Words.{why_words, reasons, kept_in, is_miss, validator_word}
 
 -- what stands under a name: a text, a whole number, a list of texts or `true`
 pub data Shown : Type 0 where
@@ -121,6 +122,10 @@ abbrev pub unchanged_shown : Bool → Option Shown
 unchanged_shown true = Some yes
 unchanged_shown false = None
 
+-- what a stored response that was to be validated is validated by
+abbrev pub validator_shown : Option Validator → Option Shown
+validator_shown validator = option_map (λ by. text (validator_word by)) validator
+
 -- ---- the objects
 
 -- that of an audited entry at a place, by the method of its request, the names that are assumed of it, and hints
@@ -129,7 +134,8 @@ json_of place t method names hints v =
     let told = with_members (told_members place t) no_members in
     let asked = with_members (asked_members v.asked) told in
     let heard = with_members (heard_members method t.status v.heard) asked in
-    let unchanged = with_member (codes "unchanged") (unchanged_shown v.unchanged) heard in
+    let validator = with_member (codes "validator") (validator_shown v.validator) heard in
+    let unchanged = with_member (codes "unchanged") (unchanged_shown v.unchanged) validator in
     let assumed = with_member (codes "assumed") (assumed_shown v.asked.reason names) unchanged in
     let hinted = with_member (codes "hints") (some_texts hints) assumed in
     object (with_member (codes "bytes") (Some (count t.bytes)) hinted)

@@ -14,6 +14,8 @@ use Rattle.http_cache_semantics.specs.Match.{request_matches}
 use Rattle.http_cache_semantics.specs.Update.{selects, next_exchange}
 use Rattle.http_cache_semantics.specs.Variants.{matching_place}
 use Rattle.http_cache_audit.specs.declared.shelf.Arrival.{Arrival}
+use Rattle.http_cache_audit.specs.declared.asked.Validator.{Validator}
+use Rattle.http_cache_audit.specs.declared.asked.Validator.TheVariants as by
 use Rattle.http_cache_audit.specs.Heard.{HeardSeen, kept_of, stored, updated, updated_other, not_storable}
 use Rattle.http_cache_audit.specs.Heard.{not_selected, nothing_stored}
 
@@ -104,6 +106,19 @@ is_unchanged a es =
     let as_304 = record a.response { status = 304 } in
     let asked_about = option_and_then (slice_get es) (matching_place a.request es) in
     not (a.response.status == 304) && option_map_or (names as_304) asked_about false
+
+-- ---- what it is validated by
+
+-- its entity tag, or else the date at which it was last modified (RFC 7232, section 2)
+abbrev pub validator_of : Exchange → Option Validator
+validator_of e =
+    if is_some (first_text_under e.response_headers (codes "etag")) then Some by.EntityTag
+    else if is_some (first_text_under e.response_headers (codes "last-modified")) then Some by.LastModified
+    else None
+
+-- the first that is the answer to the request is to be validated
+unfoldable pub validator_among : RequestSeen → List Exchange → Option Validator
+validator_among request es = option_and_then validator_of (option_and_then (slice_get es) (matching_place request es))
 
 -- ---- both
 

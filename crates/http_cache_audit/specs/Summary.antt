@@ -123,6 +123,7 @@ has_mark mark.MissedByVary v = is_missed_by_vary v
 has_mark mark.Validated v = is_validated v
 has_mark mark.Changed v = is_changed v
 has_mark mark.Unchanged v = v.unchanged
+has_mark mark.WithoutValidator v = is_validated v && is_none v.validator
 has_mark (mark.Came what) v = has_come what v.heard
 has_mark (mark.Forbidden what) v = is_forbidden_by what v.heard
 has_mark (mark.Zero why) v = is_zero_by why v.heard

@@ -1,6 +1,6 @@
 -- What a cache would have answered to the requests of a session, one after the other.
 use Rattle.std.specs.Prelude.{ℤ, int_le, Bool, false, not, ◌&&◌, nat_lt, List, [], ◌∷◌, ◌++◌, codes, filter, fold}
-use Rattle.std.specs.Prelude.{Option, is_some, if◌then◌else◌, option_map, option_and_then, unwrap_or}
+use Rattle.std.specs.Prelude.{Option, None, is_some, if◌then◌else◌, option_map, option_and_then, unwrap_or}
 use Rattle.std.specs.List.{list_any}
 use Rattle.std.specs.Option.{option_map_or}
 use Rattle.std.specs.Result.{result_ok}
@@ -17,11 +17,12 @@ use Rattle.http_cache_recording.specs.Entry.{EntrySeen, entry_seen, AnswerSeen, 
 use Rattle.http_cache_audit.specs.declared.shelves.Key.{Key}
 use Rattle.http_cache_audit.specs.declared.walk.Walked.{Walked}
 use Rattle.http_cache_audit.specs.declared.walk.Verdict.{Verdict}
+use Rattle.http_cache_audit.specs.declared.asked.Validator.{Validator}
 use Rattle.http_cache_audit.specs.Key.{key_eq}
 use Rattle.http_cache_audit.specs.Asked.{asked_seen}
 use Rattle.http_cache_audit.specs.Heard.{HeardSeen, heard_seen, kept_of, unasked, browser, seeded, not_storable}
 use Rattle.http_cache_audit.specs.Heard.{failed as nothing_came}
-use Rattle.http_cache_audit.specs.Shelf.{Hearing, ArrivalSeen, arrived, hear_response, is_unchanged}
+use Rattle.http_cache_audit.specs.Shelf.{Hearing, ArrivalSeen, arrived, hear_response, is_unchanged, validator_among}
 
 -- an entry, and the request that is asked in its place where something is assumed of that
 pub record WalkedSeen : Type 0 where
@@ -92,6 +93,7 @@ pub record VerdictSeen : Type 0 where
   pub asked : ExplanationSeen
   pub heard : HeardSeen
   pub unchanged : Bool
+  pub validator : Option Validator
   pub repeated : Bool
 
 abbrev pub verdict_seen : Verdict → VerdictSeen
@@ -99,6 +101,7 @@ verdict_seen v = record {
   asked = asked_seen v.asked;
   heard = heard_seen v.heard;
   unchanged = v.unchanged;
+  validator = v.validator;
   repeated = v.repeated;
 }
 
@@ -110,6 +113,9 @@ verdict_among options repeated es w = record {
   unchanged =
       not (is_some (fresh_place (asked_request w es) w.entry.started es))
       && is_unchanged_by w.entry w.entry.answer es;
+  validator =
+      if is_some (fresh_place (asked_request w es) w.entry.started es) then None
+      else validator_among (asked_request w es) es;
   repeated = repeated;
 }
 

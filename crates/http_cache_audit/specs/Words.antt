@@ -10,6 +10,8 @@ use Rattle.http_cache_semantics.specs.declared.explain.LifetimeSource.{LifetimeS
 use Rattle.http_cache_semantics.specs.declared.explain.LifetimeSource.TheVariants as source
 use Rattle.http_cache_recording.specs.Entry.{SkipSeen, no_request, scheme, no_target, connect, upgrade}
 use Rattle.http_cache_recording.specs.Entry.{service_worker, no_moment, too_many_headers}
+use Rattle.http_cache_audit.specs.declared.asked.Validator.{Validator}
+use Rattle.http_cache_audit.specs.declared.asked.Validator.TheVariants as by
 use Rattle.http_cache_audit.specs.Heard.{HeardSeen, KeptSeen, unasked, failed, browser, stored, seeded, updated}
 use Rattle.http_cache_audit.specs.Heard.{updated_other, not_storable, not_selected, nothing_stored}
 
@@ -58,6 +60,11 @@ source_word source.Expires = codes "expires"
 source_word source.LastModified = codes "last-modified"
 source_word source.Immutable = codes "immutable"
 source_word source.Nothing = codes "none given"
+
+-- what a stored response is validated by
+unfoldable pub validator_word : Validator → List ℕ
+validator_word by.EntityTag = codes "etag"
+validator_word by.LastModified = codes "last-modified"
 
 -- why an entry isn't audited
 unfoldable pub skip_words : SkipSeen → List ℕ

@@ -1,5 +1,5 @@
 //! Why no stored response was used for a request, or that one was.
-ghost use Rattle.std.specs.Prelude.{◌≡◌, IfOk, option_map};
+ghost use Rattle.std.specs.Prelude.{◌≡◌, IfOk};
 ghost use Rattle.http_cache_semantics.specs.Reason.{reason_seen, explanation_seen};
 ghost use Rattle.http_cache_audit.specs.Asked.{cause_seen, asked_seen};
 
@@ -28,6 +28,15 @@ pub enum Cause {
     MinFresh(u64),
     /// The response was stale.
     Stale(StaleReason),
+}
+
+/// What tells a stored response from others when it is validated (RFC 7232, section 2).
+#[derive(Clone, Copy, Debug)]
+pub enum Validator {
+    /// Its entity tag, also where it has a date too.
+    EntityTag,
+    /// The date at which it was last modified.
+    LastModified,
 }
 
 /// What a store answered to a request: an `Explanation` that stands alone.

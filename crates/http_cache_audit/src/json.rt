@@ -1,7 +1,7 @@
 //! The lines of an audit as JSON: an object a line.
 ghost use Rattle.std.specs.Prelude.{◌≡◌, [], ◌∷◌, ◌++◌, false, Some, None, IfOk, OnOk, codes};
 ghost use Rattle.std.specs.Prelude.{map, option_map, string_bytes};
-ghost use Rattle.serde_json.specs.Data.{string, object, Members};
+ghost use Rattle.serde_json.specs.Data.{string, object};
 ghost use Rattle.serde_json.specs.View.{view, members_view};
 ghost use Rattle.serde_json.specs.Written.{compact_text, members_have_float};
 ghost use Rattle.http_cache_recording.specs.Entry.{told_seen, skip_seen};
@@ -13,16 +13,17 @@ ghost use Rattle.http_cache_audit.specs.JsonLine.{text, count, texts, some_texts
 ghost use Rattle.http_cache_audit.specs.JsonLine.{with_member, with_members, told_members};
 ghost use Rattle.http_cache_audit.specs.JsonLine.{asked_members, age_members, heard_members};
 ghost use Rattle.http_cache_audit.specs.JsonLine.{reasons_shown, kept_members, assumed_shown};
-ghost use Rattle.http_cache_audit.specs.JsonLine.{assumed_names, unchanged_shown, json_of, json_of_skip};
+ghost use Rattle.http_cache_audit.specs.JsonLine.{assumed_names, validator_shown, unchanged_shown};
+ghost use Rattle.http_cache_audit.specs.JsonLine.{json_of, json_of_skip};
 ghost use Rattle.http_cache_audit.specs.Lint.{hints_of};
 
-use crate::asked::{Asked, Cause};
+use crate::asked::{Asked, Cause, Validator};
 use crate::heard::{Heard, Kept};
 use crate::lint::hints_of;
 use crate::walk::{Verdict, Walked};
 use crate::words::{
-    heard_word, is_mismatch, is_miss, kept_in, reasons, skip_words, source_word, verdict_word,
-    why_words,
+    heard_word, is_mismatch, is_miss, kept_in, reasons, skip_words, source_word, validator_word,
+    verdict_word, why_words,
 };
 use http_cache_recording::{Skip, Told};
 use serde_json::{Map, Value, put};
@@ -329,6 +330,22 @@ fn put_unchanged(
     }
 }
 
+// What the stored response that was to be validated is validated by.
+#[tactic(auto, unfolding(crate::specs::JsonLine::with_member))]
+fn put_validator(
+    members: &mut Map<String, Value>,
+    alloc: Global,
+    validator: Option<Validator>,
+) -> Result<(), AllocError>
+    ensures { OnOk result (members_view members.new.entries ≡ with_member (codes "validator")
+        (validator_shown validator) (members_view members.old.entries)) }
+{
+    match validator {
+        Some(by) => put_text(members, alloc, "validator", validator_word(by)),
+        None => Ok(()),
+    }
+}
+
 // The line of an object whose members have no float.
 fn push_object(
     alloc: Global,
@@ -362,6 +379,7 @@ fn push_object(
 /// | `received` | what became of what came |
 /// | `reasons` | of what isn't storable, all |
 /// | `new_lifetime`, `new_ttl`, `by` | of what was stored or updated |
+/// | `validator` | `etag` or `last-modified`: what the one that is validated can be validated by |
 /// | `unchanged` | `true` where a full answer came though a 304 would have done |
 /// | `hints` | what looks wrong in a response that came |
 #[tactic(auto, unfolding(crate::specs::JsonLine::json_of))]
@@ -384,6 +402,7 @@ pub fn json_line(
     put_told(&mut members, alloc, place, told)?;
     put_asked(&mut members, alloc, &verdict.asked)?;
     put_heard(&mut members, alloc, method, told.status, &verdict.heard)?;
+    put_validator(&mut members, alloc, verdict.validator)?;
     put_unchanged(&mut members, alloc, verdict.unchanged)?;
     put_assumed(&mut members, alloc, walked, &verdict.asked)?;
     put_some_texts(&mut members, alloc, "hints", &hints)?;

@@ -18,6 +18,6 @@ pub mod tell;
 pub mod walk;
 pub mod words;
 
-pub use asked::{Asked, Cause};
+pub use asked::{Asked, Cause, Validator};
 pub use heard::{Heard, Kept};
 pub use walk::{Assumed, Verdict, Walked};

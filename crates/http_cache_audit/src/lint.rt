@@ -1,5 +1,5 @@
 //! What looks wrong in a response, though the rules of caching give it a meaning.
-ghost use Rattle.std.specs.Prelude.{◌≡◌, ◌≤◌, ◌&&◌, ◌||◌, ◌++◌, not, length, codes, pos, int_lt, ◌-ℤ◌, option_copied};
+ghost use Rattle.std.specs.Prelude.{◌≡◌, ◌≤◌, ◌&&◌, ◌||◌, ◌++◌, not, length, pos, int_lt, ◌-ℤ◌, option_copied};
 ghost use Rattle.std.specs.Prelude.{map, string_bytes, IfOk, OnOk};
 ghost use Rattle.std.specs.List.{find, list_any, position_or_len};
 ghost use Rattle.std.specs.Char.{is_ascii_uppercase};

@@ -3,16 +3,17 @@ ghost use Rattle.std.specs.Prelude.{◌≡◌, ◌<◌, [], ◌∷◌, ◌||◌,
 ghost use Rattle.std.specs.Prelude.{IfOk, IfSome, OnOk, slice_get, option_map, if◌then◌else◌};
 ghost use Rattle.std.specs.List.{find};
 ghost use Rattle.http_cache_semantics.specs.Headers.{headers_of, first_text_under};
-ghost use Rattle.http_cache_semantics.specs.Messages.{request_seen, response_seen};
+ghost use Rattle.http_cache_semantics.specs.Messages.{request_seen};
 ghost use Rattle.http_cache_semantics.specs.Options.{options_of};
 ghost use Rattle.http_cache_semantics.specs.Storing.{is_storable};
 ghost use Rattle.http_cache_semantics.specs.Storability.{obstacles};
 ghost use Rattle.http_cache_semantics.specs.Update.{selects, next_exchange};
 ghost use Rattle.http_cache_audit.specs.Heard.{kept_seen, kept_of, heard_seen, stored};
 ghost use Rattle.http_cache_audit.specs.Shelf.{arrival_seen, is_unchanged, beside, left_by, arrived, hear_new, renewal};
-ghost use Rattle.http_cache_audit.specs.Shelf.{names, hear_validated, hear_other, hear_not_modified, hear_response};
+ghost use Rattle.http_cache_audit.specs.Shelf.{names, validator_of, validator_among, hear_validated, hear_other, hear_not_modified, hear_response};
 ghost use Rattle.http_cache_audit.specs.Walk.{seed};
 
+use crate::asked::Validator;
 use crate::heard::{Heard, Kept};
 use http::{HeaderMap, StatusCode, request, response};
 use http_cache_semantics::directives::GetHeaderStr;
@@ -289,6 +290,31 @@ pub(crate) fn is_unchanged(
     match variants.matching_place(came.request) {
         Some(place) => would_renew(alloc, policy_at(variants, place), came),
         None => Ok(false),
+    }
+}
+
+// What a stored response is validated by, if it can be.
+fn validator_of(policy: &CachePolicy) -> Option<Validator>
+    ensures { result ≡ validator_of policy.now }
+{
+    let headers = policy.stored_headers();
+    if headers.get_str("etag").is_some() {
+        return Some(Validator::EntityTag);
+    }
+    if headers.get_str("last-modified").is_some() {
+        return Some(Validator::LastModified);
+    }
+    None
+}
+
+/// What the first that is the answer to a request is validated by, if it can be.
+#[tactic(auto, unfolding(crate::specs::Shelf::validator_among))]
+pub(crate) fn validator_among(variants: &Variants, request: &request::Parts) -> Option<Validator>
+    ensures { result ≡ validator_among (request_seen request.now) variants.now }
+{
+    match variants.matching_place(request) {
+        Some(place) => validator_of(policy_at(variants, place)),
+        None => None,
     }
 }
 

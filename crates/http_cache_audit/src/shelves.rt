@@ -1,5 +1,5 @@
 //! What is stored under each method and target.
-ghost use Rattle.std.specs.Prelude.{◌≡◌, [], cond, true, false, None, Some, IfOk, OnOk, is_some, unwrap_or};
+ghost use Rattle.std.specs.Prelude.{◌≡◌, [], cond, false, None, Some, IfOk, OnOk, is_some, unwrap_or};
 ghost use Rattle.indexmap.specs.IndexMap.{get};
 ghost use Rattle.http_cache_audit.specs.Key.{key_in};
 

@@ -1,7 +1,6 @@
 //! What a whole audit counts.
 ghost use Rattle.std.specs.Prelude.{◌≡◌, ◌≢◌, ◌*◌, ◌/◌, not};
 ghost use Rattle.http_cache_recording.specs.Entry.{answer_seen, reading_seen, skip_seen};
-ghost use Rattle.http_cache_audit.specs.Asked.{asked_seen};
 ghost use Rattle.http_cache_audit.specs.Heard.{heard_seen, kept_seen};
 ghost use Rattle.http_cache_audit.specs.Walk.{verdict_seen};
 ghost use Rattle.http_cache_audit.specs.Summary.{is_validated, is_missed, is_missed_by_vary, has_come, is_changed};
@@ -97,6 +96,8 @@ pub enum Mark {
     Changed,
     /// A full answer came though a 304 would have done.
     Unchanged,
+    /// A stored response was to be validated that has no validator.
+    WithoutValidator,
     /// What came became that.
     Came(Came),
     /// The response may not be stored, for this condition at least.
@@ -222,6 +223,8 @@ pub struct Summary {
     pub unchanged: u64,
     /// The bytes that came for these.
     pub unchanged_bytes: u64,
+    /// Those of all that are validated whose stored response has no validator: no 304 can be of it.
+    pub without_validator: u64,
     /// Those for which no stored response was the answer.
     pub missed: u64,
     /// Those of them for which one was stored that varies by a header.
@@ -358,11 +361,12 @@ impl Summary {
         write!(f, "validated {}: 304 {}, ", self.validated, self.updated)?;
         write!(f, "304 not selected {}, ", self.not_selected)?;
         write!(f, "changed {}, ", self.changed)?;
-        writeln!(
+        write!(
             f,
-            "unchanged in full {} ({} bytes)",
+            "unchanged in full {} ({} bytes), ",
             self.unchanged, self.unchanged_bytes
         )?;
+        writeln!(f, "without a validator {}", self.without_validator)?;
         write!(
             f,
             "missed {}, by Vary {}, ",
@@ -533,6 +537,7 @@ pub fn has_mark(mark: Mark, verdict: &Verdict) -> bool
         Mark::Validated => is_validated(verdict),
         Mark::Changed => is_changed(verdict),
         Mark::Unchanged => verdict.unchanged,
+        Mark::WithoutValidator => is_validated(verdict) && verdict.validator.is_none(),
         Mark::Came(what) => has_come(what, &verdict.heard),
         Mark::Forbidden(what) => is_forbidden_by(what, &verdict.heard),
         Mark::Zero(why) => is_zero_by(why, &verdict.heard),
@@ -730,6 +735,8 @@ pub fn summary_of(recorded: &[Recorded], walked: &[Walked<'_>], verdicts: &[Verd
     ensures unchanged { result.unchanged ≡ count_of Mark.Unchanged verdicts.now }
     ensures unchanged_bytes { result.unchanged_bytes
         ≡ bytes_of Mark.Unchanged recorded.now walked.now verdicts.now }
+    ensures without_validator { result.without_validator
+        ≡ count_of Mark.WithoutValidator verdicts.now }
     ensures missed { result.missed ≡ count_of Mark.Missed verdicts.now }
     ensures missed_by_vary { result.missed_by_vary ≡ count_of Mark.MissedByVary verdicts.now }
     ensures updated_other { result.updated_other
@@ -759,6 +766,7 @@ pub fn summary_of(recorded: &[Recorded], walked: &[Walked<'_>], verdicts: &[Verd
         changed: count_of(Mark::Changed, verdicts),
         unchanged: count_of(Mark::Unchanged, verdicts),
         unchanged_bytes: bytes_of(Mark::Unchanged, recorded, walked, verdicts),
+        without_validator: count_of(Mark::WithoutValidator, verdicts),
         missed: count_of(Mark::Missed, verdicts),
         missed_by_vary: count_of(Mark::MissedByVary, verdicts),
         updated_other: count_of(Mark::Came(Came::UpdatedOther), verdicts),

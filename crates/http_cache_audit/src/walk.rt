@@ -1,25 +1,21 @@
 //! The walk over a session: what a cache would have answered to each request, one after the other.
-ghost use Rattle.std.specs.Prelude.{◌≡◌, ◌∷◌, [], ◌<◌, ◌&&◌, ◌||◌, nat_lt, true, false, codes, cond, map, Some, None};
-ghost use Rattle.std.specs.Prelude.{IfOk, OnOk, IfSome, option_map, option_and_then, is_some, unwrap_or, if◌then◌else◌};
+ghost use Rattle.std.specs.Prelude.{◌≡◌, ◌<◌, ◌||◌, nat_lt, false, codes, cond, map, Some, None};
+ghost use Rattle.std.specs.Prelude.{IfOk, OnOk, option_map, option_and_then, if◌then◌else◌};
 ghost use Rattle.std.specs.Result.{result_ok};
 ghost use Rattle.jiff_fmt.specs.Rfc2822.{timestamp};
 ghost use Rattle.http_cache_semantics.specs.Headers.{headers_of, first_text_under, value_count};
 ghost use Rattle.http_cache_semantics.specs.Messages.{request_seen, response_seen};
 ghost use Rattle.http_cache_semantics.specs.Options.{options_of};
-ghost use Rattle.http_cache_semantics.specs.Variants.{explanation_among, fresh_place};
-ghost use Rattle.http_cache_semantics.specs.Reason.{explanation_seen};
 ghost use Rattle.http_cache_recording.specs.Entry.{entry_seen};
-ghost use Rattle.http_cache_audit.specs.Asked.{asked_seen};
 ghost use Rattle.http_cache_audit.specs.Heard.{heard_seen};
-ghost use Rattle.http_cache_audit.specs.Shelf.{arrival_seen};
 ghost use Rattle.http_cache_audit.specs.Walk.{walked_seen, date_until, seed, hear_cached, hear_answer, is_unchanged_by};
 ghost use Rattle.http_cache_audit.specs.Walk.{asked_request};
 ghost use Rattle.http_cache_audit.specs.Key.{key_eq, has_shelf, shelf_at};
 ghost use Rattle.http_cache_audit.specs.Walk.{step, verdict_seen, verdict_among, key_of, verdicts};
 
-use crate::asked::{Asked, asked_of};
+use crate::asked::{Asked, Validator, asked_of};
 use crate::heard::Heard;
-use crate::shelf::{Arrival, hear_response, is_unchanged, seed};
+use crate::shelf::{Arrival, hear_response, is_unchanged, seed, validator_among};
 use crate::shelves::{Key, has_shelf, key_of, put_shelf, take_shelf};
 use http::{HeaderMap, request, response};
 use http_cache_recording::{Answer, Entry};
@@ -61,6 +57,9 @@ pub struct Verdict {
     /// Whether a full answer came though a 304 would have done: it has the validator of the stored
     /// response that was to be validated.
     pub unchanged: bool,
+    /// What the stored response that was to be validated can be validated by. Without it the origin
+    /// has to send a full answer.
+    pub validator: Option<Validator>,
     /// Whether the request repeats an earlier one, by method and target.
     pub repeated: bool,
 }
@@ -187,15 +186,18 @@ fn step(
             asked,
             heard: Heard::Unasked,
             unchanged: false,
+            validator: None,
             repeated,
         });
     }
     let unchanged = is_unchanged_by(alloc, variants, walked.entry)?;
+    let validator = validator_among(variants, request);
     let heard = hear_answer(alloc, variants, walked.entry, options)?;
     Ok(Verdict {
         asked,
         heard,
         unchanged,
+        validator,
         repeated,
     })
 }

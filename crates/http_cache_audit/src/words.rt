@@ -5,11 +5,11 @@ ghost use Rattle.http_cache_semantics.specs.Reason.{is_mismatch};
 ghost use Rattle.http_cache_recording.specs.Entry.{skip_seen};
 ghost use Rattle.http_cache_audit.specs.Asked.{cause_seen};
 ghost use Rattle.http_cache_audit.specs.Heard.{heard_seen, kept_seen};
-ghost use Rattle.http_cache_audit.specs.Words.{verdict_word, heard_word, source_word, skip_words};
+ghost use Rattle.http_cache_audit.specs.Words.{verdict_word, heard_word, source_word, skip_words, validator_word};
 ghost use Rattle.http_cache_audit.specs.Words.{lifetime_words, why_words, said_if, kept_in};
 ghost use Rattle.http_cache_audit.specs.Words.{request_reasons, status_reasons, reasons, is_miss};
 
-use crate::asked::{Asked, Cause};
+use crate::asked::{Asked, Cause, Validator};
 use crate::heard::{Heard, Kept};
 use http_cache_recording::Skip;
 use http_cache_semantics::explain::{Freshness, LifetimeSource, Obstacles};
@@ -72,6 +72,17 @@ pub fn source_word(source: LifetimeSource) -> &'static str
         LifetimeSource::LastModified => "last-modified",
         LifetimeSource::Immutable => "immutable",
         LifetimeSource::Nothing => "none given",
+    }
+}
+
+/// What a stored response is validated by: the name of that header.
+#[tactic(auto, unfolding(crate::specs::Words::validator_word))]
+pub fn validator_word(validator: Validator) -> &'static str
+    ensures { result.now ≡ validator_word validator }
+{
+    match validator {
+        Validator::EntityTag => "etag",
+        Validator::LastModified => "last-modified",
     }
 }
 

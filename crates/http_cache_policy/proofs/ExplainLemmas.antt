@@ -9,7 +9,7 @@ use Rattle.std.specs.List.{list_all, list_any, find}
 use Rattle.std.proofs.lemmas.List.Folds.{list_any-append}
 use Rattle.http_cache_fields.specs.Text.{contains}
 use Rattle.http_cache_fields.specs.Headers.{Headers, first, first_under}
-use Rattle.http_cache_fields.specs.Directives.{Directive, has, same_value}
+use Rattle.http_cache_fields.specs.Directives.{has, same_value}
 use Rattle.http_cache_rules.specs.FirstRow.{first_said}
 use Rattle.http_cache_rules.proofs.FirstRowLemmas.{first_said-append, none-said, all-said, none-kind}
 use Rattle.http_cache_rules.specs.Storing.{is_storable}
@@ -20,10 +20,10 @@ use Rattle.http_cache_reasons.specs.Reason.{ReasonSeen, other_method, other_targ
 use Rattle.http_cache_policy.specs.Messages.{RequestSeen}
 use Rattle.http_cache_policy.specs.Exchange.{Exchange, stored_directives}
 use Rattle.http_cache_policy.specs.Age.{age_at}
-use Rattle.http_cache_policy.specs.Match.{varied_names, varied_values, vary_matches, matches, request_matches}
+use Rattle.http_cache_policy.specs.Match.{varied_names, vary_matches, matches, request_matches}
 use Rattle.http_cache_policy.specs.Verdict.{satisfies, is_fresh_for}
 use Rattle.http_cache_policy.specs.Explain.{Row, differs_under, varied_row, mismatch_rows, asked_rows}
-use Rattle.http_cache_policy.specs.Explain.{stale_rows, reason_rows, reason}
+use Rattle.http_cache_policy.specs.Explain.{stale_rows, reason}
 use Rattle.http_cache_policy.proofs.VaryLemmas.{agrees_on, list_all-agrees_on}
 
 abbrev applies : Row → Bool

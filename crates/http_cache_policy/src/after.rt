@@ -92,11 +92,7 @@ impl CachePolicy {
             (Res.seen response.now) response_time.nanosecond) response_time.nanosecond }
         ensures no_other { result ≢ Err CacheError.Malformed }
     {
-        let selected = is_selected(
-            self.response_headers(),
-            response.status(),
-            response.headers(),
-        );
+        let selected = is_selected(self.stored_headers(), response.status(), response.headers());
         let policy = self.policy_after(alloc, selected, request, response, response_time)?;
         answer_with(alloc, selected, policy, response_time)
     }
@@ -111,7 +107,7 @@ impl CachePolicy {
             ≡ (updated_response selected self.now (Res.seen response.now)).headers) }
     {
         if selected {
-            renewed_headers(self.response_headers(), response.headers())
+            renewed_headers(self.stored_headers(), response.headers())
         } else {
             copy_of_map(response.headers())
         }

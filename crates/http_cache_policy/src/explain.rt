@@ -105,7 +105,7 @@ impl CachePolicy {
             ≡ find (differs_under self.now.request_headers (headers_of headers.now))
             (varied_names self.now) }
     {
-        pieces_under(self.response_headers(), VARY).find(|name| {
+        pieces_under(self.stored_headers(), VARY).find(|name| {
             *name == "*" || !has_same_first_under(self.request_headers(), headers, name)
         })
     }

@@ -1,9 +1,9 @@
 //! A stored exchange: whether it may be stored, how old it is and how long it stays fresh.
-ghost use Rattle.std.specs.Prelude.{◌≡◌, ◌-◌, ℤ, ◌≤ℤ◌, ◌≤◌, ◌↔◌, true, codes, IsTrue, IfOk, IsOkUnless};
+ghost use Rattle.std.specs.Prelude.{◌≡◌, ◌-◌, ℤ, ◌≤ℤ◌, ◌≤◌, ◌↔◌, true, IsTrue, IfOk, IsOkUnless};
 ghost use Rattle.std.specs.Duration.{as_nanos};
 ghost use Rattle.http.specs.declared.version.TheConstants.Version.{HTTP_11};
 ghost use Rattle.http_cache_fields.specs.Headers.{headers_of};
-ghost use Rattle.http_cache_fields.specs.Directives.{cache_control, has};
+ghost use Rattle.http_cache_fields.specs.Directives.{cache_control};
 ghost use Rattle.http_cache_rules.specs.Options.{options_of, default_options};
 ghost use Rattle.http_cache_rules.specs.Exchange.{exchange_in};
 
@@ -223,6 +223,13 @@ impl CachePolicy {
         self.parts.status
     }
 
+    /// The headers of the stored response, as it came, but for what `ignore_cargo_cult` takes away.
+    pub fn stored_headers(&self) -> &HeaderMap
+        ensures { headers_of result.now ≡ self.now.response_headers }
+    {
+        &self.parts.response_headers
+    }
+
     /// The options.
     pub(crate) fn stored_options(&self) -> CacheOptions
         ensures { options_of result ≡ self.now.options }
@@ -242,13 +249,6 @@ impl CachePolicy {
         ensures { headers_of result.now ≡ self.now.request_headers }
     {
         &self.parts.request_headers
-    }
-
-    /// The headers of the stored response.
-    pub(crate) fn response_headers(&self) -> &HeaderMap
-        ensures { headers_of result.now ≡ self.now.response_headers }
-    {
-        &self.parts.response_headers
     }
 
     /// Whether the stored response may answer although it is stale: it may be stored, and says

@@ -1,5 +1,5 @@
 //! What a list of steps makes of a policy.
-ghost use Rattle.std.specs.Prelude.{◌≡◌, ◌≢◌, Err, true, false, map, IfOk, IsErrOf};
+ghost use Rattle.std.specs.Prelude.{◌≡◌, ◌≢◌, Err, false, map, IfOk, IsErrOf};
 ghost use Rattle.http_cache_policy.specs.Exchange.{Exchange};
 ghost use Rattle.http_cache_policy.specs.Answer.{is_not_modified, policy_in, parts_in};
 ghost use Rattle.http_cache_policy.specs.Steps.{receives, restarts, step_seen, outcome_seen};

@@ -14,7 +14,6 @@ use Rattle.http_server.specs.Response.{fields, fields_of, IsResponse}
 use Rattle.http_cache_semantics.specs.Headers.{headers_of}
 use Rattle.http_cache_semantics.specs.Dates.{IsDateText}
 use Rattle.http_cache_semantics.specs.Forwarding.{forwarded_headers}
-use Rattle.http_cache_semantics.specs.declared.CacheError.{CacheError}
 use Rattle.http_cache_semantics.specs.declared.CacheError.TheVariants.{Memory}
 use Rattle.http_cache_uses.specs.declared.origin.FetchError.{FetchError}
 use Rattle.http_cache_uses.specs.declared.origin.FetchError.TheVariants.{Cache, NoResponse}

@@ -1,7 +1,6 @@
 //! The answer as it goes out.
 ghost use Rattle.std.specs.Prelude.{◌≡◌, ◌≤ℤ◌, pos, [], bytes_eq, codes, IfOk, OnOk};
 ghost use Rattle.std.specs.List.{list_any};
-ghost use Rattle.http.specs.Response.{head_of};
 ghost use Rattle.http_server.specs.Response.{IsBlank, fields_of};
 ghost use Rattle.http_cache_proxy.specs.Proxy.{in_gmt, field_to_send, fields_to_send, IsDated, IsSent, IsFailure};
 

@@ -1,7 +1,6 @@
 //! A caching proxy.
-ghost use Rattle.std.specs.Prelude.{◌≡◌, ◌≤ℤ◌, pos, IfOk, OnErr, OnOk};
-ghost use Rattle.http_server.specs.Response.{IsBlank};
-ghost use Rattle.http_cache_uses.specs.Client.{IsFetched, HasSentOneAtMost};
+ghost use Rattle.std.specs.Prelude.{◌≡◌, ◌≤ℤ◌, pos, IfOk, OnErr};
+ghost use Rattle.http_cache_uses.specs.Client.{HasSentOneAtMost};
 ghost use Rattle.http_cache_proxy.specs.Proxy.{IsFetchedBy, IsProxied};
 
 use crate::answer::{fail, fill};

@@ -29,6 +29,7 @@ pub enum Look {
     StoredTarget,
     StoredMethod,
     StoredStatus,
+    StoredHeaders,
     StoredResponseTime,
     /// Of a request that matches, and of one that doesn't.
     MatchesRequest,
@@ -65,7 +66,7 @@ pub enum Look {
 }
 
 /// Each of these calls once.
-pub const LOOKS: [Look; 34] = [
+pub const LOOKS: [Look; 35] = [
     Look::IsStorable,
     Look::Age,
     Look::TimeToLive,
@@ -75,6 +76,7 @@ pub const LOOKS: [Look; 34] = [
     Look::StoredTarget,
     Look::StoredMethod,
     Look::StoredStatus,
+    Look::StoredHeaders,
     Look::StoredResponseTime,
     Look::MatchesRequest,
     Look::FreshAt,
@@ -146,6 +148,10 @@ fn is_right_of_stored(case: &Case, look: Look) -> bool {
         Look::StoredTarget => *policy.stored_target() == case.script().request.uri,
         Look::StoredMethod => policy.stored_method().as_str() == "GET",
         Look::StoredStatus => policy.stored_status().as_u16() == 200,
+        Look::StoredHeaders => {
+            policy.stored_headers().get_str("cache-control")
+                == Some("max-age=10, a=\"b c\", public")
+        }
         _ => policy.stored_response_time().as_second() == 1_704_067_200,
     }
 }
@@ -236,8 +242,11 @@ fn is_right_of_exchange(alloc: Global, case: &Case, look: Look) -> bool {
         | Look::IsStale
         | Look::Storability
         | Look::Freshness => { is_right_of_policy(case.policy(), look) == Ok(true) }
-        Look::StoredTarget | Look::StoredMethod | Look::StoredStatus | Look::StoredResponseTime =>
-            is_right_of_stored(case, look),
+        Look::StoredTarget
+        | Look::StoredMethod
+        | Look::StoredStatus
+        | Look::StoredHeaders
+        | Look::StoredResponseTime => { is_right_of_stored(case, look) }
         Look::MatchesRequest | Look::FreshAt | Look::Explain => {
             told_at(case, 0, look) == Some(true) && told_at(case, 6, look) == Some(false)
         }

@@ -42,7 +42,7 @@ impl CachePolicy {
         ensures known { IfErr result (λ e.
             (e ≡ CacheError.HeaderMapFull) ⊎ (e ≡ CacheError.Memory)) }
     {
-        let mut out = filter(alloc, self.response_headers())?;
+        let mut out = filter(alloc, self.stored_headers())?;
         if !self.is_guessed_past_a_day(age) {
             return Ok(out);
         }

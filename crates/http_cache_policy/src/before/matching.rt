@@ -30,7 +30,7 @@ impl CachePolicy {
     fn vary_matches(&self, headers: &HeaderMap) -> bool
         ensures { result ≡ vary_matches self.now (varied_values self.now (headers_of headers.now)) }
     {
-        get_all_comma(self.response_headers().get_all(VARY)).all(|name| {
+        get_all_comma(self.stored_headers().get_all(VARY)).all(|name| {
             name != "*" && has_same_first_under(self.request_headers(), headers, name)
         })
     }

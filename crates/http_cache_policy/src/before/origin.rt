@@ -49,7 +49,7 @@ impl CachePolicy {
         ensures known { IfErr result (λ e.
             (e ≡ CacheError.HeaderMapFull) ⊎ (e ≡ CacheError.Memory)) }
     {
-        let Some(tag) = first_text(self.response_headers(), ETAG) else {
+        let Some(tag) = first_text(self.stored_headers(), ETAG) else {
             return Ok(());
         };
         let line = join_with(alloc, pieces_under(headers, IF_NONE_MATCH), tag)?;
@@ -69,7 +69,7 @@ impl CachePolicy {
         if contains_key(headers, IF_MODIFIED_SINCE) {
             return Ok(());
         }
-        let Some(date) = first_text(self.response_headers(), LAST_MODIFIED) else {
+        let Some(date) = first_text(self.stored_headers(), LAST_MODIFIED) else {
             return Ok(());
         };
         let value = value_of(Vec::from_slice(alloc, date.as_bytes())?)?;

@@ -8,7 +8,8 @@ push_object-requires c =
     let told = members-plain _ _ _ c.in_ok-put_told.ensures (search rules) in
     let asked = members-plain _ _ _ c.in_ok-put_asked.ensures told in
     let heard = members-plain _ _ _ c.in_ok-put_heard.ensures asked in
-    let unchanged = member-plain _ _ _ _ c.in_ok-put_unchanged.ensures heard in
+    let validator = member-plain _ _ _ _ c.in_ok-put_validator.ensures heard in
+    let unchanged = member-plain _ _ _ _ c.in_ok-put_unchanged.ensures validator in
     let assumed = member-plain _ _ _ _ c.in_ok-put_assumed.ensures unchanged in
     let hinted = member-plain _ _ _ _ c.in_ok-put_some_texts.ensures assumed in
     member-plain _ _ _ _ c.in_ok-put_count.ensures hinted

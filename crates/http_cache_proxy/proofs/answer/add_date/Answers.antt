@@ -2,7 +2,6 @@
 use Rattle.std.proofs.Common.{◌≡◌, List, ℕ, Bool, true, false, refl, codes, ◌++◌, ◌∷◌, [], sym, ap, subst, ◌∙◌}
 use Rattle.std.specs.List.{list_any}
 use Rattle.std.proofs.lemmas.Result.{on_ok_weaker}
-use Rattle.http1.specs.Fields.{Header}
 use Rattle.http_server.specs.Response.{fields_of}
 use Rattle.http_cache_proxy.specs.Proxy.{is_date, IsDatedIf}
 use Rattle.http_cache_proxy.proofs.FieldLemmas.{date-sent}

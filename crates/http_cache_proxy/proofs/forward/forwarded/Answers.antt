@@ -1,5 +1,5 @@
 -- Method, target and body are copies, and the headers are those that are passed on.
-use Rattle.std.proofs.Common.{rules, ◌∙◌}
+use Rattle.std.proofs.Common.{rules}
 use Rattle.http_cache_proxy.proofs.forward.forwarded.Goals as goal
 
 pub returns : goal.returns

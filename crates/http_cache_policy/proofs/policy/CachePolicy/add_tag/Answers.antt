@@ -8,7 +8,7 @@ use Rattle.http_cache_policy.proofs.policy.CachePolicy.add_tag.Goals as goal
 pub value_of-requires : goal.value_of-requires
 value_of-requires c =
     let tag = c.in-Some.tag.now in
-    let stored = first (headers_of c.response_headers.result.now) (codes "etag") in
+    let stored = first (headers_of c.stored_headers.result.now) (codes "etag") in
     let text = first_text-is_text stored tag c.in-Some.ensures in
     with-is_value (values (headers_of c.args.headers.now) (codes "if-none-match")) tag c.into_bytes.result.items text
     (ap (λ v. v.items) c.into_bytes.ensures.value

@@ -38,7 +38,7 @@ module _ (g : given.Over) (c : goal.After-answer_with g) where
   chosen-is : chosen ≡ selects e response
   chosen-is =
       c.is_selected-selected.ensures
-      ∙ (λ i. is_selected (c.response_headers.ensures i) (c.status.ensures i) (c.headers.ensures i))
+      ∙ (λ i. is_selected (c.stored_headers.ensures i) (c.status.ensures i) (c.headers.ensures i))
 
   by_choice : c.in_ok-policy.policy ≡ next_where chosen e request response now
   by_choice = c.in_ok-policy.ensures.value

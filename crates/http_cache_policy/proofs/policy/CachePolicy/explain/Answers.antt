@@ -1,5 +1,5 @@
 -- The reason is that of the table at the age of the moment, and so are its laws.
-use Rattle.std.proofs.Common.{◌≡◌, false, is_none, option_map, sym, ap, ◌∙◌}
+use Rattle.std.proofs.Common.{◌≡◌, false, is_none, option_map, ap, ◌∙◌}
 use Rattle.std.specs.Option.{option_map_or}
 use Rattle.http_cache_reasons.specs.Reason.{reason_seen, is_mismatch}
 use Rattle.http_cache_policy.specs.Explain.{reason}

@@ -16,8 +16,8 @@ returns c =
     let asked = headers_of c.args.headers.now in
     let lines =
     ap bytes_of c.get_all.ensures.value
-    ∙ sym (values-headers_of c.response_headers.result.now (codes "vary"))
-    ∙ ap (λ h. values h (codes "vary")) c.response_headers.ensures in
+    ∙ sym (values-headers_of c.stored_headers.result.now (codes "vary"))
+    ∙ ap (λ h. values h (codes "vary")) c.stored_headers.ensures in
     let names = c.get_all_comma.ensures ∙ ap pieces_of_values lines in
     all_from_yields_List (agrees_on e.request_headers asked) _ _ _ c.all.ensures.ran
     (YieldsList-from_first (λ x. x.now) (λ s. s) (varied_names e) names) (λ x b q k. search (rules, tests))

@@ -13,6 +13,6 @@ returns-clause-ok c = λ now aged.
     sym (c.is_guessed_past_a_day.ensures now aged) ∙ c.if-not-is_guessed_past_a_day.false in
     let bytes : c.from_static-warning.result.bytes ≡ heuristic_warning = search rules in
     let before : headers_of c.in_ok-out.out ≡ stored =
-    c.in_ok-out.ensures.ok ∙ ap filtered_headers c.response_headers.ensures in
+    c.in_ok-out.ensures.ok ∙ ap filtered_headers c.stored_headers.ensures in
     c.in_ok-append.ensures.ok ∙ (λ i. with_further_value (before i) (codes "warning") (bytes i))
     ∙ sym (ap (λ b. if b then with_further_value stored (codes "warning") heuristic_warning else stored) due)
