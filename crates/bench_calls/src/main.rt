@@ -2,7 +2,8 @@
 //!
 //! `bench_calls COUNT < SCRIPT` makes a policy of the script's exchange and prints, for each call on it,
 //! the mean nanoseconds of so many runs, and then that of a choice among 1, 10, 100 and 1,000 copies
-//! of the policy of which none matches, in as many tests. Without a count it prints nothing.
+//! of the policy of which none matches, in as many tests, but of no more copies than runs. Without a
+//! count it prints nothing.
 #![tactic(auto)]
 
 mod call;
@@ -112,6 +113,9 @@ fn tell_copies(
 ) -> io::Result<bool> {
     let mut told = true;
     for len in [1u64, 10, 100, 1000] {
+        if len > count {
+            break;
+        }
         let variants = copies_of(rt.alloc(), policy, len);
         told = told
             && match &variants {

@@ -1,0 +1,114 @@
+"""Prints how the time of each call grows with what it is given.
+
+    scaling.py WORD..    (WORD..: the command of bench_calls; bin/bench --scaling calls it)
+
+A line a size: of each call the nanoseconds, the least of seven runs, and behind them by how much the time for one more
+header, directive, piece or byte has grown since the size before: 1.00 is in proportion.
+"""
+import json
+import subprocess
+import sys
+
+COMMAND = sys.argv[1:]
+CALLS = ["new_options", "try_clone", "fresh_at", "fresh", "stale", "a 304"]
+START = 1704067200
+SIZES = [10, 100, 1000, 10000]
+
+
+def message(headers):
+    return {"uri": "/a", "method": "GET", "headers": headers}
+
+
+def script(told=(), everywhere=(), asked=(), lifetime="max-age=10"):
+    """A stored page that is asked for while it is fresh, and once it is stale, and then validated."""
+    request = message([["Accept", "text/html"], *everywhere, *asked])
+    stored = [["Cache-Control", lifetime], ["ETag", '"a"'], *told, *everywhere]
+    return {
+        "options": {"shared": True, "cache_heuristic": [1, 10], "immutable_min_time_to_live": [86400, 0],
+                    "ignore_cargo_cult": False},
+        "received": [START, 0],
+        "request": request,
+        "response": {"status": 200, "headers": stored},
+        "steps": [
+            {"ask": request, "at": [START + 5, 0]},
+            {"ask": request, "at": [START + 20, 0]},
+            {"receive": request, "response": {"status": 304, "headers": [["ETag", '"a"']]}, "at": [START + 20, 0]},
+        ],
+    }
+
+
+def directives(size):
+    return ", ".join(f"x{i}=5" for i in range(size))
+
+
+def headers(size):
+    return script(everywhere=[[f"x-{i}", "1"] for i in range(size)])
+
+
+def told(size):
+    return script(lifetime="max-age=10, " + directives(size))
+
+
+def asked(size):
+    return script(asked=[["Cache-Control", directives(size)]])
+
+
+def vary(size):
+    return script(told=[["Vary", ", ".join(f"X-{i}" for i in range(size))]])
+
+
+def value(size):
+    return script(everywhere=[["x-long", "a" * size]])
+
+
+KINDS = [
+    ("headers of each message", headers, SIZES),
+    ("directives of the response", told, SIZES),
+    ("directives of each request", asked, SIZES),
+    ("pieces of Vary", vary, SIZES),
+    ("bytes of a value", value, [1000, 10000, 100000, 1000000]),
+]
+
+
+def lines_of(text, count):
+    """What bench_calls prints: a name and a mean a line."""
+    ran = subprocess.run([*COMMAND, str(count)], input=text, capture_output=True, check=True)
+    return [line.rsplit(" ", 1) for line in ran.stdout.decode().splitlines()]
+
+
+def calls(text, count):
+    means = [int(mean) for name, mean in lines_of(text, count) if not name.startswith("choose")]
+    created, copied, verdict, fresh, _, stale, after = means
+    return [created, copied, verdict, fresh, stale, after]
+
+
+def least(text, size):
+    """The least means of seven runs, of as many calls as take a tenth of a second, and few where each is large."""
+    most = 9 if size >= 10000 else 99 if size >= 1000 else 100000
+    count = max(3, min(most, 100_000_000 // max(1, sum(calls(text, 3)))))
+    return [min(means) for means in zip(*(calls(text, count) for _ in range(7)))]
+
+
+def shown(names, means, before, factor):
+    grown = [""] * len(means) if before is None else [f" {m / max(1, b) / factor:.2f}" for m, b in zip(means, before)]
+    return ", ".join(f"{name} {mean}{more}" for name, mean, more in zip(names, means, grown))
+
+
+def main():
+    for name, make, sizes in KINDS:
+        print(name)
+        before = size_before = None
+        for size in sizes:
+            means = least(json.dumps(make(size)).encode(), size)
+            print(f"  {size}: " + shown(CALLS, means, before, size / (size_before or size)), flush=True)
+            before, size_before = means, size
+    print("policies to choose from, none of which matches")
+    before = size_before = None
+    for name, mean in lines_of(json.dumps(script()).encode(), 10000):
+        if name.startswith("choose"):
+            size = int(name.split()[-1])
+            print(f"  {size}: " + shown(["choose"], [int(mean)], before, size / (size_before or size)))
+            before, size_before = [int(mean)], size
+
+
+main()
