@@ -72,7 +72,9 @@ KINDS = [
 
 def lines_of(text, count):
     """What bench_calls prints: a name and a mean a line."""
-    ran = subprocess.run([*COMMAND, str(count)], input=text, capture_output=True, check=True)
+    ran = subprocess.run([*COMMAND, str(count)], input=text, stdout=subprocess.PIPE)
+    if ran.returncode != 0:
+        sys.exit(ran.returncode)
     return [line.rsplit(" ", 1) for line in ran.stdout.decode().splitlines()]
 
 
