@@ -1,0 +1,44 @@
+-- A sweep over all names leaves each its last value; with as many values as names, each has it alone already.
+use Rattle.std.proofs.Common.{◌≡◌, ◌∷◌, ℕ, List, sym, subst, ap, ◌∙◌}
+use Rattle.http_header.specs.FieldValue.{FieldValue}
+use Rattle.http_header.specs.HeaderMap.{Entries, keys}
+use Rattle.http_cache_fields.specs.Headers.{headers_of}
+use Rattle.http_cache_rules.proofs.SweepLemmas.{IsSwept, IsSwept-start, IsSwept-turn}
+use Rattle.http_cache_rules.proofs.UpdateLemmas.{keeps_last, last-settles, last_values-by_sweep, last_values-single}
+use Rattle.http_cache_rules.proofs.FilterLemmas.{filled-headers_of}
+use Rattle.http_cache_rules.proofs.update.copy_of_last.Goals as goal
+
+pub returns-then-len-keys_len : goal.returns-then-len-keys_len
+returns-then-len-keys_len c =
+    ap headers_of c.in_ok-out.ensures
+    ∙ last_values-single c.args.headers.now c.len.ensures.valid
+    (sym c.len.ensures.value ∙ c.if-len-keys_len.true ∙ c.keys_len.ensures.value)
+
+pub loop-name-init : goal.loop-name-init
+loop-name-init c =
+    let m = c.args.headers.now in
+    let rest : keys m ≡ c.into_iter-name-iterator.result =
+    sym (c.into_iter-name-iterator.ensures.into_iter_gives ∙ c.keys-name-items.ensures.value) in
+    let same : m ≡ c.in_ok-out.out = sym c.in_ok-out.ensures in
+    λ name. subst
+    (λ (xs : List (List ℕ)). IsSwept keeps_last (headers_of m) (headers_of c.in_ok-out.out) xs name) rest
+    (subst (λ (k : Entries FieldValue). IsSwept keeps_last (headers_of m) (headers_of k) (keys m) name) same
+    (IsSwept-start keeps_last last-settles m name))
+
+pub loop-name-preserved : goal.loop-name-preserved
+loop-name-preserved c =
+    let h = headers_of c.args.headers.now in
+    let old = headers_of c.loop-name.out in
+    let before : (name : List ℕ) → IsSwept keeps_last h old (c.in-Some.name.now ∷ c.next.new.self) name =
+    subst (λ (xs : List (List ℕ)). (name : List ℕ) → IsSwept keeps_last h old xs name)
+    c.in-Some.ensures.steps c.loop-name.invariant in
+    IsSwept-turn keeps_last last-settles h old
+    (headers_of c.retain_last.new.map) c.in-Some.name.now c.next.new.self before c.in_ok-retain_last.ensures
+
+pub returns : goal.returns
+returns c =
+    let m = c.args.headers.now in
+    let out = headers_of c.loop-name.out in
+    last_values-by_sweep (headers_of m) out (filled-headers_of m c.reveal_header_map.ensures)
+    (subst (λ (xs : List (List ℕ)). (name : List ℕ) → IsSwept keeps_last (headers_of m) out xs name)
+    c.in-None.ensures.steps.0 c.loop-name.invariant)
