@@ -1,8 +1,8 @@
 //! What a command gives.
 use anyhow::anyhow;
-use http::{Method, Request, Response, Uri};
+use http::{Method, Uri};
 use http_cache_semantics::CachePolicy;
-use http_cache_store::text::text_of;
+use http_cache_store::text::{policy_of, text_of};
 use http_cache_store::{Found, Store};
 use jiff::Timestamp;
 use sqlite::Alter;
@@ -17,32 +17,18 @@ fn id_in(line: &str) -> anyhow::Result<i64> {
     Ok(field(line, 1)?.parse::<i64>()?)
 }
 
-fn moment_in(line: &str, place: usize) -> anyhow::Result<Timestamp> {
-    Ok(Timestamp::from_second(field(line, place)?.parse::<i64>()?)?)
+fn moment_in(line: &str) -> anyhow::Result<Timestamp> {
+    Ok(Timestamp::from_second(field(line, 1)?.parse::<i64>()?)?)
 }
 
-// The request whose method and target stand at a place and behind it.
-fn request_in(alloc: Global, line: &str, place: usize) -> anyhow::Result<Request<()>> {
-    let request = Request::builder(alloc).method(field(line, place)?);
-    Ok(request.uri(field(line, place.saturating_add(1))?).body(())?)
-}
-
-fn response_in(alloc: Global, line: &str, place: usize) -> anyhow::Result<Response<()>> {
-    let response = Response::builder(alloc).header("cache-control", field(line, place)?);
-    Ok(response.body(())?)
-}
-
-// The policy whose method, target, second and directives stand at a place and behind it.
+// The policy whose stored form stands at a place.
 fn policy_in(alloc: Global, line: &str, place: usize) -> anyhow::Result<CachePolicy> {
-    let request = request_in(alloc, line, place)?;
-    let response = response_in(alloc, line, place.saturating_add(3))?;
-    let received = moment_in(line, place.saturating_add(2))?;
-    Ok(CachePolicy::new(alloc, &request, &response, received)?)
+    Ok(policy_of(alloc, field(line, place)?)?)
 }
 
 fn insert<S: Alter>(alloc: Global, store: &mut Store<S>, line: &str) -> anyhow::Result<String> {
-    let policy = policy_in(alloc, line, 1)?;
-    let id = store.insert(&policy, field(line, 5)?.as_bytes())?;
+    let body = field(line, 2)?.as_bytes();
+    let id = store.insert(&policy_in(alloc, line, 1)?, body)?;
     Ok(format!(in alloc; "inserted {id}")?)
 }
 
@@ -74,14 +60,13 @@ fn look<S: Alter>(alloc: Global, store: &mut Store<S>, line: &str) -> anyhow::Re
 }
 
 fn renew<S: Alter>(alloc: Global, store: &mut Store<S>, line: &str) -> anyhow::Result<String> {
-    let policy = policy_in(alloc, line, 2)?;
-    let there = store.renew(id_in(line)?, &policy)?;
+    let there = store.renew(id_in(line)?, &policy_in(alloc, line, 2)?)?;
     Ok(format!(in alloc; "renewed {there}")?)
 }
 
 fn replace<S: Alter>(alloc: Global, store: &mut Store<S>, line: &str) -> anyhow::Result<String> {
-    let policy = policy_in(alloc, line, 2)?;
-    let there = store.replace(id_in(line)?, &policy, field(line, 6)?.as_bytes())?;
+    let body = field(line, 3)?.as_bytes();
+    let there = store.replace(id_in(line)?, &policy_in(alloc, line, 2)?, body)?;
     Ok(format!(in alloc; "replaced {there}")?)
 }
 
@@ -92,7 +77,7 @@ fn remove<S: Alter>(alloc: Global, store: &mut Store<S>, line: &str) -> anyhow::
 
 fn sweep<S: Alter>(alloc: Global, store: &mut Store<S>, line: &str) -> anyhow::Result<String> {
     let oldest = Duration::from_secs(field(line, 2)?.parse::<u64>()?);
-    let swept = store.sweep(moment_in(line, 1)?, oldest)?;
+    let swept = store.sweep(moment_in(line)?, oldest)?;
     Ok(format!(in alloc; "swept {swept}")?)
 }
 

@@ -3,14 +3,14 @@
 //!
 //! | command | what it writes |
 //! |---|---|
-//! | `insert|METHOD|TARGET|SECOND|DIRECTIVES|BODY` | `inserted ID` |
+//! | `insert|POLICY|BODY` | `inserted ID` |
 //! | `look|METHOD|TARGET` | `response ID POLICY BODY` or `malformed ID`, a line each, then `end` |
-//! | `renew|ID|METHOD|TARGET|SECOND|DIRECTIVES` | `renewed true` or `renewed false` |
-//! | `replace|ID|METHOD|TARGET|SECOND|DIRECTIVES|BODY` | `replaced true` or `replaced false` |
+//! | `renew|ID|POLICY` | `renewed true` or `renewed false` |
+//! | `replace|ID|POLICY|BODY` | `replaced true` or `replaced false` |
 //! | `remove|ID` | `removed true` or `removed false` |
 //! | `sweep|SECOND|OLDEST` | `swept COUNT`, of what is older than so many seconds |
 //!
-//! A command that the store refuses is answered with `refused` and the reason.
+//! A policy is its stored form. A command that the store refuses is answered with `refused` and the reason.
 #![tactic(auto)]
 
 mod command;
