@@ -5,9 +5,9 @@
 use http::header::{HeaderName, HeaderValue};
 use http::{HeaderMap, Method, StatusCode, Uri, Version, request, response};
 use http_cache_semantics::CachePolicy;
-use http_cache_semantics::directives::GetHeaderStr;
 use jiff::Timestamp;
 use std::alloc::Global;
+use std::fmt::Write;
 use std::test::Fail;
 
 /// 2024-01-01T00:00:00Z, the moment from which the cases count.
@@ -79,7 +79,11 @@ pub fn policy(alloc: Global, lines: &str) -> Result<CachePolicy, Fail> {
     policy_of(alloc, &request, lines)
 }
 
-/// A header that has to be there, as text.
-pub fn text_of<'a>(headers: &'a HeaderMap, name: &str) -> Result<&'a str, Fail> {
-    Ok(headers.get_str(name).ok_or("no such header")?)
+/// Headers, and so many further ones.
+pub fn with_further(alloc: Global, lines: &str, count: u32) -> Result<String, Fail> {
+    let mut text = String::from_str(alloc, lines)?;
+    for i in 0..count {
+        write!(text, " ~ x{i}: 1")?;
+    }
+    Ok(text)
 }

@@ -7,8 +7,7 @@ use std::alloc::Global;
 use std::fmt::Write;
 use std::process::Abort;
 use std::test::Fail;
-use test_cases::fixtures::{after, field, request, response};
-use test_cases::scripts::with_further;
+use test_cases::fixtures::{after, field, request, response, with_further};
 
 // The response's headers and the request's, the moments of the hand-overs, how many caches are
 // reached, the moment at which the first and the last are looked at, and of each of the two whether
@@ -55,56 +54,65 @@ fn moments(alloc: Global, text: &str) -> Result<Vec<Timestamp>, Fail> {
     Ok(moments)
 }
 
-fn looks_so(
-    rt: &impl Abort,
+// A line of a policy: whether it may be stored, its age and what is left of its lifetime, and its
+// stored form.
+fn add_policy(
     alloc: Global,
-    case: &str,
-    wanted: &str,
+    text: &mut String,
     policy: &CachePolicy,
+    now: Timestamp,
 ) -> Result<(), Fail> {
-    let now = after(field(case, 4)?.parse::<i64>()?)?;
     let storable = policy.is_storable();
     let age = policy.age(now).as_nanos();
     let left = policy.time_to_live(now).as_nanos();
-    let got = format!(in alloc; "{storable} {age} {left}")?;
-    assert_eq!(rt; got.as_str(), wanted, "at {case}");
+    let form = policy.to_value(alloc)?.to_string(alloc)?;
+    writeln!(text, "{storable} {age} {left}; {form}")?;
     Ok(())
 }
 
-fn is_chain(
-    rt: &impl Abort,
+fn told_of(
     alloc: Global,
-    case: &str,
-    policies: &[CachePolicy],
-) -> Result<(), Fail> {
-    assert_eq!(rt;
-        policies.len(),
-        field(case, 3)?.parse::<usize>()?,
-        "at {case}"
-    );
-    let first = policies.first().ok_or("no policy")?;
-    looks_so(rt, alloc, case, field(case, 5)?, first)?;
-    let last = policies.last().ok_or("no policy")?;
-    looks_so(rt, alloc, case, field(case, 6)?, last)
-}
-
-fn chained(
-    rt: &impl Abort,
-    alloc: Global,
-    case: &str,
     req: &request::Parts,
     res: &response::Parts,
-) -> Result<(), Fail> {
-    let received = after(0)?;
-    let moments = moments(alloc, field(case, 2)?)?;
-    let policies = chain(alloc, req, res, CacheOptions::default(), received, &moments)?;
-    is_chain(rt, alloc, case, &policies)
+    moments: &[Timestamp],
+    now: Timestamp,
+) -> Result<String, Fail> {
+    let mut text = String::new(alloc);
+    match chain(alloc, req, res, CacheOptions::default(), after(0)?, moments) {
+        Ok(policies) => {
+            for policy in policies.as_slice() {
+                add_policy(alloc, &mut text, policy, now)?;
+            }
+        }
+        Err(e) => write!(text, "{e}")?,
+    }
+    Ok(text)
+}
+
+// The policies of a chain at a moment, a line each, or why it is refused.
+fn told(alloc: Global, lines: &str, asked: &str, nanos: &str, now: &str) -> Result<String, Fail> {
+    let asking = request(alloc, "GET", asked)?;
+    let answer = response(alloc, "200", lines)?;
+    let moments = moments(alloc, nanos)?;
+    let now = after(now.parse::<i64>()?)?;
+    told_of(alloc, &asking, &answer, &moments, now)
 }
 
 fn holds(rt: &impl Abort, alloc: Global, case: &str) -> Result<(), Fail> {
-    let asking = request(alloc, "GET", field(case, 1)?)?;
-    let answer = response(alloc, "200", field(case, 0)?)?;
-    chained(rt, alloc, case, &asking, &answer)
+    let text = told(
+        alloc,
+        field(case, 0)?,
+        field(case, 1)?,
+        field(case, 2)?,
+        field(case, 4)?,
+    )?;
+    let count = field(case, 3)?.parse::<usize>()?;
+    assert_eq!(rt; text.lines().count(), count, "at {case}");
+    let first = text.lines().next().ok_or("no policy")?;
+    assert_eq!(rt; first.split(';').next(), Some(field(case, 5)?), "at {case}");
+    let last = text.lines().last().ok_or("no policy")?;
+    assert_eq!(rt; last.split(';').next(), Some(field(case, 6)?), "at {case}");
+    Ok(())
 }
 
 #[test]
@@ -115,48 +123,16 @@ fn chains_of_caches(rt: HostRuntime) -> Result<(), Fail> {
     Ok(())
 }
 
-// Of each policy its age four seconds after the response came, and its stored form.
-fn add_policy(alloc: Global, text: &mut String, policy: &CachePolicy) -> Result<(), Fail> {
-    let age = policy.age(after(4_000_000_000)?).as_nanos();
-    let form = policy.to_value(alloc)?.to_string(alloc)?;
-    writeln!(text, "{age} {form}")?;
-    Ok(())
-}
-
-fn told_of(
-    alloc: Global,
-    req: &request::Parts,
-    res: &response::Parts,
-    moments: &[Timestamp],
-) -> Result<String, Fail> {
-    let mut text = String::new(alloc);
-    match chain(alloc, req, res, CacheOptions::default(), after(0)?, moments) {
-        Ok(policies) => {
-            for policy in policies.as_slice() {
-                add_policy(alloc, &mut text, policy)?;
-            }
-        }
-        Err(e) => write!(text, "{e}")?,
-    }
-    Ok(text)
-}
-
-// The policies of a chain, a line each, or why it is refused.
-fn told(alloc: Global, lines: &str, asked: &str, nanos: &str) -> Result<String, Fail> {
-    let asking = request(alloc, "GET", asked)?;
-    let answer = response(alloc, "200", lines)?;
-    let moments = moments(alloc, nanos)?;
-    told_of(alloc, &asking, &answer, &moments)
-}
-
 #[test]
 fn ages_along_a_chain(rt: HostRuntime) -> Result<(), Fail> {
     let lines = "Cache-Control: public, max-age=10 ~ Set-Cookie: x=1 ~ X: 1 ~ X: 2";
-    let text = told(rt.alloc(), lines, "", "500000000 1900000000 3200000000")?;
+    let moments = "500000000 1900000000 3200000000";
+    let text = told(rt.alloc(), lines, "", moments, "4000000000")?;
     let mut ages = ["4000000000 ", "3500000000 ", "3100000000 ", "2800000000 "].iter();
     for line in text.lines() {
         let age = ages.next().ok_or("a further policy")?;
-        assert!(rt; line.starts_with(age), "{age}: {line}");
+        let (_, told) = line.split_once(' ').ok_or("no age")?;
+        assert!(rt; told.starts_with(age), "{age}: {line}");
     }
     assert!(rt; ages.next().is_none());
     Ok(())
@@ -167,12 +143,12 @@ fn what_the_next_cache_keeps(rt: HostRuntime) -> Result<(), Fail> {
     let lines =
         "Cache-Control: public, max-age=10 ~ Set-Cookie: x=1 ~ Set-Cookie: y=2 ~ Vary: Accept ~ Vary: Host ~ \
          Connection: Set-Cookie, Vary";
-    let text = told(rt.alloc(), lines, "", "1000000000")?;
+    let text = told(rt.alloc(), lines, "", "1000000000", "0")?;
     let (first, next) = text.split_once("\n").ok_or("one policy")?;
     assert!(rt; first.contains("\"set-cookie\":") && first.contains("\"vary\":"));
     assert!(rt; !next.contains("\"set-cookie\":") && !next.contains("\"vary\":"));
     let lines = "Cache-Control: public ~ Cache-Control: max-age=10";
-    let text = told(rt.alloc(), lines, "", "1000000000")?;
+    let text = told(rt.alloc(), lines, "", "1000000000", "0")?;
     let (_, next) = text.split_once("\n").ok_or("one policy")?;
     assert!(rt; next.contains("\"cache-control\":[\"6d61782d6167653d3130\"],\"date\":"));
     Ok(())
@@ -181,7 +157,13 @@ fn what_the_next_cache_keeps(rt: HostRuntime) -> Result<(), Fail> {
 #[test]
 fn chain_whose_answer_has_no_date(rt: HostRuntime) -> Result<(), Fail> {
     let lines = "Cache-Control: max-age=10";
-    let text = told(rt.alloc(), lines, "", "1000000000 -3913056001000000000")?;
+    let text = told(
+        rt.alloc(),
+        lines,
+        "",
+        "1000000000 -3913056001000000000",
+        "0",
+    )?;
     assert_eq!(rt; text.as_str(), "date not printable");
     Ok(())
 }
@@ -190,22 +172,28 @@ fn chain_whose_answer_has_no_date(rt: HostRuntime) -> Result<(), Fail> {
 #[test]
 fn full_headers_at_a_middle_cache(rt: HostRuntime) -> Result<(), Fail> {
     let dated = "Last-Modified: Sat, 23 Sep 2023 00:00:00 GMT";
-    let lines = with_further(rt.alloc(), dated, "24573")?;
-    let two = told(rt.alloc(), lines.as_str(), "", "1000000000")?;
+    let lines = with_further(rt.alloc(), dated, 24573)?;
+    let two = told(rt.alloc(), lines.as_str(), "", "1000000000", "0")?;
     assert_eq!(rt; two.lines().count(), 2);
     let moments = "1000000000 86401000000000 86402000000000";
-    let text = told(rt.alloc(), lines.as_str(), "", moments)?;
+    let text = told(rt.alloc(), lines.as_str(), "", moments, "0")?;
     assert_eq!(rt; text.as_str(), "header map full");
     Ok(())
 }
 
 #[test]
 fn full_headers_of_the_last_request(rt: HostRuntime) -> Result<(), Fail> {
-    let asked = with_further(rt.alloc(), "", "24576")?;
+    let asked = with_further(rt.alloc(), "", 24576)?;
     let lines = "Cache-Control: max-age=1 ~ ETag: \"e\"";
-    let two = told(rt.alloc(), lines, asked.as_str(), "500000000")?;
+    let two = told(rt.alloc(), lines, asked.as_str(), "500000000", "0")?;
     assert_eq!(rt; two.lines().count(), 2);
-    let text = told(rt.alloc(), lines, asked.as_str(), "500000000 5000000000")?;
+    let text = told(
+        rt.alloc(),
+        lines,
+        asked.as_str(),
+        "500000000 5000000000",
+        "0",
+    )?;
     assert_eq!(rt; text.as_str(), "header map full");
     Ok(())
 }

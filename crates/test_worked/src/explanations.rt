@@ -1,5 +1,6 @@
 //! Why a stored response isn't used, why it may be stored or not, and what its lifetime goes by.
 use http::{Uri, request};
+use http_cache_semantics::explain::Explanation;
 use http_cache_semantics::{CacheOptions, CachePolicy};
 use std::alloc::Global;
 use std::process::Abort;
@@ -8,7 +9,7 @@ use test_cases::fixtures::{after, field, request, response};
 
 // The stored request's and response's headers, the method and the headers of the asking request,
 // the nanoseconds since the response came, the line that explains the answer, and the member of
-// Cache-Status.
+// Cache-Status. `ELSEWHERE` is a GET of another target.
 fn explained() -> &'static str {
     "|Cache-Control: max-age=10|GET||3000000000|hit: age 3 s, max-age=10|ExampleCache; hit; ttl=7
      |Cache-Control: max-age=10|GET||3500000000|hit: age 3 s, max-age=10|ExampleCache; hit; ttl=6
@@ -37,6 +38,7 @@ fn explained() -> &'static str {
          request min-fresh=5: age 6 s, max-age=10|ExampleCache; fwd=request; ttl=4; detail=\"min-fresh=5\"
      |Cache-Control: max-age=10|HEAD|Cache-Control: no-cache|0|other method: age 0 s, max-age=10|\
          ExampleCache; fwd=method
+     |Cache-Control: max-age=10|ELSEWHERE||0|other target: age 0 s, max-age=10|ExampleCache; fwd=uri-miss
      Host: a|Cache-Control: max-age=10|GET|Host: b|0|other Host: age 0 s, max-age=10|\
          ExampleCache; fwd=vary-miss; detail=\"host\"
      |Cache-Control: max-age=10 ~ Vary: accept|GET|Accept: text/html|0|Vary accept: age 0 s, max-age=10|\
@@ -88,37 +90,65 @@ fn stored() -> &'static str {
          not storable: no-store of the request, method, status, no-store, private, Authorization|not storable"
 }
 
-// The policy of a case of `explained`.
-fn answered(alloc: Global, case: &str) -> Result<CachePolicy, Fail> {
-    let request = request(alloc, "GET", field(case, 0)?)?;
-    let response = response(alloc, "200", field(case, 1)?)?;
-    Ok(CachePolicy::new(alloc, &request, &response, after(0)?)?)
+// The policy of an exchange at the start.
+fn policy(
+    alloc: Global,
+    method: &str,
+    asked: &str,
+    status: &str,
+    told: &str,
+    shared: bool,
+) -> Result<CachePolicy, Fail> {
+    let request = request(alloc, method, asked)?;
+    let response = response(alloc, status, told)?;
+    let opts = CacheOptions {
+        shared,
+        ..CacheOptions::default()
+    };
+    Ok(CachePolicy::new_options(alloc, &request, &response, after(0)?, opts)?)
 }
 
-// The line for a request, and the member of Cache-Status for a cache.
-fn texts(
+fn asking(alloc: Global, method: &str, lines: &str) -> Result<request::Parts, Fail> {
+    if method != "ELSEWHERE" {
+        return request(alloc, method, lines);
+    }
+    let mut request = request(alloc, "GET", lines)?;
+    request.uri = Uri::from_str(alloc, "/b")?;
+    Ok(request)
+}
+
+fn texts_in(
     alloc: Global,
-    policy: &CachePolicy,
-    request: &request::Parts,
-    nanos: i64,
+    explanation: &Explanation<'_>,
     cache: &str,
 ) -> Result<(String, String), Fail> {
-    let explanation = policy.explain(request, after(nanos)?);
     Ok((
         explanation.to_string(alloc)?,
         explanation.cache_status(alloc, cache)?,
     ))
 }
 
-fn texts_of_case(alloc: Global, case: &str) -> Result<(String, String), Fail> {
-    let policy = answered(alloc, case)?;
-    let request = request(alloc, field(case, 2)?, field(case, 3)?)?;
-    let nanos = field(case, 4)?.parse::<i64>()?;
-    texts(alloc, &policy, &request, nanos, "ExampleCache")
+// The line for a request that asks by the fields of a case, and the member of Cache-Status for a
+// cache.
+fn texts_of(
+    alloc: Global,
+    policy: &CachePolicy,
+    case: &str,
+    cache: &str,
+) -> Result<(String, String), Fail> {
+    let (method, lines) = (field(case, 2)?, field(case, 3)?);
+    let now = after(field(case, 4)?.parse::<i64>()?)?;
+    let request = asking(alloc, method, lines)?;
+    texts_in(alloc, &policy.explain(&request, now), cache)
+}
+
+fn texts(alloc: Global, case: &str, cache: &str) -> Result<(String, String), Fail> {
+    let policy = policy(alloc, "GET", field(case, 0)?, "200", field(case, 1)?, true)?;
+    texts_of(alloc, &policy, case, cache)
 }
 
 fn explains(rt: &impl Abort, alloc: Global, case: &str) -> Result<(), Fail> {
-    let (line, member) = texts_of_case(alloc, case)?;
+    let (line, member) = texts(alloc, case, "ExampleCache")?;
     assert_eq!(rt; line.as_str(), field(case, 5)?, "at {case}");
     assert_eq!(rt; member.as_str(), field(case, 6)?, "at {case}");
     Ok(())
@@ -132,55 +162,25 @@ fn explanations(rt: HostRuntime) -> Result<(), Fail> {
     Ok(())
 }
 
-// A GET of another target than the stored one.
-fn request_elsewhere(alloc: Global) -> Result<request::Parts, Fail> {
-    let mut request = request(alloc, "GET", "")?;
-    request.uri = Uri::from_str(alloc, "/b")?;
-    Ok(request)
-}
-
-fn texts_elsewhere(alloc: Global) -> Result<(String, String), Fail> {
-    let policy = answered(alloc, "|Cache-Control: max-age=10")?;
-    let request = request_elsewhere(alloc)?;
-    texts(alloc, &policy, &request, 0, "ExampleCache")
-}
-
-#[test]
-fn explanation_of_another_target(rt: HostRuntime) -> Result<(), Fail> {
-    let (line, member) = texts_elsewhere(rt.alloc())?;
-    assert_eq!(rt; line.as_str(), "other target: age 0 s, max-age=10");
-    assert_eq!(rt; member.as_str(), "ExampleCache; fwd=uri-miss");
-    Ok(())
-}
-
-fn member_named(alloc: Global, cache: &str) -> Result<String, Fail> {
-    let policy = answered(alloc, "|Cache-Control: max-age=1000000000000000")?;
-    let request = request(alloc, "GET", "")?;
-    Ok(texts(alloc, &policy, &request, 0, cache)?.1)
-}
-
 #[test]
 fn names_of_caches(rt: HostRuntime) -> Result<(), Fail> {
-    for case in named().lines() {
-        let member = member_named(rt.alloc(), field(case, 0)?)?;
-        assert_eq!(rt; member.as_str(), field(case, 1)?);
+    let case = "|Cache-Control: max-age=1000000000000000|GET||0";
+    for name in named().lines() {
+        let (_, member) = texts(rt.alloc(), case, field(name, 0)?)?;
+        assert_eq!(rt; member.as_str(), field(name, 1)?);
     }
     Ok(())
 }
 
-// The policy of a case of `stored`.
-fn policy(alloc: Global, case: &str) -> Result<CachePolicy, Fail> {
-    let request = request(alloc, field(case, 0)?, field(case, 1)?)?;
-    let response = response(alloc, field(case, 2)?, field(case, 3)?)?;
-    let opts = CacheOptions {
-        shared: field(case, 4)? != "own",
-        ..CacheOptions::default()
-    };
-    Ok(CachePolicy::new_options(alloc, &request, &response, after(0)?, opts)?)
-}
-
 fn lines_of_stored(alloc: Global, case: &str) -> Result<(String, String), Fail> {
-    let policy = policy(alloc, case)?;
+    let policy = policy(
+        alloc,
+        field(case, 0)?,
+        field(case, 1)?,
+        field(case, 2)?,
+        field(case, 3)?,
+        field(case, 4)? != "own",
+    )?;
     Ok((
         policy.storability().to_string(alloc)?,
         policy.freshness().to_string(alloc)?,

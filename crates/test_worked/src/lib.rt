@@ -4,16 +4,12 @@
 #[cfg(test)]
 mod chains;
 #[cfg(test)]
-mod explanations;
+mod errors;
 #[cfg(test)]
-mod lifetimes;
+mod explanations;
 #[cfg(test)]
 mod own_messages;
 #[cfg(test)]
 mod parse_cache_control;
-#[cfg(test)]
-mod policies;
-#[cfg(test)]
-mod refusals;
 #[cfg(test)]
 mod variants;

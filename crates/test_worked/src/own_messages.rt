@@ -1,8 +1,8 @@
 //! Requests and responses of one's own.
-use http::{HeaderMap, Method, StatusCode, Uri, Version, request};
+use http::{HeaderMap, Method, StatusCode, Uri, request};
 use http_cache_semantics::chain::chain;
 use http_cache_semantics::{
-    AfterResponse, BeforeRequest, CacheError, CacheOptions, CachePolicy, RequestLike, ResponseLike,
+    BeforeRequest, CacheError, CacheOptions, CachePolicy, RequestLike, ResponseLike,
 };
 use std::alloc::Global;
 use std::cell::Cell;
@@ -10,14 +10,17 @@ use std::process::Abort;
 use std::test::Fail;
 use test_cases::fixtures::{after, policy, request, response};
 
-// A request that takes each target for its own, or none.
+// A request that takes each target for its own, or none. It counts how often it is asked for a copy
+// of its target, and may have none to give.
 #[derive(Drop)]
-struct Partial {
+struct Own {
     parts: request::Parts,
     takes_all: bool,
+    is_tight: bool,
+    copies: Cell<u32>,
 }
 
-impl RequestLike for Partial {
+impl RequestLike for Own {
     ghost use Rattle.http_cache_semantics.specs.Headers.{headers_of};
 
     ghost seen = { λ p. record {
@@ -28,6 +31,10 @@ impl RequestLike for Partial {
     } };
 
     fn uri(&self, _alloc: Global) -> Result<Uri, CacheError> {
+        self.copies.set(self.copies.get().saturating_add(1));
+        if self.is_tight {
+            return Err(CacheError::Memory);
+        }
         self.parts.uri.clone().map_err(|_| CacheError::Memory)
     }
 
@@ -67,30 +74,13 @@ impl ResponseLike for Bare {
 
 const LINES: &str = "Cache-Control: max-age=10";
 
-fn request_for(alloc: Global, target: &str, takes_all: bool) -> Result<Partial, Fail> {
-    let mut parts = request(alloc, "GET", "")?;
-    parts.uri = Uri::from_str(alloc, target)?;
-    Ok(Partial { parts, takes_all })
-}
-
-// A request whose parts are empty.
-fn empty_request(alloc: Global) -> Partial {
-    Partial {
-        parts: request::Parts {
-            method: Method::GET,
-            uri: Uri::default(),
-            version: Version::HTTP_11,
-            headers: HeaderMap::new(alloc),
-        },
-        takes_all: true,
-    }
-}
-
-fn empty_response(alloc: Global, status: StatusCode) -> Bare {
-    Bare {
-        status,
-        headers: HeaderMap::new(alloc),
-    }
+fn own_request(alloc: Global, lines: &str, takes_all: bool, is_tight: bool) -> Result<Own, Fail> {
+    Ok(Own {
+        parts: request(alloc, "GET", lines)?,
+        takes_all,
+        is_tight,
+        copies: Cell::new(0),
+    })
 }
 
 // Whether the answer is fresh, and whether the request matches.
@@ -102,11 +92,7 @@ fn told(answer: &BeforeRequest) -> (bool, bool) {
 }
 
 // The same, once it is seen that the calls that take no memory tell it too.
-fn asked<Req: RequestLike>(
-    alloc: Global,
-    policy: &CachePolicy,
-    request: &Req,
-) -> Result<(bool, bool), Fail> {
+fn asked(alloc: Global, policy: &CachePolicy, request: &Own) -> Result<(bool, bool), Fail> {
     let now = after(0)?;
     let without = (
         policy.fresh_at(request, now),
@@ -119,29 +105,32 @@ fn asked<Req: RequestLike>(
     Ok(without)
 }
 
-fn answers_so(
-    rt: &impl Abort,
-    alloc: Global,
-    policy: &CachePolicy,
-    target: &str,
-    takes_all: bool,
-) -> Result<(), Fail> {
-    let request = request_for(alloc, target, takes_all)?;
-    let (fresh, matches) = asked(alloc, policy, &request)?;
-    assert_eq!(rt; fresh, takes_all, "at {target}");
-    assert_eq!(rt; matches, takes_all, "at {target}");
-    Ok(())
+// What is told of a request, which has no copy of its target to give and isn't asked for one.
+fn asks(alloc: Global, lines: &str, takes_all: bool) -> Result<((bool, bool), u32), Fail> {
+    let policy = policy(alloc, LINES)?;
+    let request = own_request(alloc, lines, takes_all, true)?;
+    let told = asked(alloc, &policy, &request)?;
+    Ok((told, request.copies.get()))
 }
 
 #[test]
 fn targets_are_compared_by_the_request(rt: HostRuntime) -> Result<(), Fail> {
-    let policy = policy(rt.alloc(), LINES)?;
-    answers_so(&rt, rt.alloc(), &policy, "/a", false)?;
-    answers_so(&rt, rt.alloc(), &policy, "/x", true)
+    assert_eq!(rt; asks(rt.alloc(), "", false)?.0, (false, false));
+    assert_eq!(rt; asks(rt.alloc(), "", true)?.0, (true, true));
+    Ok(())
+}
+
+#[test]
+fn no_copy_of_the_target_of_what_asks(rt: HostRuntime) -> Result<(), Fail> {
+    assert_eq!(rt; asks(rt.alloc(), "", true)?, ((true, true), 0));
+    let stale = asks(rt.alloc(), "Cache-Control: no-cache", true)?;
+    assert_eq!(rt; stale, ((false, true), 0));
+    assert_eq!(rt; asks(rt.alloc(), "Host: b", true)?, ((false, false), 0));
+    Ok(())
 }
 
 // How many caches a chain for the request reaches with one hand-over.
-fn reached(alloc: Global, request: &Partial) -> Result<usize, Fail> {
+fn reached(alloc: Global, request: &Own) -> Result<usize, Fail> {
     let response = response(alloc, "200", LINES)?;
     let opts = CacheOptions::default();
     let moments = [after(1_000_000_000)?];
@@ -151,122 +140,48 @@ fn reached(alloc: Global, request: &Partial) -> Result<usize, Fail> {
 
 #[test]
 fn a_chain_ends_where_no_target_matches(rt: HostRuntime) -> Result<(), Fail> {
-    let none = request_for(rt.alloc(), "/a", false)?;
+    let none = own_request(rt.alloc(), "", false, false)?;
     assert_eq!(rt; reached(rt.alloc(), &none)?, 1);
-    let all = request_for(rt.alloc(), "/a", true)?;
+    let all = own_request(rt.alloc(), "", true, false)?;
     assert_eq!(rt; reached(rt.alloc(), &all)?, 2);
     Ok(())
 }
 
-fn is_not_modified(
-    alloc: Global,
-    policy: &CachePolicy,
-    request: &Partial,
-    response: &Bare,
-) -> Result<bool, Fail> {
-    let answer = policy.after_response(alloc, request, response, after(0)?)?;
-    Ok(matches!(answer, AfterResponse::NotModified(..)))
+fn stored(alloc: Global, request: &Own) -> Result<Result<CachePolicy, CacheError>, Fail> {
+    let response = Bare {
+        status: StatusCode::OK,
+        headers: HeaderMap::new(alloc),
+    };
+    Ok(CachePolicy::new(alloc, request, &response, after(0)?))
 }
 
-fn answers_nothing_but_empty(
-    rt: &impl Abort,
-    alloc: Global,
-    policy: &CachePolicy,
-    request: &Partial,
-) -> Result<(), Fail> {
-    assert!(rt; policy.is_storable());
-    assert!(rt; policy.is_stale(after(0)?));
-    let (fresh, matches) = asked(alloc, policy, request)?;
-    assert!(rt; !fresh && matches);
-    let same = empty_response(alloc, StatusCode::NOT_MODIFIED);
-    assert!(rt; is_not_modified(alloc, policy, request, &same)?);
-    let other = empty_response(alloc, StatusCode::OK);
-    assert!(rt; !is_not_modified(alloc, policy, request, &other)?);
-    Ok(())
-}
-
-fn empty_policy(alloc: Global, request: &Partial) -> Result<CachePolicy, Fail> {
-    let response = empty_response(alloc, StatusCode::OK);
-    Ok(CachePolicy::new(alloc, request, &response, after(0)?)?)
-}
-
-#[test]
-fn messages_whose_parts_are_empty(rt: HostRuntime) -> Result<(), Fail> {
-    let request = empty_request(rt.alloc());
-    let policy = empty_policy(rt.alloc(), &request)?;
-    answers_nothing_but_empty(&rt, rt.alloc(), &policy, &request)
-}
-
-// A request that counts how often it is asked for a copy of its target.
-#[derive(Drop)]
-struct Counting {
-    parts: request::Parts,
-    copies: Cell<u32>,
-}
-
-impl RequestLike for Counting {
-    ghost use Rattle.http_cache_semantics.specs.Messages.{request_seen};
-
-    ghost seen = { λ c. request_seen c.parts };
-
-    fn uri(&self, _alloc: Global) -> Result<Uri, CacheError> {
-        self.copies.set(self.copies.get().saturating_add(1));
-        self.parts.uri.clone().map_err(|_| CacheError::Memory)
-    }
-
-    fn is_same_uri(&self, other: &Uri) -> bool {
-        self.parts.uri == *other
-    }
-
-    fn method(&self) -> &Method {
-        &self.parts.method
-    }
-
-    fn headers(&self) -> &HeaderMap {
-        &self.parts.headers
-    }
-}
-
-fn counting_request(alloc: Global, lines: &str) -> Result<Counting, Fail> {
-    Ok(Counting {
-        parts: request(alloc, "GET", lines)?,
-        copies: Cell::new(0),
-    })
-}
-
-// What is told of a request, and how often it was asked for a copy of its target.
-fn asks(alloc: Global, policy: &CachePolicy, lines: &str) -> Result<((bool, bool), u32), Fail> {
-    let request = counting_request(alloc, lines)?;
-    let told = asked(alloc, policy, &request)?;
-    Ok((told, request.copies.get()))
-}
-
-#[test]
-fn no_copy_of_the_target_of_what_asks(rt: HostRuntime) -> Result<(), Fail> {
-    let policy = policy(rt.alloc(), LINES)?;
-    let fresh = asks(rt.alloc(), &policy, "")?;
-    assert_eq!(rt; fresh, ((true, true), 0));
-    let stale = asks(rt.alloc(), &policy, "Cache-Control: no-cache")?;
-    assert_eq!(rt; stale, ((false, true), 0));
-    let other = asks(rt.alloc(), &policy, "Host: b")?;
-    assert_eq!(rt; other, ((false, false), 0));
-    Ok(())
-}
-
-// How often a policy asks for a copy of the target.
-fn stores(alloc: Global) -> Result<u32, Fail> {
-    let request = counting_request(alloc, "")?;
-    drop(CachePolicy::new(
-        alloc,
-        &request,
-        &empty_response(alloc, StatusCode::OK),
-        after(0)?,
-    )?);
-    Ok(request.copies.get())
+// Why no policy is made, and how often one asks for a copy of the target.
+fn stores(alloc: Global, is_tight: bool) -> Result<(Option<CacheError>, u32), Fail> {
+    let request = own_request(alloc, "", true, is_tight)?;
+    let error = stored(alloc, &request)?.err();
+    Ok((error, request.copies.get()))
 }
 
 #[test]
 fn one_copy_of_the_target_of_what_is_stored(rt: HostRuntime) -> Result<(), Fail> {
-    assert_eq!(rt; stores(rt.alloc())?, 1);
+    assert_eq!(rt; stores(rt.alloc(), false)?, (None, 1));
+    assert_eq!(rt; stores(rt.alloc(), true)?, (Some(CacheError::Memory), 1));
+    Ok(())
+}
+
+fn renewed(alloc: Global, request: &Own) -> Result<Option<CacheError>, Fail> {
+    let policy = policy(alloc, LINES)?;
+    let response = response(alloc, "200", LINES)?;
+    Ok(
+        policy
+            .after_response(alloc, request, &response, after(0)?)
+            .err(),
+    )
+}
+
+#[test]
+fn no_renewal_without_a_copy_of_the_target(rt: HostRuntime) -> Result<(), Fail> {
+    let request = own_request(rt.alloc(), "", true, true)?;
+    assert_eq!(rt; renewed(rt.alloc(), &request)?, Some(CacheError::Memory));
     Ok(())
 }

@@ -1,8 +1,5 @@
-//! Texts, pieces and directives.
-use http_cache_semantics::directives::{
-    CacheControl, GetHeaderStr, format_cache_control, get_all_comma, parse_cache_control,
-};
-use http_header::{HeaderMap, HeaderValue};
+//! Directives that are read, and written as one line.
+use http_cache_semantics::directives::{CacheControl, format_cache_control, parse_cache_control};
 use std::alloc::Global;
 use std::test::Fail;
 use test_cases::fixtures::{field, headers};
@@ -51,40 +48,6 @@ fn directives_of_lines(rt: HostRuntime) -> Result<(), Fail> {
         let text = directives_in(rt.alloc(), case)?;
         assert_eq!(rt; text.as_str(), field(case, 1)?, "at {case}");
     }
-    Ok(())
-}
-
-#[test]
-fn directives_by_name(rt: HostRuntime) -> Result<(), Fail> {
-    let read = read(rt.alloc(), "Cache-Control: a, B=X")?;
-    assert!(rt; read.contains_key("a"));
-    assert!(rt; read.contains_key("b"));
-    assert!(rt; !read.contains_key("x"));
-    assert_eq!(rt; read.get("B"), Some(Some("X")));
-    assert_eq!(rt; read.get("b"), Some(Some("X")));
-    assert_eq!(rt; read.get("A"), Some(None));
-    assert_eq!(rt; read.entry_at(1), Some(("b", Some("X"))));
-    assert!(rt; read.entry_at(2).is_none());
-    Ok(())
-}
-
-#[test]
-fn pieces_of_text_values_alone(rt: HostRuntime) -> Result<(), Fail> {
-    let mut map = HeaderMap::new(rt.alloc());
-    map.append("x", HeaderValue::from_bytes(rt.alloc(), b"a,\t,b c ")?)?;
-    map.append("x", HeaderValue::from_bytes(rt.alloc(), b"\xff")?)?;
-    map.append("x", HeaderValue::from_static(""))?;
-    let mut text = String::new(rt.alloc());
-    let mut pieces = get_all_comma(map.get_all("x"));
-    while let Some(piece) = pieces.next() {
-        text.push_str(piece)?;
-        text.push(';')?;
-    }
-    assert_eq!(rt; text.as_str(), "a;;b c;;");
-    assert!(rt; pieces.next().is_none());
-    assert_eq!(rt; map.get_str("X"), Some("a,\t,b c "));
-    assert_eq!(rt; map.get_str("a b"), None);
-    assert_eq!(rt; map.get_str("y"), None);
     Ok(())
 }
 

@@ -1,0 +1,7 @@
+//! Runs over readers and writers that stutter, fail and never end, as tests. Nothing here is for use.
+#![tactic(auto)]
+
+#[cfg(test)]
+mod replays;
+#[cfg(test)]
+mod scripts;
