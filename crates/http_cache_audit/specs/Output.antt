@@ -4,7 +4,7 @@ use Rattle.http_cache_semantics.specs.Options.{Options}
 use Rattle.http_cache_recording.specs.Entry.{RecordedSeen}
 use Rattle.http_cache_recording.specs.Recording.{IsRecording, IsCause}
 use Rattle.http_cache_audit.specs.declared.error.AuditError.{AuditError}
-use Rattle.http_cache_audit.specs.declared.error.AuditError.TheVariants.{NotReadable, TooLong, Recording, Cache, NotWritten}
+use Rattle.http_cache_audit.specs.declared.error.AuditError.TheVariants.{NotReadable, TooLong, Recording, Memory, NotWritten}
 use Rattle.http_cache_audit.specs.Lines.{IsAudit}
 
 -- how many bytes the longest recording has
@@ -26,5 +26,5 @@ abbrev pub IsRefusal : Option (List ℕ) → AuditError → Type 0
 IsRefusal known NotReadable = ⊤
 IsRefusal known TooLong = IfSome known (λ bytes. longest_recording < length bytes)
 IsRefusal known (Recording cause) = IfSome known (λ bytes. IsCause bytes cause)
-IsRefusal known (Cache cause) = ⊤
+IsRefusal known Memory = ⊤
 IsRefusal known NotWritten = ⊤

@@ -1,5 +1,5 @@
 -- The entries of a recording in the order of the walk, and what is assumed of their requests.
-use Rattle.std.specs.Prelude.{◌≡◌, ℕ, ℤ, Bool, true, false, ◌&&◌, List, [], ◌∷◌, ◌++◌, codes, bytes_eq, nat_eq}
+use Rattle.std.specs.Prelude.{◌≡◌, ℕ, ℤ, Bool, true, false, ◌&&◌, ◌||◌, not, List, [], ◌∷◌, ◌++◌, codes, bytes_eq, nat_eq, nat_lt}
 use Rattle.std.specs.Prelude.{fold, map, reverse, length, slice_get, string_bytes}
 use Rattle.std.specs.Prelude.{Option, Some, None, option_map, option_and_then, if◌then◌else◌}
 use Rattle.std.specs.List.{find, flat_map, enumerate_from}
@@ -8,7 +8,7 @@ use Rattle.std.specs.Option.{option_or, option_map_or, option_to_list}
 use Rattle.std.specs.Ordering.{nat_cmp, int_cmp, ordering_then}
 use Rattle.std.specs.declared.cmp.Ordering.{Ordering}
 use Rattle.http_uri.specs.Uri.{uri_eq}
-use Rattle.http_cache_fields.specs.Headers.{Headers, headers_of, first, contains_key, set}
+use Rattle.http_cache_fields.specs.Headers.{Headers, headers_of, first, contains_key, set, value_count}
 use Rattle.http_cache_fields.specs.Pieces.{pieces_under}
 use Rattle.http_cache_fields.specs.Directives.{same_value}
 use Rattle.http_cache_semantics.specs.Messages.{RequestSeen, ResponseSeen, request_seen}
@@ -131,10 +131,14 @@ supposed_seen s = record { headers = headers_of s.headers; names = map string_by
 abbrev pub with_value : SupposedSeen → List ℕ → List ℕ → SupposedSeen
 with_value s name value = record { headers = set s.headers name value; names = s.names ++ name ∷ [] }
 
--- the same with the value of a name that the headers lack, where there is one
+-- one header more fits, whatever its name
+abbrev pub has_room : Headers → Bool
+has_room h = nat_lt (value_count h) 24576
+
+-- the same with the value of a name that the headers lack and have room for, where there is one
 unfoldable pub with_name : SourcesSeen → SupposedSeen → List ℕ → SupposedSeen
 with_name sources s name =
-    if contains_key s.headers name then s
+    if contains_key s.headers name || not (has_room s.headers) then s
     else option_map_or (with_value s name) (value_from sources name) s
 
 -- the name that a piece of Vary tells, which `*` isn't (RFC 7231, section 7.1.4)

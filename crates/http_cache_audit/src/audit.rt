@@ -13,7 +13,7 @@ use crate::summary::{Summary, summary_of};
 use crate::tell::{listed, plain_line, plain_line_of_skip, request_text};
 use crate::walk::{Verdict, Walked, walk};
 use http_cache_recording::{Reading, Recorded};
-use http_cache_semantics::{CacheError, CacheOptions};
+use http_cache_semantics::CacheOptions;
 use std::alloc::{AllocError, Global};
 
 /// How a recording is audited, and how that is told.
@@ -164,9 +164,8 @@ fn push_end(
 
 /// The text of the audit of a recording: a line each, those of what was audited first, in the order
 /// of the walk, and hints, a summary and examples where the lines are plain. It is refused for want
-/// of memory, and with `HeaderMapFull` where a stored response with as many headers as a map can
-/// hold is renewed.
-pub fn audit(alloc: Global, recorded: &[Recorded], settings: Settings) -> Result<String, CacheError>
+/// of memory alone.
+pub fn audit(alloc: Global, recorded: &[Recorded], settings: Settings) -> Result<String, AllocError>
     ensures audit { IfOk result (λ text. IsAudit (options_of settings.options) settings.json
         (map recorded_seen recorded.now) (string_bytes text)) }
 {

@@ -1,6 +1,5 @@
 //! Why a recording wasn't audited.
 use http_cache_recording::ReadingError;
-use http_cache_semantics::CacheError;
 use thiserror::Error;
 
 /// Why a recording wasn't audited.
@@ -15,9 +14,9 @@ pub enum AuditError {
     /// What it gave is no recording.
     #[error("{0}")]
     Recording(ReadingError),
-    /// The cache was refused something.
-    #[error("{0}")]
-    Cache(CacheError),
+    /// The audit has no memory.
+    #[error("no memory")]
+    Memory,
     /// The writer failed.
     #[error("output: not written")]
     NotWritten,
@@ -33,7 +32,7 @@ impl AuditError {
     {
         match self {
             AuditError::Recording(ReadingError::Memory)
-            | AuditError::Cache(_)
+            | AuditError::Memory
             | AuditError::NotWritten => 3,
             AuditError::NotReadable | AuditError::TooLong | AuditError::Recording(_) => 2,
         }

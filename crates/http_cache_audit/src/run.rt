@@ -65,7 +65,7 @@ fn text_of<R: Read>(alloc: Global, reader: &mut R, settings: Settings) -> Result
     let recorded = recording_of(alloc, reader)?;
     match audit(alloc, recorded.as_slice(), settings) {
         Ok(text) => Ok(text),
-        Err(cause) => Err(AuditError::Cache(cause)),
+        Err(_) => Err(AuditError::Memory),
     }
 }
 

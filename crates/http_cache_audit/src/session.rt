@@ -1,14 +1,14 @@
 //! A recorded session in the order of the walk, and what is assumed of requests whose headers a
 //! recording doesn't have in full.
-ghost use Rattle.std.specs.Prelude.{◌≡◌, ◌++◌, [], ℕ, ℤ, map, option_map, IfOk, OnOk};
+ghost use Rattle.std.specs.Prelude.{◌≡◌, ◌++◌, [], ℕ, ℤ, true, map, option_map, IfOk, OnOk};
 ghost use Rattle.std.specs.Option.{option_to_list};
-ghost use Rattle.http_cache_fields.specs.Headers.{headers_of, first};
+ghost use Rattle.http_cache_fields.specs.Headers.{headers_of, first, IsFull};
 ghost use Rattle.http_cache_recording.specs.Fields.{field_name};
 ghost use Rattle.http_cache_semantics.specs.Messages.{request_seen, response_seen};
 ghost use Rattle.http_cache_recording.specs.Entry.{entry_seen, answer_seen, recorded_seen};
 ghost use Rattle.http_cache_audit.specs.Session.{moment_at, moments, IsOrder, sent_seen, sent_at, sent_in};
 ghost use Rattle.http_cache_audit.specs.Session.{is_asked_for, is_alike, last_alike, sources_seen, sources_before};
-ghost use Rattle.http_cache_audit.specs.Session.{source_of, value_from, supposed_seen, with_value, with_name, with_piece, varied_name};
+ghost use Rattle.http_cache_audit.specs.Session.{source_of, value_from, has_room, supposed_seen, with_value, with_name, with_piece, varied_name};
 ghost use Rattle.http_cache_audit.specs.Session.{supposed, assumed_seen, assuming, assumed_by, session_seen};
 ghost use Rattle.http_cache_audit.specs.Session.{session_by, session_after, IsSession};
 
@@ -19,7 +19,7 @@ use http_cache_fields::headers::{contains_key, copy_of_map, has_same_first, inse
 use http_cache_fields::pieces::pieces_under;
 use http_cache_recording::{Answer, Entry, Reading, Recorded};
 use http_cache_semantics::CacheError;
-use http_header::{HOST, HeaderNameError, VARY};
+use http_header::{HOST, HeaderNameError, MAX_KEYS, VARY};
 use std::alloc::{AllocError, Global};
 
 /// An entry, and its place in the recording.
@@ -199,34 +199,47 @@ fn value_from<'a>(sources: &Sources<'a>, name: &HeaderName) -> Option<&'a Header
     first_value(&source_of(sources, name)?.entry.request.headers, name)
 }
 
-// A value under a name.
+// Whether one header more fits, whatever its name.
+fn has_room(headers: &HeaderMap) -> bool
+    ensures value { result ≡ has_room (headers_of headers.now) }
+    ensures room { result ≡ true → ¬ (IsFull (headers_of headers.now)) }
+{
+    headers.len() < MAX_KEYS
+}
+
+// A value under a name, for which there is room.
 fn add_value(
     alloc: Global,
     supposed: &mut Supposed,
     name: HeaderName,
     value: &HeaderValue,
-) -> Result<(), CacheError>
+) -> Result<(), AllocError>
+    requires { ¬ (IsFull (headers_of supposed.old.headers)) }
     ensures { OnOk result (supposed_seen supposed.new
         ≡ with_value (supposed_seen supposed.old) name value.now.bytes) }
 {
     supposed
         .names
         .push(String::from_str(alloc, name.as_str())?)?;
-    insert(&mut supposed.headers, name, value.clone()?)
+    match insert(&mut supposed.headers, name, value.clone()?) {
+        Ok(()) => Ok(()),
+        Err(CacheError::Memory) => Err(AllocError),
+        Err(_) => unreachable!(),
+    }
 }
 
-// The value of a name that the headers lack, where there is one.
+// The value of a name that the headers lack and have room for, where there is one.
 #[tactic(auto, unfolding(crate::specs::Session::with_name))]
 fn add_name(
     alloc: Global,
     supposed: &mut Supposed,
     sources: &Sources<'_>,
     name: HeaderName,
-) -> Result<(), CacheError>
+) -> Result<(), AllocError>
     ensures { OnOk result (supposed_seen supposed.new
         ≡ with_name (sources_seen sources.now) (supposed_seen supposed.old) name) }
 {
-    if contains_key(&supposed.headers, &name) {
+    if contains_key(&supposed.headers, &name) || !has_room(&supposed.headers) {
         return Ok(());
     }
     match value_from(sources, &name) {
@@ -264,7 +277,7 @@ fn add_piece(
     supposed: &mut Supposed,
     sources: &Sources<'_>,
     piece: &str,
-) -> Result<(), CacheError>
+) -> Result<(), AllocError>
     ensures { OnOk result (supposed_seen supposed.new
         ≡ with_piece (sources_seen sources.now) (supposed_seen supposed.old) piece.now) }
 {
@@ -281,7 +294,7 @@ fn suppose(
     sources: &Sources<'_>,
     request: &request::Parts,
     response: &response::Parts,
-) -> Result<Supposed, CacheError>
+) -> Result<Supposed, AllocError>
     ensures { IfOk result (λ s. supposed_seen s ≡ supposed (sources_seen sources.now)
         (request_seen request.now) (response_seen response.now)) }
 {
@@ -320,7 +333,7 @@ fn assumed_by(
     alloc: Global,
     before: &[Sent<'_>],
     entry: &Entry,
-) -> Result<Option<Assumed>, CacheError>
+) -> Result<Option<Assumed>, AllocError>
     ensures { IfOk result (λ assumed. option_map assumed_seen assumed
         ≡ assumed_by (map sent_seen before.now) (entry_seen entry.now)
         (answer_seen entry.now.answer)) }
@@ -338,7 +351,7 @@ fn walked_by<'a>(
     alloc: Global,
     before: &[Sent<'a>],
     sent: &Sent<'a>,
-) -> Result<Walked<'a>, CacheError>
+) -> Result<Walked<'a>, AllocError>
     ensures { IfOk result (λ walked. session_seen walked
         ≡ session_by (map sent_seen before.now) (sent_seen sent.now)) }
 {
@@ -350,7 +363,7 @@ fn walked_by<'a>(
 }
 
 // Entries, each with what is assumed of it by those before it.
-fn walked_all<'a>(alloc: Global, sent: &[Sent<'a>]) -> Result<Vec<Walked<'a>>, CacheError>
+fn walked_all<'a>(alloc: Global, sent: &[Sent<'a>]) -> Result<Vec<Walked<'a>>, AllocError>
     ensures { IfOk result (λ walked. map session_seen walked.items
         ≡ session_after [] (map sent_seen sent.now)) }
 {
@@ -369,9 +382,9 @@ fn walked_all<'a>(alloc: Global, sent: &[Sent<'a>]) -> Result<Vec<Walked<'a>>, C
 /// request before it for the same target, or else of the last at the same Host, that the network
 /// was asked for; that of Cookie always of the last at the same Host.
 ///
-/// It is refused for want of memory, and with `HeaderMapFull` where a request has no room for what
-/// is assumed of it.
-pub fn session(alloc: Global, recorded: &[Recorded]) -> Result<Vec<Walked<'_>>, CacheError>
+/// A request that has as many headers as a map can hold is assumed no more. It is refused for want
+/// of memory alone.
+pub fn session(alloc: Global, recorded: &[Recorded]) -> Result<Vec<Walked<'_>>, AllocError>
     ensures session { IfOk result (λ walked.
         IsSession (map recorded_seen recorded.now) (map session_seen walked.items)) }
 {

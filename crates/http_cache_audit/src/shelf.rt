@@ -19,10 +19,30 @@ use http::{HeaderMap, StatusCode, request, response};
 use http_cache_semantics::directives::GetHeaderStr;
 use http_cache_semantics::explain::{Obstacles, Storability};
 use http_cache_semantics::{
-    AfterResponse, CacheError, CacheOptions, CachePolicy, ResponseLike, Variants,
+    CacheError, CacheOptions, CachePolicy, NextPolicy, ResponseLike, Variants,
 };
 use jiff::Timestamp;
-use std::alloc::Global;
+use std::alloc::{AllocError, Global};
+
+// What is stored after a response came, which is refused for want of memory alone.
+fn next_of<Res: ResponseLike>(
+    alloc: Global,
+    policy: &CachePolicy,
+    request: &request::Parts,
+    response: &Res,
+    moment: Timestamp,
+) -> Result<NextPolicy, AllocError>
+    ensures selected { IfOk result (λ next.
+        next.not_modified ≡ selects policy.now (Res.seen response.now)) }
+    ensures policy { IfOk result (λ next. next.policy ≡ next_exchange policy.now
+        (request_seen request.now) (Res.seen response.now) moment.nanosecond) }
+{
+    match policy.next_policy(alloc, request, response, moment) {
+        Ok(next) => Ok(next),
+        Err(CacheError::Memory) => Err(AllocError),
+        Err(_) => unreachable!(),
+    }
+}
 
 /// A request, the response that came for it, and when.
 #[derive(Clone, Copy)]
@@ -34,11 +54,15 @@ pub(crate) struct Arrival<'a> {
 
 impl Arrival<'_> {
     // The policy of the response.
-    fn policy(&self, alloc: Global, options: CacheOptions) -> Result<CachePolicy, CacheError>
+    fn policy(&self, alloc: Global, options: CacheOptions) -> Result<CachePolicy, AllocError>
         ensures { IfOk result (λ policy.
             policy ≡ arrived (options_of options) (arrival_seen self.now)) }
     {
-        CachePolicy::new_options(alloc, self.request, self.response, self.moment, options)
+        match CachePolicy::new_options(alloc, self.request, self.response, self.moment, options) {
+            Ok(policy) => Ok(policy),
+            Err(CacheError::Memory) => Err(AllocError),
+            Err(_) => unreachable!(),
+        }
     }
 
     // The policy of a stored response that a 304 renews, if it is of it.
@@ -46,13 +70,15 @@ impl Arrival<'_> {
         &self,
         alloc: Global,
         policy: &CachePolicy,
-    ) -> Result<Option<CachePolicy>, CacheError>
+    ) -> Result<Option<CachePolicy>, AllocError>
         ensures { IfOk result (λ next. next ≡ renewal (arrival_seen self.now) policy.now) }
     {
-        match policy.after_response(alloc, self.request, self.response, self.moment)? {
-            AfterResponse::NotModified(next, _) => Ok(Some(next)),
-            AfterResponse::Modified(..) => Ok(None),
-        }
+        let next = next_of(alloc, policy, self.request, self.response, self.moment)?;
+        Ok(if next.not_modified {
+            Some(next.policy)
+        } else {
+            None
+        })
     }
 }
 
@@ -64,12 +90,12 @@ fn take_out(variants: &mut Variants, place: usize)
     drop(variants.remove(place));
 }
 
-fn put_in_front(variants: &mut Variants, policy: CachePolicy) -> Result<(), CacheError>
+fn put_in_front(variants: &mut Variants, policy: CachePolicy) -> Result<(), AllocError>
     ensures { OnOk result (variants.new ≡ policy ∷ variants.old) }
 {
     match variants.add(policy) {
         Ok(()) => Ok(()),
-        Err(_) => Err(CacheError::Memory),
+        Err(_) => Err(AllocError),
     }
 }
 
@@ -121,7 +147,7 @@ fn make_room(variants: &mut Variants, request: &request::Parts, status: StatusCo
 }
 
 // A response that may be stored goes in front.
-fn store(variants: &mut Variants, policy: CachePolicy, now: Timestamp) -> Result<Heard, CacheError>
+fn store(variants: &mut Variants, policy: CachePolicy, now: Timestamp) -> Result<Heard, AllocError>
     ensures heard { IfOk result (λ heard. heard_seen heard ≡ stored (kept_of policy now.nanosecond)) }
     ensures front { OnOk result (variants.new ≡ policy ∷ variants.old) }
 {
@@ -137,7 +163,7 @@ fn hear_new(
     variants: &mut Variants,
     came: &Arrival<'_>,
     options: CacheOptions,
-) -> Result<Heard, CacheError>
+) -> Result<Heard, AllocError>
     ensures heard { IfOk result (λ heard. (variants.new, heard_seen heard) ≡ hear_new
         (options_of options) (arrival_seen came.now) variants.old) }
 {
@@ -168,7 +194,7 @@ fn first_renewed(
     alloc: Global,
     variants: &Variants,
     came: &Arrival<'_>,
-) -> Result<Option<CachePolicy>, CacheError>
+) -> Result<Option<CachePolicy>, AllocError>
     ensures { IfOk result (λ next. next ≡ option_map (λ e. next_exchange e
         (arrival_seen came.now).request (arrival_seen came.now).response
         (arrival_seen came.now).moment)
@@ -190,7 +216,7 @@ fn hear_other(
     alloc: Global,
     variants: &mut Variants,
     came: &Arrival<'_>,
-) -> Result<Heard, CacheError>
+) -> Result<Heard, AllocError>
     ensures heard { IfOk result (λ heard. (variants.new, heard_seen heard) ≡ hear_other
         (arrival_seen came.now) variants.old) }
 {
@@ -208,7 +234,7 @@ fn hear_validated(
     variants: &mut Variants,
     place: usize,
     came: &Arrival<'_>,
-) -> Result<Heard, CacheError>
+) -> Result<Heard, AllocError>
     requires { place < length variants.old }
     ensures heard { IfOk result (λ heard. IfSome (slice_get variants.old place) (λ e.
         (variants.new, heard_seen heard) ≡ hear_validated (arrival_seen came.now)
@@ -230,7 +256,7 @@ fn hear_not_modified(
     alloc: Global,
     variants: &mut Variants,
     came: &Arrival<'_>,
-) -> Result<Heard, CacheError>
+) -> Result<Heard, AllocError>
     ensures heard { IfOk result (λ heard. (variants.new, heard_seen heard) ≡ hear_not_modified
         (arrival_seen came.now) variants.old) }
 {
@@ -261,17 +287,15 @@ impl ResponseLike for AsNotModified<'_> {
 }
 
 // Whether a response would be of a stored one if it were a 304.
-fn would_renew(alloc: Global, policy: &CachePolicy, came: &Arrival<'_>) -> Result<bool, CacheError>
+fn would_renew(alloc: Global, policy: &CachePolicy, came: &Arrival<'_>) -> Result<bool, AllocError>
     ensures { IfOk result (λ would. would ≡ selects policy.now
         (record (arrival_seen came.now).response { status = 304 })) }
 {
     let response = AsNotModified {
         headers: &came.response.headers,
     };
-    match policy.after_response(alloc, came.request, &response, came.moment)? {
-        AfterResponse::NotModified(..) => Ok(true),
-        AfterResponse::Modified(..) => Ok(false),
-    }
+    let next = next_of(alloc, policy, came.request, &response, came.moment)?;
+    Ok(next.not_modified)
 }
 
 /// Whether a full answer has the validator of the stored response that was to be validated.
@@ -280,7 +304,7 @@ pub(crate) fn is_unchanged(
     alloc: Global,
     variants: &Variants,
     came: &Arrival<'_>,
-) -> Result<bool, CacheError>
+) -> Result<bool, AllocError>
     ensures { IfOk result (λ unchanged.
         unchanged ≡ is_unchanged (arrival_seen came.now) variants.now) }
 {
@@ -324,7 +348,7 @@ pub(crate) fn hear_response(
     variants: &mut Variants,
     came: &Arrival<'_>,
     options: CacheOptions,
-) -> Result<Heard, CacheError>
+) -> Result<Heard, AllocError>
     ensures heard { IfOk result (λ heard. (variants.new, heard_seen heard) ≡ hear_response
         (options_of options) (arrival_seen came.now) variants.old) }
 {
@@ -341,7 +365,7 @@ pub(crate) fn seed(
     variants: &mut Variants,
     came: &Arrival<'_>,
     options: CacheOptions,
-) -> Result<Heard, CacheError>
+) -> Result<Heard, AllocError>
     requires { variants.old ≡ [] }
     ensures heard { IfOk result (λ heard. (variants.new, heard_seen heard)
         ≡ seed (options_of options) (arrival_seen came.now)) }

@@ -5,7 +5,7 @@ ghost use Rattle.http_cache_audit.specs.Key.{key_in};
 
 use crate::target::copy_of_target;
 use http::{Method, Uri, request};
-use http_cache_semantics::{CacheError, Variants};
+use http_cache_semantics::Variants;
 use indexmap::IndexMap;
 use std::alloc::{AllocError, Global};
 use std::hash::Hash;
@@ -55,7 +55,7 @@ pub(crate) fn put_shelf<K: Eq + Hash + Drop>(
     shelves: &mut IndexMap<K, Variants>,
     key: K,
     variants: Variants,
-) -> Result<(), CacheError>
+) -> Result<(), AllocError>
     ensures { OnOk result ((other : K) → get K.eq shelves.new other
         ≡ cond (K.eq key other) (Some variants) (get K.eq shelves.old other)) }
 {
@@ -66,7 +66,7 @@ pub(crate) fn put_shelf<K: Eq + Hash + Drop>(
         }
         Err(refused) => {
             drop(refused);
-            Err(CacheError::Memory)
+            Err(AllocError)
         }
     }
 }

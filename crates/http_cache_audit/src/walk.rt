@@ -20,7 +20,7 @@ use crate::shelves::{Key, has_shelf, key_of, put_shelf, take_shelf};
 use http::{HeaderMap, request, response};
 use http_cache_recording::{Answer, Entry};
 use http_cache_semantics::directives::GetHeaderStr;
-use http_cache_semantics::{CacheError, CacheOptions, Variants};
+use http_cache_semantics::{CacheOptions, Variants};
 use indexmap::IndexMap;
 use jiff::Timestamp;
 use jiff::fmt::rfc2822::DateTimeParser;
@@ -100,7 +100,7 @@ fn hear_cached(
     entry: &Entry,
     response: &response::Parts,
     options: CacheOptions,
-) -> Result<Heard, CacheError>
+) -> Result<Heard, AllocError>
     ensures heard { IfOk result (λ heard. (variants.new, heard_seen heard) ≡ hear_cached
         (options_of options) (entry_seen entry.now) (response_seen response.now) variants.old) }
 {
@@ -121,7 +121,7 @@ fn hear_answer(
     variants: &mut Variants,
     entry: &Entry,
     options: CacheOptions,
-) -> Result<Heard, CacheError>
+) -> Result<Heard, AllocError>
     ensures heard { IfOk result (λ heard. (variants.new, heard_seen heard) ≡ hear_answer
         (options_of options) (entry_seen entry.now) (entry_seen entry.now).answer variants.old) }
 {
@@ -140,7 +140,7 @@ fn hear_answer(
 }
 
 // Whether a full answer came though a 304 would have done.
-fn is_unchanged_by(alloc: Global, variants: &Variants, entry: &Entry) -> Result<bool, CacheError>
+fn is_unchanged_by(alloc: Global, variants: &Variants, entry: &Entry) -> Result<bool, AllocError>
     ensures { IfOk result (λ unchanged. unchanged ≡ is_unchanged_by (entry_seen entry.now)
         (entry_seen entry.now).answer variants.now) }
 {
@@ -173,7 +173,7 @@ fn step(
     walked: &Walked<'_>,
     repeated: bool,
     options: CacheOptions,
-) -> Result<Verdict, CacheError>
+) -> Result<Verdict, AllocError>
     ensures verdict { IfOk result (λ verdict. verdict_seen verdict
         ≡ verdict_among (options_of options) repeated variants.old (walked_seen walked.now)) }
     ensures stored { OnOk result (variants.new
@@ -208,7 +208,7 @@ fn visit(
     shelves: &mut IndexMap<Key, Variants>,
     walked: &Walked<'_>,
     options: CacheOptions,
-) -> Result<Verdict, CacheError>
+) -> Result<Verdict, AllocError>
     ensures verdict { IfOk result (λ verdict. verdict_seen verdict ≡ verdict_among
         (options_of options) (has_shelf shelves.old (key_of (walked_seen walked.now)))
         (shelf_at shelves.old (key_of (walked_seen walked.now))) (walked_seen walked.now)) }
@@ -229,14 +229,13 @@ fn visit(
 }
 
 /// What a cache would have answered to each request of a session, in the order of the entries, and
-/// what became of what came. It is refused for want of memory, and with `HeaderMapFull` where a
-/// stored response with as many headers as a map can hold is renewed.
+/// what became of what came. It is refused for want of memory alone.
 #[tactic(auto, unfolding(crate::specs::Walk::verdicts))]
 pub fn walk(
     alloc: Global,
     entries: &[Walked<'_>],
     options: CacheOptions,
-) -> Result<Vec<Verdict>, CacheError>
+) -> Result<Vec<Verdict>, AllocError>
     ensures verdicts { IfOk result (λ told. map verdict_seen told.items
         ≡ verdicts (options_of options) (map walked_seen entries.now)) }
 {

@@ -27,24 +27,33 @@ pub enum AfterResponse {
     Modified(CachePolicy, response::Parts),
 }
 
+/// What is stored after the origin has answered, by `next_policy`.
+#[derive(Drop)]
+pub struct NextPolicy {
+    /// Whether the stored body still holds.
+    pub not_modified: bool,
+    /// The policy from then on. It may be one that can't be stored: `is_storable` of it says so.
+    pub policy: CachePolicy,
+}
+
 // The answer that gives a policy away.
-fn answer_with(
-    alloc: Global,
-    selected: bool,
-    policy: CachePolicy,
-    now: Timestamp,
-) -> Result<AfterResponse, CacheError>
-    ensures selected { IfOk result (λ answer. is_not_modified answer ≡ selected) }
-    ensures policy { IfOk result (λ answer. policy_in answer ≡ policy) }
-    ensures parts { IfOk result (λ answer. IsFreshParts policy now.nanosecond (parts_in answer)) }
+fn answer_with(alloc: Global, next: NextPolicy, now: Timestamp) -> Result<AfterResponse, CacheError>
+    ensures selected { IfOk result (λ answer. is_not_modified answer ≡ next.not_modified) }
+    ensures policy { IfOk result (λ answer. policy_in answer ≡ next.policy) }
+    ensures parts { IfOk result (λ answer.
+        IsFreshParts next.policy now.nanosecond (parts_in answer)) }
     ensures full { IsErrOf result CacheError.HeaderMapFull
-        → RefusesFreshHeaders policy now.nanosecond }
+        → RefusesFreshHeaders next.policy now.nanosecond }
     ensures unprintable { IsErrOf result CacheError.DateNotPrintable
-        → HasNoDate policy now.nanosecond }
+        → HasNoDate next.policy now.nanosecond }
     ensures no_other { result ≢ Err CacheError.Malformed }
 {
+    let NextPolicy {
+        not_modified,
+        policy,
+    } = next;
     let parts = policy.cached_response(alloc, now, policy.age(now))?;
-    Ok(if selected {
+    Ok(if not_modified {
         AfterResponse::NotModified(policy, parts)
     } else {
         AfterResponse::Modified(policy, parts)
@@ -92,9 +101,36 @@ impl CachePolicy {
             (Res.seen response.now) response_time.nanosecond) response_time.nanosecond }
         ensures no_other { result ≢ Err CacheError.Malformed }
     {
-        let selected = is_selected(self.stored_headers(), response.status(), response.headers());
-        let policy = self.policy_after(alloc, selected, request, response, response_time)?;
-        answer_with(alloc, selected, policy, response_time)
+        let next = self.next_policy(alloc, request, response, response_time)?;
+        answer_with(alloc, next, response_time)
+    }
+
+    /// What `after_response` stores, without the headers as they go to the client: for a store or an
+    /// audit, which hand nothing on (RFC 7234, section 4.3.4). It is refused for want of memory
+    /// alone.
+    pub fn next_policy<Req: RequestLike, Res: ResponseLike>(
+        &self,
+        alloc: Global,
+        request: &Req,
+        response: &Res,
+        response_time: Timestamp,
+    ) -> Result<NextPolicy, CacheError>
+        ensures selected { IfOk result (λ next.
+            next.not_modified ≡ selects self.now (Res.seen response.now)) }
+        ensures policy { IfOk result (λ next. next.policy ≡ next_exchange self.now
+            (Req.seen request.now) (Res.seen response.now) response_time.nanosecond) }
+        ensures only_memory { IsOkUnless result CacheError.Memory }
+    {
+        let not_modified = is_selected(
+            self.stored_headers(),
+            response.status(),
+            response.headers(),
+        );
+        let policy = self.policy_after(alloc, not_modified, request, response, response_time)?;
+        Ok(NextPolicy {
+            not_modified,
+            policy,
+        })
     }
 
     // The headers of the new response, or those of the stored one that it renews.

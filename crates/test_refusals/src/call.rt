@@ -20,6 +20,8 @@ pub enum Call {
     Unstorable,
     NotModified,
     Modified,
+    /// `next_policy`, with a 304.
+    NextPolicy,
     ToValue,
     FromValue,
     /// Three caches behind the first one.
@@ -41,7 +43,7 @@ pub enum Call {
 }
 
 /// Each call once.
-pub const CALLS: [Call; 22] = [
+pub const CALLS: [Call; 23] = [
     Call::New,
     Call::NewOptions,
     Call::TryClone,
@@ -54,6 +56,7 @@ pub const CALLS: [Call; 22] = [
     Call::Unstorable,
     Call::NotModified,
     Call::Modified,
+    Call::NextPolicy,
     Call::ToValue,
     Call::FromValue,
     Call::Chain,

@@ -108,12 +108,11 @@ const VALIDATED_VARIANT_FORM: &str = concat!(
 /// "private" and "public", as the stored form has them.
 const WORDS: (&str, &str) = ("70726976617465", "7075626c6963");
 
-/// An exchange with a policy of it, and variants.
+/// An exchange with a policy of it.
 #[derive(Drop)]
 pub struct Case {
     script: Script,
     policy: CachePolicy,
-    variants: Variants,
 }
 
 fn script_of(alloc: Global, text: &str) -> Result<Script, CacheError> {
@@ -138,12 +137,7 @@ fn text_for(alloc: Global, call: Call) -> Result<String, CacheError> {
 
 fn case_of(alloc: Global, script: Script) -> Result<Case, CacheError> {
     let policy = script.policy(alloc)?;
-    let variants = variants(alloc)?;
-    Ok(Case {
-        script,
-        policy,
-        variants,
-    })
+    Ok(Case { script, policy })
 }
 
 fn add_variant(alloc: Global, variants: &mut Variants, text: &str) -> Result<(), CacheError> {
@@ -158,6 +152,36 @@ pub(crate) fn variants(alloc: Global) -> Result<Variants, CacheError> {
         add_variant(alloc, &mut variants, text)?;
     }
     Ok(variants)
+}
+
+/// What is chosen among variants for the request of a step.
+pub(crate) fn choice_at(
+    alloc: Global,
+    variants: &Variants,
+    script: &Script,
+    place: usize,
+) -> Result<Choice, CacheError> {
+    match script.steps.get(place) {
+        Some(Step::Ask { request, moment }) => variants.choose(alloc, request, *moment),
+        _ => Err(CacheError::Malformed),
+    }
+}
+
+fn is_answer(call: Call, answer: &BeforeRequest) -> bool {
+    match call {
+        Call::Fresh => is_fresh(answer, FIVE_SECONDS),
+        Call::Validated => is_stale(answer, true, &VALIDATED),
+        Call::Unstorable => is_stale(answer, true, &PLAIN),
+        Call::UnmatchedHead => is_stale(answer, false, &UNMATCHED_HEAD),
+        _ => is_stale(answer, false, &UNMATCHED),
+    }
+}
+
+fn is_choice(call: Call, choice: &Choice) -> bool {
+    match call {
+        Call::ChooseFresh => chooses_fresh(choice),
+        _ => chooses_validated(choice),
+    }
 }
 
 // Whether a policy that isn't added comes back as it was.
@@ -233,11 +257,6 @@ impl Case {
         &self.script
     }
 
-    /// The variants.
-    pub(crate) fn variants(&self) -> &Variants {
-        &self.variants
-    }
-
     /// The policy of the exchange.
     pub(crate) fn policy(&self) -> &CachePolicy {
         &self.policy
@@ -274,12 +293,12 @@ impl Case {
             | Call::Unstorable => self.answers(alloc, call),
             Call::NotModified => self.renews(alloc),
             Call::Modified => self.replaces(alloc),
+            Call::NextPolicy => self.is_next(alloc),
             Call::ToValue => self.is_written_so(alloc),
             Call::Chain => self.is_handed_on(alloc),
             Call::Replay | Call::ReplayExample => self.runs(alloc, call),
             Call::Add => self.adds(alloc),
-            Call::ChooseFresh => Ok(chooses_fresh(&self.choice_at(alloc, 0)?)),
-            Call::ChooseValidated => Ok(chooses_validated(&self.choice_at(alloc, 1)?)),
+            Call::ChooseFresh | Call::ChooseValidated => self.chooses(alloc, call),
             Call::Forward => self.is_passed_on(alloc),
             Call::CacheStatus => self.explains(alloc),
         }
@@ -314,12 +333,14 @@ impl Case {
         is_added(&mut variants, self.policy.try_clone(alloc)?)
     }
 
-    /// What is chosen among the variants for the request of a step.
-    pub(crate) fn choice_at(&self, alloc: Global, place: usize) -> Result<Choice, CacheError> {
-        match self.script.steps.get(place) {
-            Some(Step::Ask { request, moment }) => self.variants.choose(alloc, request, *moment),
-            _ => Err(CacheError::Malformed),
-        }
+    fn chooses(&self, alloc: Global, call: Call) -> Result<bool, CacheError> {
+        let variants = variants(alloc)?;
+        let place = match call {
+            Call::ChooseFresh => 0,
+            _ => 1,
+        };
+        let choice = choice_at(alloc, &variants, &self.script, place)?;
+        Ok(is_choice(call, &choice))
     }
 
     fn makes_policy(&self, alloc: Global, call: Call) -> Result<bool, CacheError> {
@@ -361,15 +382,14 @@ impl Case {
     }
 
     fn answers(&self, alloc: Global, call: Call) -> Result<bool, CacheError> {
-        match call {
-            Call::Fresh => Ok(is_fresh(&self.answer_at(alloc, 0)?, FIVE_SECONDS)),
-            Call::Validated => Ok(is_stale(&self.answer_at(alloc, 2)?, true, &VALIDATED)),
-            Call::Unstorable => Ok(is_stale(&self.answer_at(alloc, 2)?, true, &PLAIN)),
-            Call::UnmatchedHead => {
-                Ok(is_stale(&self.answer_at(alloc, 7)?, false, &UNMATCHED_HEAD))
-            }
-            _ => Ok(is_stale(&self.answer_at(alloc, 6)?, false, &UNMATCHED)),
-        }
+        let place = match call {
+            Call::Fresh => 0,
+            Call::Validated | Call::Unstorable => 2,
+            Call::UnmatchedHead => 7,
+            _ => 6,
+        };
+        let answer = self.answer_at(alloc, place)?;
+        Ok(is_answer(call, &answer))
     }
 
     fn update_at(&self, alloc: Global, place: usize) -> Result<AfterResponse, CacheError> {
@@ -395,6 +415,22 @@ impl Case {
     fn replaces(&self, alloc: Global) -> Result<bool, CacheError> {
         let now = after(20_000_000_000)?;
         Ok(replaces(&self.update_at(alloc, 5)?, now))
+    }
+
+    fn is_next(&self, alloc: Global) -> Result<bool, CacheError> {
+        match self.script.steps.get(3) {
+            Some(
+                Step::Receive {
+                    request,
+                    response,
+                    moment,
+                },
+            ) => {
+                let next = self.policy.next_policy(alloc, request, response, *moment)?;
+                Ok(next.not_modified && is_at(&next.policy, *moment, 0, 10_000_000_000))
+            }
+            _ => Err(CacheError::Malformed),
+        }
     }
 
     // The fourth cache got an age of 3 seconds at 3.7 s.

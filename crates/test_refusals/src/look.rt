@@ -1,5 +1,5 @@
 //! Calls that take no memory.
-use crate::case::{Case, after, form, variants};
+use crate::case::{Case, after, choice_at, form, variants};
 use cache_script::{Script, Step};
 use http_cache_semantics::directives::{
     CacheControl, GetHeaderStr, get_all_comma, parse_cache_control,
@@ -115,8 +115,8 @@ pub enum Sight {
     Directives(CacheControl),
     /// The stored form of the policy.
     Form(Value),
-    /// Three variants.
-    Variants(Variants),
+    /// Three variants, and an exchange whose requests ask for them.
+    Variants(Variants, Case),
 }
 
 fn directives_in(alloc: Global, case: &Case) -> Result<Sight, CacheError> {
@@ -216,13 +216,17 @@ fn is_right_of_remove(variants: &mut Variants) -> bool {
     variants.remove(3).is_none() && variants.remove(1).is_some() && variants.len() == 2
 }
 
-fn is_right_of_choices(alloc: Global, case: &Case, look: Look) -> bool {
+fn is_right_of_variants(
+    alloc: Global,
+    variants: &mut Variants,
+    script: &Script,
+    look: Look,
+) -> bool {
     match look {
-        Look::NewVariants => is_right_of_new(alloc),
-        Look::PolicyAt => {
-            case.variants().policy_at(2).is_some() && case.variants().policy_at(3).is_none()
-        }
-        _ => matches!(case.choice_at(alloc, 7), Ok(Choice::Nothing)),
+        Look::Replace => is_right_of_replace(variants),
+        Look::Remove => is_right_of_remove(variants),
+        Look::PolicyAt => variants.policy_at(2).is_some() && variants.policy_at(3).is_none(),
+        _ => matches!(choice_at(alloc, variants, script, 7), Ok(Choice::Nothing)),
     }
 }
 
@@ -251,9 +255,7 @@ fn is_right_of_exchange(alloc: Global, case: &Case, look: Look) -> bool {
             told_at(case, 0, look) == Some(true) && told_at(case, 6, look) == Some(false)
         }
         Look::Fraction | Look::DefaultOptions => is_right_of_options(look),
-        Look::NewVariants | Look::PolicyAt | Look::ChooseNothing => {
-            is_right_of_choices(alloc, case, look)
-        }
+        Look::NewVariants => is_right_of_new(alloc),
         Look::PrintDate => is_right_of_dates() == Ok(true),
         _ => is_right_of_messages(case.script(), look),
     }
@@ -290,7 +292,10 @@ impl Sight {
             }
             Look::SatisfiesWithoutRevalidation => answer_in(alloc, &Case::varied(alloc)?),
             Look::OptionsFromValue | Look::MomentFromValue => Ok(Sight::Form(form(alloc)?)),
-            Look::Replace | Look::Remove => Ok(Sight::Variants(variants(alloc)?)),
+            Look::PolicyAt | Look::Replace | Look::Remove | Look::ChooseNothing => {
+                let variants = variants(alloc)?;
+                Ok(Sight::Variants(variants, Case::varied(alloc)?))
+            }
             _ => Ok(Sight::Exchange(Case::varied(alloc)?)),
         }
     }
@@ -298,10 +303,9 @@ impl Sight {
     /// Makes a call, and tells whether its answer is the right one.
     pub fn is_right(&mut self, alloc: Global, look: Look) -> bool {
         match self {
-            Sight::Variants(variants) => match look {
-                Look::Replace => is_right_of_replace(variants),
-                _ => is_right_of_remove(variants),
-            },
+            Sight::Variants(variants, case) => {
+                is_right_of_variants(alloc, variants, case.script(), look)
+            }
             Sight::Exchange(case) => is_right_of_exchange(alloc, case, look),
             Sight::Answer(answer) => answer.satisfies_without_revalidation(),
             Sight::Directives(read) => is_right_of_directives(read, look),

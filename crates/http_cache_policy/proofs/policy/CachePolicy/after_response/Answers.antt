@@ -2,12 +2,11 @@
 use Rattle.std.proofs.Common.{◌≡◌, Bool, true, List, ℕ, ℤ, Result, Ok, Err, IfOk, length, sym, ap, subst, ◌∙◌}
 use Rattle.std.proofs.lemmas.Result.{IfOk-weaker}
 use Rattle.http_cache_fields.specs.Headers.{headers_of, values, IsAbsent}
-use Rattle.http_cache_rules.specs.Selection.{is_selected}
 use Rattle.http_cache_rules.specs.Renewed.{is_of_body}
 use Rattle.http_cache_policy.specs.Messages.{RequestSeen, ResponseSeen}
 use Rattle.http_cache_policy.specs.Exchange.{Exchange}
 use Rattle.http_cache_policy.specs.Fresh.{HasOneAgeAndDate, RefusesFreshHeaders, HasNoDate}
-use Rattle.http_cache_policy.specs.Update.{selects, next_where, next_exchange}
+use Rattle.http_cache_policy.specs.Update.{next_where, next_exchange}
 use Rattle.http_cache_policy.specs.Answer.{is_not_modified, policy_in, parts_in}
 use Rattle.http_cache_policy.proofs.FreshLemmas.{one_age_and_date}
 use Rattle.http_cache_policy.proofs.NextLemmas.{next-status, next-adds_none, next-body}
@@ -33,21 +32,13 @@ module _ (g : given.Over) (c : goal.After-answer_with g) where
   now = c.args.response_time.nanosecond
 
   abbrev chosen : Bool
-  chosen = c.is_selected-selected.result
+  chosen = c.in_ok-next.next.not_modified
 
-  chosen-is : chosen ≡ selects e response
-  chosen-is =
-      c.is_selected-selected.ensures
-      ∙ (λ i. is_selected (c.stored_headers.ensures i) (c.status.ensures i) (c.headers.ensures i))
+  policy-is : c.in_ok-next.next.policy ≡ next_exchange e request response now
+  policy-is = c.in_ok-next.ensures.policy
 
-  by_choice : c.in_ok-policy.policy ≡ next_where chosen e request response now
-  by_choice = c.in_ok-policy.ensures.value
-
-  policy-is : c.in_ok-policy.policy ≡ next_exchange e request response now
-  policy-is = by_choice ∙ ap (λ b. next_where b e request response now) chosen-is
-
-  renewed-is : chosen ≡ true → c.in_ok-policy.policy ≡ next_where true e request response now
-  renewed-is h = by_choice ∙ ap (λ b. next_where b e request response now) h
+  renewed-is : chosen ≡ true → c.in_ok-next.next.policy ≡ next_where true e request response now
+  renewed-is h = policy-is ∙ ap (λ b. next_where b e request response now) (sym c.in_ok-next.ensures.selected ∙ h)
 
   -- what holds of the exchange after a selected response holds of the answer
   where_selected : (P : Exchange → Type 0) → P (next_where true e request response now)
