@@ -1,5 +1,6 @@
 //! Names of directives, which have no case (RFC 7234, section 5.2).
-ghost use Rattle.std.specs.Prelude.{◌≡◌, true, bytes_eq, string_bytes, IfOk};
+ghost use Rattle.std.specs.Prelude.{◌≡◌, true, bytes_eq, IfOk, IfSome};
+ghost use Rattle.std.specs.Cow.{cow_str_bytes};
 ghost use Rattle.std.specs.Ordering.{nat_cmp, on, as_partial_cmp};
 ghost use Rattle.std.specs.Cmp.{partial_order_from_own_ties};
 ghost use Rattle.std.specs.Cmp.Rules.{comparing};
@@ -8,7 +9,28 @@ ghost use Rattle.std.proofs.Common.{rules, nat_eq};
 ghost use Rattle.http_header.specs.Token.{lowercase};
 
 use std::alloc::{AllocError, Global};
+use std::borrow::CowStr;
 use std::cmp::Ordering;
+
+// The standard names of directives, the most common ones first (RFC 7234, section 5.2, RFC 5861
+// and RFC 8246).
+const STANDARD: [&'static str; 15] = [
+    "max-age",
+    "public",
+    "no-cache",
+    "private",
+    "no-store",
+    "must-revalidate",
+    "s-maxage",
+    "immutable",
+    "stale-while-revalidate",
+    "stale-if-error",
+    "no-transform",
+    "proxy-revalidate",
+    "max-stale",
+    "min-fresh",
+    "only-if-cached",
+];
 
 /// Whether two names are the same, but for the case of their ASCII letters.
 pub fn is_same_name(a: &str, b: &str) -> bool
@@ -28,14 +50,24 @@ fn is_lower(name: &str) -> bool
     common != 0
 }
 
-/// A copy of a name in lower case.
-pub(crate) fn lower_copy(alloc: Global, name: &str) -> Result<String, AllocError>
-    ensures { IfOk result (λ copy. string_bytes copy ≡ lowercase name.now) }
+// The standard name of the same text, which needs no copy.
+fn standard(name: &str) -> Option<&'static str>
+    ensures { IfSome result (λ text. text.now ≡ name.now) }
 {
-    if is_lower(name) {
-        return String::from_str(alloc, name);
+    STANDARD.iter().copied().find(|text| *text == name)
+}
+
+/// A name in lower case: a standard one as it stands here, a copy of another.
+pub(crate) fn lower_name(alloc: Global, name: &str) -> Result<CowStr<'static, Global>, AllocError>
+    ensures { IfOk result (λ lower. cow_str_bytes lower ≡ lowercase name.now) }
+{
+    if !is_lower(name) {
+        return Ok(CowStr::Owned(name.to_ascii_lowercase(alloc)?));
     }
-    name.to_ascii_lowercase(alloc)
+    match standard(name) {
+        Some(text) => Ok(CowStr::Borrowed(text)),
+        None => Ok(CowStr::Owned(String::from_str(alloc, name)?)),
+    }
 }
 
 // The order of two names in lower case.

@@ -3,13 +3,12 @@ use Rattle.std.proofs.Common.{◌≡◌, [], ◌∷◌, ◌++◌, Some, None, ru
 use Rattle.std.proofs.Common.{sym, subst, ap, ◌∙◌, slice_index_or, slice_set}
 use Rattle.std.specs.List.{position_or_len}
 use Rattle.std.proofs.lemmas.Bool.{ltb-true}
-use Rattle.std.proofs.lemmas.List.{map-append}
 use Rattle.std.proofs.lemmas.Iterator.{YieldsList-from_slice}
 use Rattle.std.proofs.lemmas.Iterator.Search.{position_from_yields_List}
 use Rattle.http_cache_fields.specs.Directives.{value_under, set_directive, must_revalidate}
 use Rattle.http_cache_fields.specs.Readable.{AreDirectives}
 use Rattle.http_cache_fields.specs.Shown.{shown_text, shown_entries}
-use Rattle.http_cache_fields.proofs.ShownLemmas.{named, value_under-no_place, shown_entries-slice_set, found_place}
+use Rattle.http_cache_fields.proofs.ShownLemmas.{named, value_under-no_place, shown_entries-slice_set, shown_entries-push, found_place}
 use Rattle.http_cache_fields.proofs.ReadLemmas.{set_directive-new}
 use Rattle.http_cache_fields.proofs.AreDirectivesLemmas.{AreDirectives-set}
 use Rattle.http_cache_fields.proofs.ValidLemmas.{must_revalidate-is}
@@ -44,9 +43,8 @@ returns c =
     let none = position_from_yields_List (named n) _ _ None c.in_default.ensures.ran
     (YieldsList-from_slice es (cc)) (λ x b q k. search (rules, tests)) in
     let new = sym (ap (λ ds. value_under ds n) c.self.view_is) ∙ value_under-no_place es n none in
-    ap shown_entries c.in_ok-push.ensures.items
-    ∙ map-append shown_text es ((c.in_ok-name.name, None) ∷ [])
-    ∙ (λ i. c.self.view_is i ++ (c.in_ok-name.ensures.ok i, None) ∷ [])
+    shown_entries-push es _ _ c.in_ok-push.ensures.items
+    ∙ (λ i. c.self.view_is i ++ must_revalidate ∷ [])
     ∙ sym (set_directive-new c.args.self.now must_revalidate new)
 
 pub invariant_of-self-2 : goal.invariant_of-self-2
