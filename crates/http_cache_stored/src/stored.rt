@@ -1,7 +1,9 @@
 //! What a stored form says, by its parts.
-ghost use Rattle.std.specs.Prelude.{◌≡◌, option_map, IfOk, IsErrOf};
+ghost use Rattle.std.specs.Prelude.{◌≡◌, option_map, option_copied, option_and_then, IfOk, IsErrOf};
 ghost use Rattle.serde_json.specs.View.{view};
 ghost use Rattle.serde_json.specs.Data.{string};
+ghost use Rattle.serde_json.specs.Find.{get, as_str};
+ghost use Rattle.http_cache_stored.specs.Form.{whole_of};
 ghost use Rattle.http_uri.specs.Uri.{uri_text};
 ghost use Rattle.http_cache_rules.specs.Options.{options_of};
 ghost use Rattle.http_cache_rules.specs.Exchange.{Exchange, exchange_in};
@@ -32,6 +34,18 @@ struct StoredMembers<'a> {
     response_time: Timestamp,
 }
 
+fn text_under<'a>(value: &'a Value, key: &str) -> Option<&'a str>
+    ensures { option_copied result ≡ option_and_then as_str (get key.now (view value.now)) }
+{
+    value.get(key)?.as_str()
+}
+
+fn whole_under(value: &Value, key: &str) -> Option<u64>
+    ensures { result ≡ option_and_then whole_of (get key.now (view value.now)) }
+{
+    value.get(key)?.as_u64()
+}
+
 #[tactic(auto, unfolding(crate::specs::Stored::stored_form))]
 fn stored_members(value: &Value) -> Option<StoredMembers<'_>>
     ensures { option_map (λ m. record {
@@ -48,9 +62,9 @@ fn stored_members(value: &Value) -> Option<StoredMembers<'_>>
         return None;
     }
     Some(StoredMembers {
-        target: value.get("uri")?.as_str()?,
-        method: value.get("method")?.as_str()?,
-        status: value.get("status")?.as_u64()?,
+        target: text_under(value, "uri")?,
+        method: text_under(value, "method")?,
+        status: whole_under(value, "status")?,
         request: value.get("req")?,
         response: value.get("res")?,
         options: options_from_value(value.get("opts")?)?,
@@ -97,18 +111,13 @@ fn text_of_target(alloc: Global, target: &Uri) -> Result<Value, AllocError>
 pub fn value_of_parts(alloc: Global, parts: &StoredParts) -> Result<Value, AllocError>
     ensures { IfOk result (λ v. IsWrittenFor (view v) (exchange_in parts.now)) }
 {
-    let opts = value_of_options(alloc, &parts.options)?;
-    let req = value_of_headers(alloc, &parts.request_headers)?;
-    let res = value_of_headers(alloc, &parts.response_headers)?;
-    let moment = value_of_moment(alloc, parts.response_time)?;
-    let uri = text_of_target(alloc, &parts.target)?;
     json!(in alloc; {
         "method": parts.method.as_str(),
-        "opts": opts,
-        "req": req,
-        "res": res,
-        "response_time": moment,
+        "opts": value_of_options(alloc, &parts.options)?,
+        "req": value_of_headers(alloc, &parts.request_headers)?,
+        "res": value_of_headers(alloc, &parts.response_headers)?,
+        "response_time": value_of_moment(alloc, parts.response_time)?,
         "status": parts.status.as_u16(),
-        "uri": uri
+        "uri": text_of_target(alloc, &parts.target)?
     })
 }
