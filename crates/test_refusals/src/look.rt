@@ -200,12 +200,9 @@ fn is_right_of_new(alloc: Global) -> bool {
     variants.is_empty() && variants.len() == 0
 }
 
-// The last of three takes the place of the first, where there is no third any more.
+// The last of three takes the place of the first, and then there are two.
 fn is_right_of_replace(variants: &mut Variants) -> bool {
     let Some(policy) = variants.remove(2) else {
-        return false;
-    };
-    let Err(policy) = variants.replace(2, policy) else {
         return false;
     };
     variants.replace(0, policy).is_ok() && variants.len() == 2
@@ -270,16 +267,25 @@ fn is_right_of_directives(read: &CacheControl, look: Look) -> bool {
     }
 }
 
-fn is_right_of_form(value: &Value, look: Look) -> bool {
-    match look {
-        Look::OptionsFromValue => value
-            .get("opts")
-            .and_then(options_from_value)
-            .is_some_and(|options| options.ignore_cargo_cult),
-        _ => value
-            .get("response_time")
-            .and_then(moment_from_value)
-            .is_some_and(|moment| moment.as_second() == 1_704_067_200),
+fn ignores_cargo_cult(options: &Value) -> bool {
+    match options_from_value(options) {
+        Some(options) => options.ignore_cargo_cult,
+        None => false,
+    }
+}
+
+fn is_moment_of_response(value: &Value) -> bool {
+    match moment_from_value(value) {
+        Some(moment) => moment.as_second() == 1_704_067_200,
+        None => false,
+    }
+}
+
+fn is_right_of_form(form: &Value, look: Look) -> bool {
+    match (look, form.get("opts"), form.get("response_time")) {
+        (Look::OptionsFromValue, Some(options), _) => ignores_cargo_cult(options),
+        (_, _, Some(moment)) => is_moment_of_response(moment),
+        _ => false,
     }
 }
 
