@@ -4,6 +4,7 @@
 
 pub mod form;
 pub mod headers;
+pub mod members;
 pub mod stored;
 pub mod texts;
 pub mod unread;

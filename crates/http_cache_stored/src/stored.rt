@@ -1,19 +1,16 @@
 //! What a stored form says, by its parts.
-ghost use Rattle.std.specs.Prelude.{◌≡◌, option_map, option_copied, option_and_then, IfOk, IsErrOf};
+ghost use Rattle.std.specs.Prelude.{◌≡◌, option_map, IfOk, IsErrOf};
 ghost use Rattle.serde_json.specs.View.{view};
 ghost use Rattle.serde_json.specs.Data.{string};
-ghost use Rattle.serde_json.specs.Find.{get, as_str};
-ghost use Rattle.http_cache_stored.specs.Form.{whole_of};
 ghost use Rattle.http_uri.specs.Uri.{uri_text};
 ghost use Rattle.http_cache_rules.specs.Options.{options_of};
 ghost use Rattle.http_cache_rules.specs.Exchange.{Exchange, exchange_in};
 ghost use Rattle.http_cache_stored.specs.Stored.{stored_form, IsStored};
 ghost use Rattle.http_cache_stored.specs.ReadBack.{IsWrittenFor};
 
-use crate::form::{
-    has_members, moment_from_value, options_from_value, value_of_moment, value_of_options,
-};
+use crate::form::{has_members, value_of_moment, value_of_options};
 use crate::headers::{headers_from_value, value_of_headers};
+use crate::members::{moment_under, options_under, text_under, whole_under};
 use crate::texts::{method_from_text, status_from_number, target_from_text};
 use crate::unread::UnreadValue;
 use http::Uri;
@@ -32,18 +29,6 @@ struct StoredMembers<'a> {
     response: &'a Value,
     options: CacheOptions,
     response_time: Timestamp,
-}
-
-fn text_under<'a>(value: &'a Value, key: &str) -> Option<&'a str>
-    ensures { option_copied result ≡ option_and_then as_str (get key.now (view value.now)) }
-{
-    value.get(key)?.as_str()
-}
-
-fn whole_under(value: &Value, key: &str) -> Option<u64>
-    ensures { result ≡ option_and_then whole_of (get key.now (view value.now)) }
-{
-    value.get(key)?.as_u64()
 }
 
 #[tactic(auto, unfolding(crate::specs::Stored::stored_form))]
@@ -67,8 +52,8 @@ fn stored_members(value: &Value) -> Option<StoredMembers<'_>>
         status: whole_under(value, "status")?,
         request: value.get("req")?,
         response: value.get("res")?,
-        options: options_from_value(value.get("opts")?)?,
-        response_time: moment_from_value(value.get("response_time")?)?,
+        options: options_under(value, "opts")?,
+        response_time: moment_under(value, "response_time")?,
     })
 }
 
