@@ -44,6 +44,33 @@ fn weight_of_update(answer: &AfterResponse) -> u64 {
     }
 }
 
+fn made_weight(alloc: Global, script: &Script) -> Result<u64, CacheError> {
+    Ok(u64::from(script.policy(alloc)?.is_storable()))
+}
+
+fn copy_weight(alloc: Global, policy: &CachePolicy) -> Result<u64, CacheError> {
+    Ok(u64::from(policy.try_clone(alloc)?.is_storable()))
+}
+
+fn answer_weight(
+    alloc: Global,
+    policy: &CachePolicy,
+    request: &request::Parts,
+    now: Timestamp,
+) -> Result<u64, CacheError> {
+    Ok(weight_of_answer(&policy.before_request(alloc, request, now)?))
+}
+
+fn update_weight(
+    alloc: Global,
+    policy: &CachePolicy,
+    exchange: (&request::Parts, &response::Parts),
+    now: Timestamp,
+) -> Result<u64, CacheError> {
+    let (request, response) = exchange;
+    Ok(weight_of_update(&policy.after_response(alloc, request, response, now)?))
+}
+
 // Makes a call, and tells something of its answer, so that no call can be left out.
 #[inline(never)]
 fn once(
@@ -53,15 +80,12 @@ fn once(
     call: &Call<'_>,
 ) -> Result<u64, CacheError> {
     match call {
-        Call::NewOptions => Ok(u64::from(script.policy(alloc)?.is_storable())),
-        Call::TryClone => Ok(u64::from(policy.try_clone(alloc)?.is_storable())),
+        Call::NewOptions => made_weight(alloc, script),
+        Call::TryClone => copy_weight(alloc, policy),
         Call::FreshAt(request, now) => Ok(u64::from(policy.fresh_at(*request, *now))),
-        Call::BeforeRequest(request, now) => {
-            Ok(weight_of_answer(&policy.before_request(alloc, *request, *now)?))
-        }
+        Call::BeforeRequest(request, now) => answer_weight(alloc, policy, *request, *now),
         Call::AfterResponse(request, response, now) => {
-            let answer = policy.after_response(alloc, *request, *response, *now)?;
-            Ok(weight_of_update(&answer))
+            update_weight(alloc, policy, (*request, *response), *now)
         }
     }
 }

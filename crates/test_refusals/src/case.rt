@@ -177,6 +177,13 @@ fn is_answer(call: Call, answer: &BeforeRequest) -> bool {
     }
 }
 
+fn is_update(call: Call, answer: &AfterResponse, now: Timestamp) -> bool {
+    match call {
+        Call::NotModified => renews(answer, now),
+        _ => replaces(answer, now),
+    }
+}
+
 fn is_choice(call: Call, choice: &Choice) -> bool {
     match call {
         Call::ChooseFresh => chooses_fresh(choice),
@@ -291,8 +298,7 @@ impl Case {
             | Call::Unmatched
             | Call::UnmatchedHead
             | Call::Unstorable => self.answers(alloc, call),
-            Call::NotModified => self.renews(alloc),
-            Call::Modified => self.replaces(alloc),
+            Call::NotModified | Call::Modified => self.updates(alloc, call),
             Call::NextPolicy => self.is_next(alloc),
             Call::ToValue => self.is_written_so(alloc),
             Call::Chain => self.is_handed_on(alloc),
@@ -344,23 +350,32 @@ impl Case {
     }
 
     fn makes_policy(&self, alloc: Global, call: Call) -> Result<bool, CacheError> {
-        let script = &self.script;
         match call {
-            Call::New => is_right_policy(&CachePolicy::new(
-                alloc,
-                &script.request,
-                &script.response,
-                script.received,
-            )?),
+            Call::New => self.makes_new(alloc),
             Call::TryClone => is_right_policy(&self.policy.try_clone(alloc)?),
             Call::FromValue => is_right_reading(alloc, &form(alloc)?),
-            _ => is_right_policy(&script.policy(alloc)?),
+            _ => self.makes_with_options(alloc),
         }
     }
 
-    fn reads_directives(&self, alloc: Global, call: Call) -> Result<bool, CacheError> {
+    fn makes_new(&self, alloc: Global) -> Result<bool, CacheError> {
+        let (request, response) = (&self.script.request, &self.script.response);
+        let policy = CachePolicy::new(alloc, request, response, self.script.received)?;
+        is_right_policy(&policy)
+    }
+
+    fn makes_with_options(&self, alloc: Global) -> Result<bool, CacheError> {
+        is_right_policy(&self.script.policy(alloc)?)
+    }
+
+    /// The directives of the response.
+    pub(crate) fn directives(&self, alloc: Global) -> Result<CacheControl, CacheError> {
         let values = self.script.response.headers.get_all("cache-control");
-        let read = parse_cache_control(alloc, values)?;
+        parse_cache_control(alloc, values)
+    }
+
+    fn reads_directives(&self, alloc: Global, call: Call) -> Result<bool, CacheError> {
+        let read = self.directives(alloc)?;
         match call {
             Call::Format => is_right_line(alloc, &read),
             _ => Ok(are_directives(&read)),
@@ -392,7 +407,11 @@ impl Case {
         Ok(is_answer(call, &answer))
     }
 
-    fn update_at(&self, alloc: Global, place: usize) -> Result<AfterResponse, CacheError> {
+    fn updates(&self, alloc: Global, call: Call) -> Result<bool, CacheError> {
+        let place = match call {
+            Call::NotModified => 3,
+            _ => 5,
+        };
         match self.script.steps.get(place) {
             Some(
                 Step::Receive {
@@ -400,21 +419,14 @@ impl Case {
                     response,
                     moment,
                 },
-            ) => self
-                .policy
-                .after_response(alloc, request, response, *moment),
+            ) => {
+                let answer = self
+                    .policy
+                    .after_response(alloc, request, response, *moment)?;
+                Ok(is_update(call, &answer, *moment))
+            }
             _ => Err(CacheError::Malformed),
         }
-    }
-
-    fn renews(&self, alloc: Global) -> Result<bool, CacheError> {
-        let now = after(10_000_000_000)?;
-        Ok(renews(&self.update_at(alloc, 3)?, now))
-    }
-
-    fn replaces(&self, alloc: Global) -> Result<bool, CacheError> {
-        let now = after(20_000_000_000)?;
-        Ok(replaces(&self.update_at(alloc, 5)?, now))
     }
 
     fn is_next(&self, alloc: Global) -> Result<bool, CacheError> {

@@ -1,16 +1,13 @@
 //! Calls that take no memory.
 use crate::case::{Case, after, choice_at, form, variants};
 use cache_script::{Script, Step};
-use http_cache_semantics::directives::{
-    CacheControl, GetHeaderStr, get_all_comma, parse_cache_control,
-};
+use http_cache_semantics::directives::{CacheControl, GetHeaderStr, get_all_comma};
 use http_cache_semantics::explain::{LifetimeSource, Permission, Storability};
 use http_cache_semantics::forwarding::print_date;
 use http_cache_semantics::policy::Fraction;
 use http_cache_semantics::stored::{moment_from_value, options_from_value};
 use http_cache_semantics::{
-    BeforeRequest, CacheError, CacheOptions, CachePolicy, Choice, RequestLike, ResponseLike,
-    Variants,
+    CacheError, CacheOptions, CachePolicy, Choice, RequestLike, ResponseLike, Variants,
 };
 use jiff::Timestamp;
 use serde_json::Value;
@@ -103,30 +100,6 @@ pub const LOOKS: [Look; 35] = [
     Look::ChooseNothing,
     Look::PrintDate,
 ];
-
-/// What is looked at.
-#[derive(Drop)]
-pub enum Sight {
-    /// An exchange whose response varies by a name of 200 letters.
-    Exchange(Case),
-    /// An answer to a request that matches.
-    Answer(BeforeRequest),
-    /// The directives of the response.
-    Directives(CacheControl),
-    /// The stored form of the policy.
-    Form(Value),
-    /// Three variants, and an exchange whose requests ask for them.
-    Variants(Variants, Case),
-}
-
-fn directives_in(alloc: Global, case: &Case) -> Result<Sight, CacheError> {
-    let values = case.script().response.headers.get_all("cache-control");
-    Ok(Sight::Directives(parse_cache_control(alloc, values)?))
-}
-
-fn answer_in(alloc: Global, case: &Case) -> Result<Sight, CacheError> {
-    Ok(Sight::Answer(case.answer_at(alloc, 0)?))
-}
 
 // Whether a policy of ten seconds tells what it has to after five and a half.
 fn is_right_of_policy(policy: &CachePolicy, look: Look) -> Result<bool, CacheError> {
@@ -289,33 +262,54 @@ fn is_right_of_form(form: &Value, look: Look) -> bool {
     }
 }
 
-impl Sight {
-    /// What a call looks at.
-    pub fn new(alloc: Global, look: Look) -> Result<Sight, CacheError> {
-        match look {
-            Look::Len | Look::ContainsKey | Look::Get | Look::EntryAt => {
-                directives_in(alloc, &Case::varied(alloc)?)
-            }
-            Look::SatisfiesWithoutRevalidation => answer_in(alloc, &Case::varied(alloc)?),
-            Look::OptionsFromValue | Look::MomentFromValue => Ok(Sight::Form(form(alloc)?)),
-            Look::PolicyAt | Look::Replace | Look::Remove | Look::ChooseNothing => {
-                let variants = variants(alloc)?;
-                Ok(Sight::Variants(variants, Case::varied(alloc)?))
-            }
-            _ => Ok(Sight::Exchange(Case::varied(alloc)?)),
-        }
-    }
+fn name(rt: &HostRuntime, look: Look) {
+    let _ = println!(rt; "{look:?}");
+}
 
-    /// Makes a call, and tells whether its answer is the right one.
-    pub fn is_right(&mut self, alloc: Global, look: Look) -> bool {
-        match self {
-            Sight::Variants(variants, case) => {
-                is_right_of_variants(alloc, variants, case.script(), look)
-            }
-            Sight::Exchange(case) => is_right_of_exchange(alloc, case, look),
-            Sight::Answer(answer) => answer.satisfies_without_revalidation(),
-            Sight::Directives(read) => is_right_of_directives(read, look),
-            Sight::Form(value) => is_right_of_form(value, look),
+fn of_directives(rt: &HostRuntime, look: Look) -> Result<bool, CacheError> {
+    let case = Case::varied(rt.alloc())?;
+    let read = case.directives(rt.alloc())?;
+    name(rt, look);
+    Ok(is_right_of_directives(&read, look))
+}
+
+fn of_answer(rt: &HostRuntime, look: Look) -> Result<bool, CacheError> {
+    let case = Case::varied(rt.alloc())?;
+    let answer = case.answer_at(rt.alloc(), 0)?;
+    name(rt, look);
+    Ok(answer.satisfies_without_revalidation())
+}
+
+fn of_form(rt: &HostRuntime, look: Look) -> Result<bool, CacheError> {
+    let form = form(rt.alloc())?;
+    name(rt, look);
+    Ok(is_right_of_form(&form, look))
+}
+
+fn of_variants(rt: &HostRuntime, look: Look) -> Result<bool, CacheError> {
+    let mut variants = variants(rt.alloc())?;
+    let case = Case::varied(rt.alloc())?;
+    name(rt, look);
+    Ok(is_right_of_variants(rt.alloc(), &mut variants, case.script(), look))
+}
+
+// Of an exchange whose response varies by a name of 200 letters.
+fn of_exchange(rt: &HostRuntime, look: Look) -> Result<bool, CacheError> {
+    let case = Case::varied(rt.alloc())?;
+    name(rt, look);
+    Ok(is_right_of_exchange(rt.alloc(), &case, look))
+}
+
+/// Makes what a call looks at, names the call, makes it, and tells whether its answer is the right
+/// one. `Err` comes only where there was no call.
+pub fn is_right(rt: &HostRuntime, look: Look) -> Result<bool, CacheError> {
+    match look {
+        Look::Len | Look::ContainsKey | Look::Get | Look::EntryAt => of_directives(rt, look),
+        Look::SatisfiesWithoutRevalidation => of_answer(rt, look),
+        Look::OptionsFromValue | Look::MomentFromValue => of_form(rt, look),
+        Look::PolicyAt | Look::Replace | Look::Remove | Look::ChooseNothing => {
+            of_variants(rt, look)
         }
+        _ => of_exchange(rt, look),
     }
 }

@@ -13,7 +13,7 @@ mod look;
 use call::{CALLS, Call};
 use case::Case;
 use http_cache_semantics::CacheError;
-use look::{LOOKS, Look, Sight};
+use look::{LOOKS, Look};
 use std::alloc::Global;
 use std::process::ExitCode;
 use std::{env, io};
@@ -51,8 +51,10 @@ fn again(alloc: Global, case: &Case, call: Call, e: CacheError) -> End {
     }
 }
 
-// What is told of a refusal ends it, where all requests up to a write are refused.
+// The call is named, and made. What is told of a refusal ends it, where all requests up to a write
+// are refused.
 fn made(rt: &HostRuntime, case: &Case, call: Call) -> End {
+    let _ = println!(rt; "{call:?}");
     match case.is_right(rt.alloc(), call) {
         Ok(true) => End::Answered,
         Ok(false) => End::Wrong,
@@ -63,29 +65,18 @@ fn made(rt: &HostRuntime, case: &Case, call: Call) -> End {
     }
 }
 
-// The exchange is made, the call named, and made.
 fn end_of(rt: &HostRuntime, call: Call) -> End {
     match Case::new(rt.alloc(), call) {
-        Ok(case) => {
-            let _ = println!(rt; "{call:?}");
-            made(rt, &case, call)
-        }
+        Ok(case) => made(rt, &case, call),
         Err(CacheError::Memory) => End::Unmade,
         Err(_) => End::Wrong,
     }
 }
 
-// What is looked at is made, the call named, and made.
 fn end_of_look(rt: &HostRuntime, look: Look) -> End {
-    match Sight::new(rt.alloc(), look) {
-        Ok(mut sight) => {
-            let _ = println!(rt; "{look:?}");
-            if sight.is_right(rt.alloc(), look) {
-                End::Answered
-            } else {
-                End::Wrong
-            }
-        }
+    match look::is_right(rt, look) {
+        Ok(true) => End::Answered,
+        Ok(false) => End::Wrong,
         Err(CacheError::Memory) => End::Unmade,
         Err(_) => End::Wrong,
     }

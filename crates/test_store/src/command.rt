@@ -21,26 +21,38 @@ fn moment_in(line: &str) -> anyhow::Result<Timestamp> {
     Ok(Timestamp::from_second(field(line, 1)?.parse::<i64>()?)?)
 }
 
-// The policy whose stored form stands at a place.
-fn policy_in(alloc: Global, line: &str, place: usize) -> anyhow::Result<CachePolicy> {
-    Ok(policy_of(alloc, field(line, place)?)?)
+// Inserts the policy of a stored form.
+fn insert_form<S: Alter>(
+    alloc: Global,
+    store: &mut Store<S>,
+    form: &str,
+    body: &str,
+) -> anyhow::Result<i64> {
+    let policy = policy_of(alloc, form)?;
+    Ok(store.insert(&policy, body.as_bytes())?)
 }
 
 fn insert<S: Alter>(alloc: Global, store: &mut Store<S>, line: &str) -> anyhow::Result<String> {
-    let body = field(line, 2)?.as_bytes();
-    let id = store.insert(&policy_in(alloc, line, 1)?, body)?;
+    let id = insert_form(alloc, store, field(line, 1)?, field(line, 2)?)?;
     Ok(format!(in alloc; "inserted {id}")?)
 }
 
+fn response_line(
+    alloc: Global,
+    id: i64,
+    policy: &CachePolicy,
+    body: &[u8],
+) -> anyhow::Result<String> {
+    let body = std::str::from_utf8(body)?;
+    let text = text_of(alloc, policy)?;
+    Ok(format!(in alloc; "response {id} {text} {body}\n")?)
+}
+
 fn line_of(alloc: Global, found: &Found) -> anyhow::Result<String> {
-    Ok(match found {
-        Found::Response { id, policy, body } => {
-            let text = text_of(alloc, policy)?;
-            let body = std::str::from_utf8(body.as_slice())?;
-            format!(in alloc; "response {id} {text} {body}\n")?
-        }
-        Found::Malformed { id } => format!(in alloc; "malformed {id}\n")?,
-    })
+    match found {
+        Found::Response { id, policy, body } => response_line(alloc, *id, policy, body.as_slice()),
+        Found::Malformed { id } => Ok(format!(in alloc; "malformed {id}\n")?),
+    }
 }
 
 fn lines_of(alloc: Global, found: &[Found]) -> anyhow::Result<String> {
@@ -52,21 +64,53 @@ fn lines_of(alloc: Global, found: &[Found]) -> anyhow::Result<String> {
     Ok(lines)
 }
 
-fn look<S: Alter>(alloc: Global, store: &mut Store<S>, line: &str) -> anyhow::Result<String> {
-    let method = Method::from_bytes(alloc, field(line, 1)?.as_bytes())?;
-    let target = Uri::from_str(alloc, field(line, 2)?)?;
-    let found = store.look_up(&target, &method)?;
+// What is found, a line each.
+fn look_up<S: Alter>(
+    alloc: Global,
+    store: &mut Store<S>,
+    target: &Uri,
+    method: &Method,
+) -> anyhow::Result<String> {
+    let found = store.look_up(target, method)?;
     lines_of(alloc, found.as_slice())
 }
 
+fn look<S: Alter>(alloc: Global, store: &mut Store<S>, line: &str) -> anyhow::Result<String> {
+    let (method, target) = (field(line, 1)?, field(line, 2)?);
+    let method = Method::from_bytes(alloc, method.as_bytes())?;
+    let target = Uri::from_str(alloc, target)?;
+    look_up(alloc, store, &target, &method)
+}
+
+fn renew_form<S: Alter>(
+    alloc: Global,
+    store: &mut Store<S>,
+    id: i64,
+    form: &str,
+) -> anyhow::Result<bool> {
+    let policy = policy_of(alloc, form)?;
+    Ok(store.renew(id, &policy)?)
+}
+
+fn replace_form<S: Alter>(
+    alloc: Global,
+    store: &mut Store<S>,
+    id: i64,
+    form: &str,
+    body: &str,
+) -> anyhow::Result<bool> {
+    let policy = policy_of(alloc, form)?;
+    Ok(store.replace(id, &policy, body.as_bytes())?)
+}
+
 fn renew<S: Alter>(alloc: Global, store: &mut Store<S>, line: &str) -> anyhow::Result<String> {
-    let there = store.renew(id_in(line)?, &policy_in(alloc, line, 2)?)?;
+    let there = renew_form(alloc, store, id_in(line)?, field(line, 2)?)?;
     Ok(format!(in alloc; "renewed {there}")?)
 }
 
 fn replace<S: Alter>(alloc: Global, store: &mut Store<S>, line: &str) -> anyhow::Result<String> {
-    let body = field(line, 3)?.as_bytes();
-    let there = store.replace(id_in(line)?, &policy_in(alloc, line, 2)?, body)?;
+    let (form, body) = (field(line, 2)?, field(line, 3)?);
+    let there = replace_form(alloc, store, id_in(line)?, form, body)?;
     Ok(format!(in alloc; "replaced {there}")?)
 }
 

@@ -1,7 +1,7 @@
 //! Chains of caches.
 use http::{request, response};
 use http_cache_semantics::chain::chain;
-use http_cache_semantics::{CacheOptions, CachePolicy};
+use http_cache_semantics::{CacheError, CacheOptions, CachePolicy};
 use jiff::Timestamp;
 use std::alloc::Global;
 use std::fmt::Write;
@@ -54,6 +54,10 @@ fn moments(alloc: Global, text: &str) -> Result<Vec<Timestamp>, Fail> {
     Ok(moments)
 }
 
+fn form_of(alloc: Global, policy: &CachePolicy) -> Result<String, CacheError> {
+    Ok(policy.to_value(alloc)?.to_string(alloc)?)
+}
+
 // A line of a policy: whether it may be stored, its age and what is left of its lifetime, and its
 // stored form.
 fn add_policy(
@@ -61,41 +65,61 @@ fn add_policy(
     text: &mut String,
     policy: &CachePolicy,
     now: Timestamp,
-) -> Result<(), Fail> {
+) -> Result<(), CacheError> {
     let storable = policy.is_storable();
     let age = policy.age(now).as_nanos();
     let left = policy.time_to_live(now).as_nanos();
-    let form = policy.to_value(alloc)?.to_string(alloc)?;
-    writeln!(text, "{storable} {age} {left}; {form}")?;
+    let form = form_of(alloc, policy)?;
+    Ok(writeln!(text, "{storable} {age} {left}; {form}")?)
+}
+
+fn add_policies(
+    alloc: Global,
+    text: &mut String,
+    policies: &[CachePolicy],
+    now: Timestamp,
+) -> Result<(), CacheError> {
+    for policy in policies {
+        add_policy(alloc, text, policy, now)?;
+    }
     Ok(())
 }
 
+// The policies of a chain at a moment, a line each, or why it is refused.
 fn told_of(
     alloc: Global,
-    req: &request::Parts,
-    res: &response::Parts,
+    text: &mut String,
+    exchange: (&request::Parts, &response::Parts),
     moments: &[Timestamp],
     now: Timestamp,
-) -> Result<String, Fail> {
-    let mut text = String::new(alloc);
+) -> Result<(), Fail> {
+    let (req, res) = exchange;
     match chain(alloc, req, res, CacheOptions::default(), after(0)?, moments) {
-        Ok(policies) => {
-            for policy in policies.as_slice() {
-                add_policy(alloc, &mut text, policy, now)?;
-            }
-        }
-        Err(e) => write!(text, "{e}")?,
+        Ok(policies) => Ok(add_policies(alloc, text, &policies, now)?),
+        Err(e) => Ok(write!(text, "{e}")?),
     }
-    Ok(text)
 }
 
-// The policies of a chain at a moment, a line each, or why it is refused.
-fn told(alloc: Global, lines: &str, asked: &str, nanos: &str, now: &str) -> Result<String, Fail> {
+// The same, where the exchange is told by its headers.
+fn add_told(
+    alloc: Global,
+    text: &mut String,
+    headers: (&str, &str),
+    moments: &[Timestamp],
+    now: Timestamp,
+) -> Result<(), Fail> {
+    let (lines, asked) = headers;
     let asking = request(alloc, "GET", asked)?;
     let answer = response(alloc, "200", lines)?;
-    let moments = moments(alloc, nanos)?;
+    told_of(alloc, text, (&asking, &answer), moments, now)
+}
+
+fn told(alloc: Global, lines: &str, asked: &str, nanos: &str, now: &str) -> Result<String, Fail> {
     let now = after(now.parse::<i64>()?)?;
-    told_of(alloc, &asking, &answer, &moments, now)
+    let moments = moments(alloc, nanos)?;
+    let mut text = String::new(alloc);
+    add_told(alloc, &mut text, (lines, asked), &moments, now)?;
+    Ok(text)
 }
 
 fn holds(rt: &impl Abort, alloc: Global, case: &str) -> Result<(), Fail> {

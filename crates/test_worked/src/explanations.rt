@@ -1,8 +1,8 @@
 //! Why a stored response isn't used, why it may be stored or not, and what its lifetime goes by.
-use http::{Uri, request};
+use http::{Uri, request, response};
 use http_cache_semantics::explain::Explanation;
 use http_cache_semantics::{CacheOptions, CachePolicy};
-use std::alloc::Global;
+use std::alloc::{AllocError, Global};
 use std::process::Abort;
 use std::test::Fail;
 use test_cases::fixtures::{after, field, request, response};
@@ -90,6 +90,19 @@ fn stored() -> &'static str {
          not storable: no-store of the request, method, status, no-store, private, Authorization|not storable"
 }
 
+fn policy_of(
+    alloc: Global,
+    request: &request::Parts,
+    response: &response::Parts,
+    shared: bool,
+) -> Result<CachePolicy, Fail> {
+    let opts = CacheOptions {
+        shared,
+        ..CacheOptions::default()
+    };
+    Ok(CachePolicy::new_options(alloc, request, response, after(0)?, opts)?)
+}
+
 // The policy of an exchange at the start.
 fn policy(
     alloc: Global,
@@ -101,11 +114,7 @@ fn policy(
 ) -> Result<CachePolicy, Fail> {
     let request = request(alloc, method, asked)?;
     let response = response(alloc, status, told)?;
-    let opts = CacheOptions {
-        shared,
-        ..CacheOptions::default()
-    };
-    Ok(CachePolicy::new_options(alloc, &request, &response, after(0)?, opts)?)
+    policy_of(alloc, &request, &response, shared)
 }
 
 fn asking(alloc: Global, method: &str, lines: &str) -> Result<request::Parts, Fail> {
@@ -172,6 +181,18 @@ fn names_of_caches(rt: HostRuntime) -> Result<(), Fail> {
     Ok(())
 }
 
+fn storability_of(alloc: Global, policy: &CachePolicy) -> Result<String, AllocError> {
+    policy.storability().to_string(alloc)
+}
+
+fn freshness_of(alloc: Global, policy: &CachePolicy) -> Result<String, AllocError> {
+    policy.freshness().to_string(alloc)
+}
+
+fn lines_of(alloc: Global, policy: &CachePolicy) -> Result<(String, String), Fail> {
+    Ok((storability_of(alloc, policy)?, freshness_of(alloc, policy)?))
+}
+
 fn lines_of_stored(alloc: Global, case: &str) -> Result<(String, String), Fail> {
     let policy = policy(
         alloc,
@@ -181,10 +202,7 @@ fn lines_of_stored(alloc: Global, case: &str) -> Result<(String, String), Fail> 
         field(case, 3)?,
         field(case, 4)? != "own",
     )?;
-    Ok((
-        policy.storability().to_string(alloc)?,
-        policy.freshness().to_string(alloc)?,
-    ))
+    lines_of(alloc, &policy)
 }
 
 fn is_stored(rt: &impl Abort, alloc: Global, case: &str) -> Result<(), Fail> {

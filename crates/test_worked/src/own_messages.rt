@@ -1,9 +1,10 @@
 //! Requests and responses of one's own.
-use http::{HeaderMap, Method, StatusCode, Uri, request};
+use http::{HeaderMap, Method, StatusCode, Uri, request, response};
 use http_cache_semantics::chain::chain;
 use http_cache_semantics::{
     BeforeRequest, CacheError, CacheOptions, CachePolicy, RequestLike, ResponseLike,
 };
+use jiff::Timestamp;
 use std::alloc::Global;
 use std::cell::Cell;
 use std::process::Abort;
@@ -91,26 +92,42 @@ fn told(answer: &BeforeRequest) -> (bool, bool) {
     }
 }
 
+fn told_by(
+    alloc: Global,
+    policy: &CachePolicy,
+    request: &Own,
+    now: Timestamp,
+) -> Result<(bool, bool), CacheError> {
+    Ok(told(&policy.before_request(alloc, request, now)?))
+}
+
 // The same, once it is seen that the calls that take no memory tell it too.
 fn asked(alloc: Global, policy: &CachePolicy, request: &Own) -> Result<(bool, bool), Fail> {
     let now = after(0)?;
+    let told = told_by(alloc, policy, request, now)?;
     let without = (
         policy.fresh_at(request, now),
         policy.matches_request(request),
     );
-    let answer = policy.before_request(alloc, request, now)?;
-    if told(&answer) != without {
+    if told != without {
         return Err("told in two ways")?;
     }
-    Ok(without)
+    Ok(told)
+}
+
+fn asked_for_copies(
+    alloc: Global,
+    policy: &CachePolicy,
+    request: &Own,
+) -> Result<((bool, bool), u32), Fail> {
+    Ok((asked(alloc, policy, request)?, request.copies.get()))
 }
 
 // What is told of a request, which has no copy of its target to give and isn't asked for one.
 fn asks(alloc: Global, lines: &str, takes_all: bool) -> Result<((bool, bool), u32), Fail> {
     let policy = policy(alloc, LINES)?;
     let request = own_request(alloc, lines, takes_all, true)?;
-    let told = asked(alloc, &policy, &request)?;
-    Ok((told, request.copies.get()))
+    asked_for_copies(alloc, &policy, &request)
 }
 
 #[test]
@@ -130,36 +147,53 @@ fn no_copy_of_the_target_of_what_asks(rt: HostRuntime) -> Result<(), Fail> {
 }
 
 // How many caches a chain for the request reaches with one hand-over.
-fn reached(alloc: Global, request: &Own) -> Result<usize, Fail> {
-    let response = response(alloc, "200", LINES)?;
+fn caches(
+    alloc: Global,
+    request: &Own,
+    response: &response::Parts,
+    first: Timestamp,
+    second: Timestamp,
+) -> Result<usize, CacheError> {
     let opts = CacheOptions::default();
-    let moments = [after(1_000_000_000)?];
-    let policies = chain(alloc, request, &response, opts, after(0)?, &moments)?;
+    let policies = chain(alloc, request, response, opts, first, &[second])?;
     Ok(policies.len())
+}
+
+fn reached(alloc: Global, request: &Own) -> Result<usize, Fail> {
+    let (first, second) = (after(0)?, after(1_000_000_000)?);
+    let response = response(alloc, "200", LINES)?;
+    Ok(caches(alloc, request, &response, first, second)?)
+}
+
+fn reaches(alloc: Global, takes_all: bool) -> Result<usize, Fail> {
+    let request = own_request(alloc, "", takes_all, false)?;
+    reached(alloc, &request)
 }
 
 #[test]
 fn a_chain_ends_where_no_target_matches(rt: HostRuntime) -> Result<(), Fail> {
-    let none = own_request(rt.alloc(), "", false, false)?;
-    assert_eq!(rt; reached(rt.alloc(), &none)?, 1);
-    let all = own_request(rt.alloc(), "", true, false)?;
-    assert_eq!(rt; reached(rt.alloc(), &all)?, 2);
+    assert_eq!(rt; reaches(rt.alloc(), false)?, 1);
+    assert_eq!(rt; reaches(rt.alloc(), true)?, 2);
     Ok(())
 }
 
-fn stored(alloc: Global, request: &Own) -> Result<Result<CachePolicy, CacheError>, Fail> {
+// Why no policy is made, if that is so.
+fn stored(alloc: Global, request: &Own, now: Timestamp) -> Option<CacheError> {
     let response = Bare {
         status: StatusCode::OK,
         headers: HeaderMap::new(alloc),
     };
-    Ok(CachePolicy::new(alloc, request, &response, after(0)?))
+    match CachePolicy::new(alloc, request, &response, now) {
+        Ok(_) => None,
+        Err(e) => Some(e),
+    }
 }
 
-// Why no policy is made, and how often one asks for a copy of the target.
+// The same, and how often one asks for a copy of the target.
 fn stores(alloc: Global, is_tight: bool) -> Result<(Option<CacheError>, u32), Fail> {
+    let now = after(0)?;
     let request = own_request(alloc, "", true, is_tight)?;
-    let error = stored(alloc, &request)?.err();
-    Ok((error, request.copies.get()))
+    Ok((stored(alloc, &request, now), request.copies.get()))
 }
 
 #[test]
@@ -169,14 +203,25 @@ fn one_copy_of_the_target_of_what_is_stored(rt: HostRuntime) -> Result<(), Fail>
     Ok(())
 }
 
+fn refusal(
+    alloc: Global,
+    policy: &CachePolicy,
+    request: &Own,
+    response: &response::Parts,
+    now: Timestamp,
+) -> Option<CacheError> {
+    match policy.after_response(alloc, request, response, now) {
+        Ok(_) => None,
+        Err(e) => Some(e),
+    }
+}
+
+// Why a policy isn't renewed for a request that has no copy of its target to give.
 fn renewed(alloc: Global, request: &Own) -> Result<Option<CacheError>, Fail> {
+    let now = after(0)?;
     let policy = policy(alloc, LINES)?;
     let response = response(alloc, "200", LINES)?;
-    Ok(
-        policy
-            .after_response(alloc, request, &response, after(0)?)
-            .err(),
-    )
+    Ok(refusal(alloc, &policy, request, &response, now))
 }
 
 #[test]

@@ -99,30 +99,48 @@ fn taken(variants: &mut Variants, place: usize) -> Result<u64, Fail> {
     }
 }
 
+fn choice_for(
+    alloc: Global,
+    variants: &Variants,
+    lines: &str,
+    seconds: &str,
+) -> Result<String, Fail> {
+    let asking = request(alloc, "GET", lines)?;
+    asked(alloc, variants, &asking, seconds)
+}
+
+fn asks(rt: &impl Abort, alloc: Global, variants: &Variants, step: &str) -> Result<(), Fail> {
+    let told = choice_for(alloc, variants, field(step, 1)?, field(step, 2)?)?;
+    assert_eq!(rt; told.as_str(), field(step, 3)?, "at {step}");
+    Ok(())
+}
+
+fn removes(rt: &impl Abort, variants: &mut Variants, step: &str) -> Result<(), Fail> {
+    let left = taken(variants, field(step, 1)?.parse::<usize>()?)?;
+    assert_eq!(rt; left, field(step, 2)?.parse::<u64>()?, "at {step}");
+    Ok(())
+}
+
+fn has_as_many(rt: &impl Abort, variants: &Variants, step: &str) -> Result<(), Fail> {
+    let len = field(step, 3)?.parse::<usize>()?;
+    assert_eq!(rt; variants.len(), len, "at {step}");
+    assert_eq!(rt; variants.is_empty(), len == 0, "at {step}");
+    assert_eq!(rt; variants.policy_at(len).is_none(), true, "at {step}");
+    Ok(())
+}
+
 fn take_step(
     rt: &impl Abort,
     alloc: Global,
     variants: &mut Variants,
     step: &str,
 ) -> Result<(), Fail> {
-    let (first, second, wanted) = (field(step, 1)?, field(step, 2)?, field(step, 3)?);
-    if step.trim_start().starts_with("ask") {
-        let asking = request(alloc, "GET", first)?;
-        let told = asked(alloc, variants, &asking, second)?;
-        assert_eq!(rt; told.as_str(), wanted, "at {step}");
-        return Ok(());
+    match field(step, 0)?.trim() {
+        "ask" => return asks(rt, alloc, variants, step),
+        "add" => put(variants, policy(alloc, field(step, 1)?, field(step, 2)?)?)?,
+        _ => removes(rt, variants, step)?,
     }
-    if step.trim_start().starts_with("add") {
-        put(variants, policy(alloc, first, second)?)?;
-    } else {
-        let left = taken(variants, first.parse::<usize>()?)?;
-        assert_eq!(rt; left, second.parse::<u64>()?, "at {step}");
-    }
-    let len = wanted.parse::<usize>()?;
-    assert_eq!(rt; variants.len(), len, "at {step}");
-    assert_eq!(rt; variants.is_empty(), len == 0, "at {step}");
-    assert_eq!(rt; variants.policy_at(len).is_none(), true, "at {step}");
-    Ok(())
+    has_as_many(rt, variants, step)
 }
 
 #[test]
