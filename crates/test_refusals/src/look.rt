@@ -266,15 +266,13 @@ fn name(rt: &HostRuntime, look: Look) {
     let _ = println!(rt; "{look:?}");
 }
 
-fn of_directives(rt: &HostRuntime, look: Look) -> Result<bool, CacheError> {
-    let case = Case::varied(rt.alloc())?;
+fn in_directives(rt: &HostRuntime, case: &Case, look: Look) -> Result<bool, CacheError> {
     let read = case.directives(rt.alloc())?;
     name(rt, look);
     Ok(is_right_of_directives(&read, look))
 }
 
-fn of_answer(rt: &HostRuntime, look: Look) -> Result<bool, CacheError> {
-    let case = Case::varied(rt.alloc())?;
+fn in_answer(rt: &HostRuntime, case: &Case, look: Look) -> Result<bool, CacheError> {
     let answer = case.answer_at(rt.alloc(), 0)?;
     name(rt, look);
     Ok(answer.satisfies_without_revalidation())
@@ -286,30 +284,39 @@ fn of_form(rt: &HostRuntime, look: Look) -> Result<bool, CacheError> {
     Ok(is_right_of_form(&form, look))
 }
 
-fn of_variants(rt: &HostRuntime, look: Look) -> Result<bool, CacheError> {
+fn in_variants(rt: &HostRuntime, case: &Case, look: Look) -> Result<bool, CacheError> {
     let mut variants = variants(rt.alloc())?;
-    let case = Case::varied(rt.alloc())?;
     name(rt, look);
     Ok(is_right_of_variants(rt.alloc(), &mut variants, case.script(), look))
 }
 
-// Of an exchange whose response varies by a name of 200 letters.
-fn of_exchange(rt: &HostRuntime, look: Look) -> Result<bool, CacheError> {
-    let case = Case::varied(rt.alloc())?;
+fn in_exchange(rt: &HostRuntime, case: &Case, look: Look) -> bool {
     name(rt, look);
-    Ok(is_right_of_exchange(rt.alloc(), &case, look))
+    is_right_of_exchange(rt.alloc(), case, look)
+}
+
+fn in_case(rt: &HostRuntime, case: &Case, look: Look) -> Result<bool, CacheError> {
+    match look {
+        Look::Len | Look::ContainsKey | Look::Get | Look::EntryAt => in_directives(rt, case, look),
+        Look::SatisfiesWithoutRevalidation => in_answer(rt, case, look),
+        Look::PolicyAt | Look::Replace | Look::Remove | Look::ChooseNothing => {
+            in_variants(rt, case, look)
+        }
+        _ => Ok(in_exchange(rt, case, look)),
+    }
+}
+
+// Of an exchange whose response varies by a name of 200 letters.
+fn of_case(rt: &HostRuntime, look: Look) -> Result<bool, CacheError> {
+    let case = Case::varied(rt.alloc())?;
+    in_case(rt, &case, look)
 }
 
 /// Makes what a call looks at, names the call, makes it, and tells whether its answer is the right
 /// one. `Err` comes only where there was no call.
 pub fn is_right(rt: &HostRuntime, look: Look) -> Result<bool, CacheError> {
     match look {
-        Look::Len | Look::ContainsKey | Look::Get | Look::EntryAt => of_directives(rt, look),
-        Look::SatisfiesWithoutRevalidation => of_answer(rt, look),
         Look::OptionsFromValue | Look::MomentFromValue => of_form(rt, look),
-        Look::PolicyAt | Look::Replace | Look::Remove | Look::ChooseNothing => {
-            of_variants(rt, look)
-        }
-        _ => of_exchange(rt, look),
+        _ => of_case(rt, look),
     }
 }
