@@ -38,12 +38,14 @@ pub enum Call {
     ChooseValidated,
     /// The headers of the response, as a proxy passes them on.
     Forward,
+    /// `append`, to headers that hold nothing.
+    Append,
     /// `cache_status`, with a name and a detail that are strings.
     CacheStatus,
 }
 
 /// Each call once.
-pub const CALLS: [Call; 23] = [
+pub const CALLS: [Call; 24] = [
     Call::New,
     Call::NewOptions,
     Call::TryClone,
@@ -66,5 +68,6 @@ pub const CALLS: [Call; 23] = [
     Call::ChooseFresh,
     Call::ChooseValidated,
     Call::Forward,
+    Call::Append,
     Call::CacheStatus,
 ];

@@ -6,9 +6,13 @@ use crate::answers::{
 };
 use crate::call::Call;
 use cache_script::{Script, Step, UnreadScript, script_from_bytes};
+use http::HeaderMap;
+use http::header::{HeaderValue, VIA};
 use http_cache_semantics::chain::{chain, replay};
-use http_cache_semantics::directives::{CacheControl, format_cache_control, parse_cache_control};
-use http_cache_semantics::forwarding::forwarded_headers;
+use http_cache_semantics::directives::{
+    CacheControl, GetHeaderStr, format_cache_control, parse_cache_control,
+};
+use http_cache_semantics::forwarding::{append, forwarded_headers};
 use http_cache_semantics::{
     AfterResponse, BeforeRequest, CacheError, CachePolicy, Choice, Variants,
 };
@@ -205,6 +209,16 @@ fn is_added(variants: &mut Variants, policy: CachePolicy) -> Result<bool, CacheE
     }
 }
 
+// Whether a value is put into headers that hold nothing, which still do so where that is refused.
+fn is_appended(alloc: Global) -> Result<bool, CacheError> {
+    let mut headers = HeaderMap::new(alloc);
+    match append(&mut headers, VIA, HeaderValue::from_static("1.1 a")) {
+        Ok(()) => Ok(headers.get_str("via") == Some("1.1 a")),
+        Err(e) if headers.is_empty() => Err(e),
+        Err(_) => Ok(false),
+    }
+}
+
 /// The moment so many nanoseconds after the response.
 pub(crate) fn after(nanos: i128) -> Result<Timestamp, CacheError> {
     let nanos = 1_704_067_200_000_000_000i128.saturating_add(nanos);
@@ -306,6 +320,7 @@ impl Case {
             Call::Add => self.adds(alloc),
             Call::ChooseFresh | Call::ChooseValidated => self.chooses(alloc, call),
             Call::Forward => self.is_passed_on(alloc),
+            Call::Append => is_appended(alloc),
             Call::CacheStatus => self.explains(alloc),
         }
     }

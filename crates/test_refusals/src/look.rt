@@ -58,12 +58,16 @@ pub enum Look {
     Remove,
     /// `choose`, where none of the variants matches.
     ChooseNothing,
+    FreshPlace,
+    MatchingPlace,
+    /// `explain` of variants, for a request that one answers, and where none matches.
+    ExplainVariants,
     /// From 1900 on, and before.
     PrintDate,
 }
 
 /// Each of these calls once.
-pub const LOOKS: [Look; 35] = [
+pub const LOOKS: [Look; 38] = [
     Look::IsStorable,
     Look::Age,
     Look::TimeToLive,
@@ -98,6 +102,9 @@ pub const LOOKS: [Look; 35] = [
     Look::Replace,
     Look::Remove,
     Look::ChooseNothing,
+    Look::FreshPlace,
+    Look::MatchingPlace,
+    Look::ExplainVariants,
     Look::PrintDate,
 ];
 
@@ -186,6 +193,41 @@ fn is_right_of_remove(variants: &mut Variants) -> bool {
     variants.remove(3).is_none() && variants.remove(1).is_some() && variants.len() == 2
 }
 
+// What is told among variants of the request of a step: which is fresh, which matches, and whether
+// one answers.
+fn told_among(
+    variants: &Variants,
+    script: &Script,
+    place: usize,
+) -> Option<(Option<usize>, Option<usize>, bool)> {
+    match script.steps.get(place) {
+        Some(Step::Ask { request, moment }) => Some((
+            variants.fresh_place(request, *moment),
+            variants.matching_place(request),
+            variants.explain(request, *moment).reason.is_none(),
+        )),
+        _ => None,
+    }
+}
+
+// The newest of three matches and is stale; the oldest is fresh. A HEAD has none.
+fn is_right_among(variants: &Variants, script: &Script, look: Look) -> bool {
+    match (
+        told_among(variants, script, 0),
+        told_among(variants, script, 7),
+        look,
+    ) {
+        (Some(of_get), Some(of_head), Look::FreshPlace) => {
+            of_get.0 == Some(2) && of_head.0.is_none()
+        }
+        (Some(of_get), Some(of_head), Look::MatchingPlace) => {
+            of_get.1 == Some(0) && of_head.1.is_none()
+        }
+        (Some(of_get), Some(of_head), _) => of_get.2 && !of_head.2,
+        _ => false,
+    }
+}
+
 fn is_right_of_variants(
     alloc: Global,
     variants: &mut Variants,
@@ -196,7 +238,8 @@ fn is_right_of_variants(
         Look::Replace => is_right_of_replace(variants),
         Look::Remove => is_right_of_remove(variants),
         Look::PolicyAt => variants.policy_at(2).is_some() && variants.policy_at(3).is_none(),
-        _ => matches!(choice_at(alloc, variants, script, 7), Ok(Choice::Nothing)),
+        Look::ChooseNothing => matches!(choice_at(alloc, variants, script, 7), Ok(Choice::Nothing)),
+        _ => is_right_among(variants, script, look),
     }
 }
 
@@ -299,9 +342,13 @@ fn in_case(rt: &HostRuntime, case: &Case, look: Look) -> Result<bool, CacheError
     match look {
         Look::Len | Look::ContainsKey | Look::Get | Look::EntryAt => in_directives(rt, case, look),
         Look::SatisfiesWithoutRevalidation => in_answer(rt, case, look),
-        Look::PolicyAt | Look::Replace | Look::Remove | Look::ChooseNothing => {
-            in_variants(rt, case, look)
-        }
+        Look::PolicyAt
+        | Look::Replace
+        | Look::Remove
+        | Look::ChooseNothing
+        | Look::FreshPlace
+        | Look::MatchingPlace
+        | Look::ExplainVariants => { in_variants(rt, case, look) }
         _ => Ok(in_exchange(rt, case, look)),
     }
 }
