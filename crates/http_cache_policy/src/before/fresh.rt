@@ -1,24 +1,50 @@
 //! The headers of a fresh answer.
-ghost use Rattle.std.specs.Prelude.{◌≡◌, ◌≢◌, ◌⊎◌, ℤ, IfOk, IfErr, IsErrOf};
+ghost use Rattle.std.specs.Prelude.{◌≡◌, ◌≢◌, ◌⊎◌, ℤ, decimal, IfOk, IfErr, IsErrOf};
 ghost use Rattle.std.specs.Duration.{as_nanos};
+ghost use Rattle.http_header.specs.FieldValue.{IsFieldValue, plain_value};
 ghost use Rattle.http_cache_fields.specs.Headers.{headers_of};
 ghost use Rattle.http_cache_policy.specs.Age.{age_at};
 ghost use Rattle.http_cache_policy.specs.Fresh.{is_guessed_past_a_day, warned_headers, RefusesWarning, IsFreshParts};
 ghost use Rattle.http_cache_policy.specs.Fresh.{RefusesFreshHeaders, HasNoDate};
 
 use crate::policy::CachePolicy;
+use bytes::Bytes;
 use http::header::{AGE, DATE, HeaderValue, WARNING};
 use http::{HeaderMap, Version, response};
 use http_cache_fields::CacheError;
-use http_cache_fields::headers::{append, insert, value_of};
+use http_cache_fields::headers::{append, insert};
 use http_cache_rules::dates::print_date;
 use http_cache_rules::filter::filter;
+use itoa::Buffer;
 use jiff::Timestamp;
-use std::alloc::Global;
+use std::alloc::{AllocError, Global};
 use std::time::Duration;
 
 // 24 hours, in nanoseconds.
 const DAY: u128 = 86_400_000_000_000;
+
+// An age in seconds and a date as values, in one block of memory.
+fn age_and_date(
+    alloc: Global,
+    seconds: u64,
+    date: &[u8; 31],
+) -> Result<(HeaderValue, HeaderValue), AllocError>
+    requires { IsFieldValue date.now }
+    ensures age { IfOk result (λ both. both.0 ≡ plain_value (decimal seconds)) }
+    ensures date { IfOk result (λ both. both.1 ≡ plain_value date.now) }
+{
+    let mut digits = Buffer::new();
+    let age = digits.format(seconds).as_bytes();
+    let mut both = Vec::with_capacity(alloc, age.len() + date.len())?;
+    both.extend_from_slice(age)?;
+    both.extend_from_slice(date)?;
+    let mut date = Bytes::from_vec(both)?;
+    let age = date.split_to(age.len())?;
+    Ok((
+        HeaderValue::from_known_valid(age),
+        HeaderValue::from_known_valid(date),
+    ))
+}
 
 impl CachePolicy {
     // Whether the response, of the age, is more than a day old and still fresh by a guess
@@ -71,12 +97,17 @@ impl CachePolicy {
         ensures no_other { result ≢ Err CacheError.Malformed }
     {
         let mut headers = self.warned_headers(alloc, age)?;
-        let age = HeaderValue::from_u64(alloc, age.as_secs())?;
-        insert(&mut headers, AGE, age)?;
         let Some(date) = print_date(now) else {
+            // The age comes first, and may have no room.
+            insert(
+                &mut headers,
+                AGE,
+                HeaderValue::from_u64(alloc, age.as_secs())?,
+            )?;
             return Err(CacheError::DateNotPrintable);
         };
-        let date = value_of(Vec::from_slice(alloc, &date)?)?;
+        let (age, date) = age_and_date(alloc, age.as_secs(), &date)?;
+        insert(&mut headers, AGE, age)?;
         insert(&mut headers, DATE, date)?;
         Ok(response::Parts {
             status: self.stored_status(),
