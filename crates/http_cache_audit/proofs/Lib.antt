@@ -2,8 +2,5 @@
 pub mod JsonLineLemmas
 pub mod LineLemmas
 pub mod ReadLemmas
-pub mod SessionLemmas
-pub mod ShelfLemmas
 pub mod SummaryLemmas
 pub mod TellLemmas
-pub mod WalkLemmas

@@ -1,8 +1,8 @@
 -- The lines of an audit, from a place on.
 use Rattle.std.proofs.Common.{◌≤◌, ℕ, zero, suc, min, List, [], ◌∷◌, Bool, drop, length, arith, refl}
 use Rattle.http_cache_recording.specs.Entry.{RecordedSeen}
-use Rattle.http_cache_audit.specs.declared.walk.Walked.{Walked}
-use Rattle.http_cache_audit.specs.Walk.{VerdictSeen}
+use Rattle.http_cache_walk.specs.declared.walk.Walked.{Walked}
+use Rattle.http_cache_walk.specs.Walk.{VerdictSeen}
 use Rattle.http_cache_audit.specs.Lines.{AreEntryLines}
 
 -- where no verdict is left nothing is told

@@ -3,7 +3,7 @@ use Rattle.std.proofs.Common.{arith, ◌≡◌, ◌≤◌, ◌∙◌, ℕ, ◌+�
 use Rattle.std.specs.Prelude.{sum_by}
 use Rattle.std.proofs.lemmas.List.{take_all}
 use Rattle.std.proofs.lemmas.List.Sums.{sum_by_push}
-use Rattle.http_cache_audit.proofs.WalkLemmas.{take-at}
+use Rattle.http_cache_walk.proofs.WalkLemmas.{take-at}
 
 -- one more of the list
 pub sum-next : {X : Type 0} (f : X → ℕ) (xs : List X) (k : ℕ) (x : X) → slice_get xs k ≡ Some x

@@ -6,11 +6,11 @@ use Rattle.serde_json.specs.View.{items_of}
 use Rattle.http_cache_semantics.specs.Freshness.{Sourced}
 use Rattle.http_cache_semantics.specs.Reason.{ReasonSeen, ExplanationSeen, is_mismatch}
 use Rattle.http_cache_recording.specs.Entry.{ToldSeen, SkipSeen}
-use Rattle.http_cache_audit.specs.declared.asked.Validator.{Validator}
-use Rattle.http_cache_audit.specs.declared.walk.Walked.{Walked}
-use Rattle.http_cache_audit.specs.Heard.{HeardSeen, KeptSeen, unasked, failed, browser, stored, seeded, updated}
-use Rattle.http_cache_audit.specs.Heard.{updated_other, not_storable, not_selected, nothing_stored}
-use Rattle.http_cache_audit.specs.Walk.{VerdictSeen}
+use Rattle.http_cache_walk.specs.declared.asked.Validator.{Validator}
+use Rattle.http_cache_walk.specs.declared.walk.Walked.{Walked}
+use Rattle.http_cache_walk.specs.Heard.{HeardSeen, KeptSeen, unasked, failed, browser, stored, seeded, updated}
+use Rattle.http_cache_walk.specs.Heard.{updated_other, not_storable, not_selected, nothing_stored}
+use Rattle.http_cache_walk.specs.Walk.{VerdictSeen}
 use Rattle.http_cache_audit.specs.Words.{whole_seconds, verdict_word, heard_word, source_word, skip_words}
 use Rattle.http_cache_audit.specs.Words.{why_words, reasons, kept_in, is_miss, validator_word}
 

@@ -4,9 +4,9 @@ use Rattle.std.specs.Prelude.{slice_get}
 use Rattle.serde_json.specs.Written.{compact_text}
 use Rattle.http_cache_semantics.specs.Options.{Options}
 use Rattle.http_cache_recording.specs.Entry.{RecordedSeen, ToldSeen, SkipSeen, ReadingSeen, entry, skipped}
-use Rattle.http_cache_audit.specs.declared.walk.Walked.{Walked}
-use Rattle.http_cache_audit.specs.Walk.{walked_seen, VerdictSeen, verdicts}
-use Rattle.http_cache_audit.specs.Session.{IsSession, session_seen}
+use Rattle.http_cache_walk.specs.declared.walk.Walked.{Walked}
+use Rattle.http_cache_walk.specs.Walk.{walked_seen, VerdictSeen, verdicts}
+use Rattle.http_cache_walk.specs.Session.{IsSession, session_seen}
 use Rattle.http_cache_audit.specs.Words.{verdict_word}
 use Rattle.http_cache_audit.specs.Lint.{hints_of}
 use Rattle.http_cache_audit.specs.JsonLine.{json_of, json_of_skip, assumed_names}

@@ -12,8 +12,8 @@ use Rattle.http_cache_recording.specs.Entry.{SkipSeen, ReadingSeen, entry, skipp
 use Rattle.http_cache_recording.specs.Entry.{received, reading_seen, no_request, scheme, no_target, connect}
 use Rattle.http_cache_recording.specs.Entry.{upgrade, service_worker, no_moment, too_many_headers}
 use Rattle.http_cache_recording.specs.declared.entry.Recorded.{Recorded}
-use Rattle.http_cache_audit.specs.declared.walk.Walked.{Walked}
-use Rattle.http_cache_audit.specs.declared.walk.Verdict.{Verdict}
+use Rattle.http_cache_walk.specs.declared.walk.Walked.{Walked}
+use Rattle.http_cache_walk.specs.declared.walk.Verdict.{Verdict}
 use Rattle.http_cache_audit.specs.declared.summary.Mark.{Mark}
 use Rattle.http_cache_audit.specs.declared.summary.Mark.TheVariants as mark
 use Rattle.http_cache_audit.specs.declared.summary.Came.{Came}
@@ -25,9 +25,9 @@ use Rattle.http_cache_audit.specs.declared.summary.SkipKind.TheVariants as kind
 use Rattle.http_cache_audit.specs.declared.summary.NotStorable.{NotStorable}
 use Rattle.http_cache_audit.specs.declared.summary.ZeroLifetimes.{ZeroLifetimes}
 use Rattle.http_cache_audit.specs.declared.summary.Skipped.{Skipped}
-use Rattle.http_cache_audit.specs.Heard.{HeardSeen, KeptSeen, browser, stored, seeded, updated, updated_other}
-use Rattle.http_cache_audit.specs.Heard.{not_storable, not_selected, nothing_stored, failed as nothing_came}
-use Rattle.http_cache_audit.specs.Walk.{VerdictSeen, verdict_seen}
+use Rattle.http_cache_walk.specs.Heard.{HeardSeen, KeptSeen, browser, stored, seeded, updated, updated_other}
+use Rattle.http_cache_walk.specs.Heard.{not_storable, not_selected, nothing_stored, failed as nothing_came}
+use Rattle.http_cache_walk.specs.Walk.{VerdictSeen, verdict_seen}
 
 -- ---- one verdict
 

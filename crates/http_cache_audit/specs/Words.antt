@@ -10,10 +10,10 @@ use Rattle.http_cache_semantics.specs.declared.explain.LifetimeSource.{LifetimeS
 use Rattle.http_cache_semantics.specs.declared.explain.LifetimeSource.TheVariants as source
 use Rattle.http_cache_recording.specs.Entry.{SkipSeen, no_request, scheme, no_target, connect, upgrade}
 use Rattle.http_cache_recording.specs.Entry.{service_worker, no_moment, too_many_headers}
-use Rattle.http_cache_audit.specs.declared.asked.Validator.{Validator}
-use Rattle.http_cache_audit.specs.declared.asked.Validator.TheVariants as by
-use Rattle.http_cache_audit.specs.Heard.{HeardSeen, KeptSeen, unasked, failed, browser, stored, seeded, updated}
-use Rattle.http_cache_audit.specs.Heard.{updated_other, not_storable, not_selected, nothing_stored}
+use Rattle.http_cache_walk.specs.declared.asked.Validator.{Validator}
+use Rattle.http_cache_walk.specs.declared.asked.Validator.TheVariants as by
+use Rattle.http_cache_walk.specs.Heard.{HeardSeen, KeptSeen, unasked, failed, browser, stored, seeded, updated}
+use Rattle.http_cache_walk.specs.Heard.{updated_other, not_storable, not_selected, nothing_stored}
 
 -- nanoseconds in whole seconds, rounded down
 abbrev pub whole_seconds : ℕ → ℕ

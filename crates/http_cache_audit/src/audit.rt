@@ -2,18 +2,19 @@
 ghost use Rattle.std.specs.Prelude.{map, string_bytes, IfOk, OnOk};
 ghost use Rattle.http_cache_semantics.specs.Options.{options_of};
 ghost use Rattle.http_cache_recording.specs.Entry.{recorded_seen, told_seen, reading_seen};
-ghost use Rattle.http_cache_audit.specs.Walk.{verdict_seen};
+ghost use Rattle.http_cache_walk.specs.Walk.{verdict_seen};
 ghost use Rattle.http_cache_audit.specs.Lines.{IsLineAt, told_at, AreEntryLines, IsSkipLineOf, AreSkipLines, IsBehind, IsEnd, IsAudit};
 
 use crate::examples::push_examples;
 use crate::json::{json_line, json_line_of_skip};
 use crate::lint::hints_of;
-use crate::session::session;
 use crate::summary::{Summary, summary_of};
 use crate::tell::{listed, plain_line, plain_line_of_skip, request_text};
-use crate::walk::{Verdict, Walked, walk};
 use http_cache_recording::{Reading, Recorded};
 use http_cache_semantics::CacheOptions;
+use http_cache_walk::session::session;
+use http_cache_walk::walk::walk;
+use http_cache_walk::{Verdict, Walked};
 use std::alloc::{AllocError, Global};
 
 /// How a recording is audited, and how that is told.

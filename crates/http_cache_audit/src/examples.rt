@@ -1,15 +1,14 @@
 //! What stands behind the counts of an audit: an example of what isn't storable, by each condition,
 //! and the names that requests missed by.
 ghost use Rattle.std.specs.Prelude.{◌≡◌, string_bytes, OnOk};
-ghost use Rattle.http_cache_audit.specs.Walk.{verdict_seen};
+ghost use Rattle.http_cache_walk.specs.Walk.{verdict_seen};
 ghost use Rattle.http_cache_audit.specs.Summary.{first_of, is_missed_by_name, missed_by_name_of};
 ghost use Rattle.http_cache_audit.specs.Lines.{IsBehind};
 
-use crate::asked::Cause;
 use crate::summary::{Mark, Obstacle, has_mark};
 use crate::tell::request_text;
-use crate::walk::{Verdict, Walked};
 use http_cache_recording::Recorded;
+use http_cache_walk::{Cause, Verdict, Walked};
 use std::alloc::{AllocError, Global};
 
 const OBSTACLES: [Obstacle; 7] = [

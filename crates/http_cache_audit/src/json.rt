@@ -5,10 +5,10 @@ ghost use Rattle.serde_json.specs.Data.{string, object};
 ghost use Rattle.serde_json.specs.View.{view, members_view};
 ghost use Rattle.serde_json.specs.Written.{compact_text, members_have_float};
 ghost use Rattle.http_cache_recording.specs.Entry.{told_seen, skip_seen};
-ghost use Rattle.http_cache_audit.specs.Asked.{cause_seen, asked_seen};
+ghost use Rattle.http_cache_walk.specs.Asked.{cause_seen, asked_seen};
 ghost use Rattle.http_cache_audit.specs.Words.{why_words, kept_in};
-ghost use Rattle.http_cache_audit.specs.Heard.{heard_seen, kept_seen};
-ghost use Rattle.http_cache_audit.specs.Walk.{verdict_seen, walked_seen};
+ghost use Rattle.http_cache_walk.specs.Heard.{heard_seen, kept_seen};
+ghost use Rattle.http_cache_walk.specs.Walk.{verdict_seen, walked_seen};
 ghost use Rattle.http_cache_audit.specs.JsonLine.{text, count, texts, some_texts};
 ghost use Rattle.http_cache_audit.specs.JsonLine.{with_member, with_members, told_members};
 ghost use Rattle.http_cache_audit.specs.JsonLine.{asked_members, age_members, heard_members};
@@ -17,15 +17,13 @@ ghost use Rattle.http_cache_audit.specs.JsonLine.{assumed_names, validator_shown
 ghost use Rattle.http_cache_audit.specs.JsonLine.{json_of, json_of_skip};
 ghost use Rattle.http_cache_audit.specs.Lint.{hints_of};
 
-use crate::asked::{Asked, Cause, Validator};
-use crate::heard::{Heard, Kept};
 use crate::lint::hints_of;
-use crate::walk::{Verdict, Walked};
 use crate::words::{
     heard_word, is_mismatch, is_miss, kept_in, reasons, skip_words, source_word, validator_word,
     verdict_word, why_words,
 };
 use http_cache_recording::{Skip, Told};
+use http_cache_walk::{Asked, Cause, Heard, Kept, Validator, Verdict, Walked};
 use serde_json::{Map, Value, put};
 use std::alloc::{AllocError, Global};
 

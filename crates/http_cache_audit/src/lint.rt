@@ -12,7 +12,6 @@ ghost use Rattle.http_cache_audit.specs.Lint.{begins_quoted, is_quoted, is_upper
 ghost use Rattle.http_cache_audit.specs.Lint.{lint_in, hint, words_of, hints_of};
 ghost use Rattle.http_cache_recording.specs.Entry.{entry_seen};
 
-use crate::walk::date_of;
 use http::header::{AGE, CACHE_CONTROL};
 use http::{HeaderMap, response};
 use http_cache_fields::directives::split_piece;
@@ -20,6 +19,7 @@ use http_cache_fields::headers::contains_key;
 use http_cache_fields::names::is_same_name;
 use http_cache_fields::pieces::pieces_under;
 use http_cache_recording::{Answer, Entry};
+use http_cache_walk::walk::date_of;
 use jiff::Timestamp;
 use std::alloc::{AllocError, Global};
 

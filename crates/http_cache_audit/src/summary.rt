@@ -1,21 +1,19 @@
 //! What a whole audit counts.
 ghost use Rattle.std.specs.Prelude.{◌≡◌, ◌≢◌, ◌*◌, ◌/◌, not};
 ghost use Rattle.http_cache_recording.specs.Entry.{answer_seen, reading_seen, skip_seen};
-ghost use Rattle.http_cache_audit.specs.Heard.{heard_seen, kept_seen};
-ghost use Rattle.http_cache_audit.specs.Walk.{verdict_seen};
+ghost use Rattle.http_cache_walk.specs.Heard.{heard_seen, kept_seen};
+ghost use Rattle.http_cache_walk.specs.Walk.{verdict_seen};
 ghost use Rattle.http_cache_audit.specs.Summary.{is_validated, is_missed, is_missed_by_vary, has_come, is_changed};
 ghost use Rattle.http_cache_audit.specs.Summary.{has_obstacle, is_forbidden_by, source_number, gives_zero, is_zero_by};
 ghost use Rattle.http_cache_audit.specs.Summary.{has_mark, count_of, bytes_for, bytes_if, bytes_of, not_storable_of};
 ghost use Rattle.http_cache_audit.specs.Summary.{zero_lifetimes_of, is_skip, is_skipped_for, skips_of, skipped_of};
 ghost use Rattle.http_cache_audit.specs.Summary.{assumed_of, sets_cookies, is_private, has_private, any_private};
 
-use crate::asked::Cause;
-use crate::heard::{Heard, Kept};
-use crate::walk::{Verdict, Walked};
 use http::header::{AUTHORIZATION, COOKIE, SET_COOKIE};
 use http_cache_fields::headers::contains_key;
 use http_cache_recording::{Answer, Reading, Recorded, Skip};
 use http_cache_semantics::explain::{LifetimeSource, Obstacles};
+use http_cache_walk::{Cause, Heard, Kept, Verdict, Walked};
 use std::fmt;
 
 /// A condition that forbids to store a response: a field of `Obstacles`.

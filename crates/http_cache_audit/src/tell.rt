@@ -2,17 +2,15 @@
 ghost use Rattle.std.specs.Prelude.{◌≡◌, ◌++◌, ◌<◌, IfOk, OnOk, codes, option_map, string_bytes};
 ghost use Rattle.http_cache_semantics.specs.Reason.{reason_seen};
 ghost use Rattle.http_cache_recording.specs.Entry.{told_seen};
-ghost use Rattle.http_cache_audit.specs.Asked.{cause_seen};
+ghost use Rattle.http_cache_walk.specs.Asked.{cause_seen};
 ghost use Rattle.http_cache_audit.specs.Words.{verdict_word};
 ghost use Rattle.http_cache_audit.specs.Tell.{told_byte, told_text, url_text, method_text};
 ghost use Rattle.http_cache_audit.specs.Tell.{some_url_text, request_text, IsLineBehind};
 
-use crate::asked::{Asked, Cause};
-use crate::heard::Heard;
-use crate::walk::{Verdict, Walked};
 use crate::words::{is_mismatch, is_miss, skip_words, verdict_word};
 use http_cache_recording::{Skip, Told};
 use http_cache_semantics::explain::{Reason, Storability};
+use http_cache_walk::{Asked, Cause, Heard, Verdict, Walked};
 use std::alloc::{AllocError, Global};
 use std::fmt::Write;
 

@@ -3,16 +3,15 @@ ghost use Rattle.std.specs.Prelude.{◌≡◌, ◌++◌, Some, IfOk, OnOk, map, 
 ghost use Rattle.http_cache_semantics.specs.Freshness.{freshness_seen};
 ghost use Rattle.http_cache_semantics.specs.Reason.{is_mismatch};
 ghost use Rattle.http_cache_recording.specs.Entry.{skip_seen};
-ghost use Rattle.http_cache_audit.specs.Asked.{cause_seen};
-ghost use Rattle.http_cache_audit.specs.Heard.{heard_seen, kept_seen};
+ghost use Rattle.http_cache_walk.specs.Asked.{cause_seen};
+ghost use Rattle.http_cache_walk.specs.Heard.{heard_seen, kept_seen};
 ghost use Rattle.http_cache_audit.specs.Words.{verdict_word, heard_word, source_word, skip_words, validator_word};
 ghost use Rattle.http_cache_audit.specs.Words.{lifetime_words, why_words, said_if, kept_in};
 ghost use Rattle.http_cache_audit.specs.Words.{request_reasons, status_reasons, reasons, is_miss};
 
-use crate::asked::{Asked, Cause, Validator};
-use crate::heard::{Heard, Kept};
 use http_cache_recording::Skip;
 use http_cache_semantics::explain::{Freshness, LifetimeSource, Obstacles};
+use http_cache_walk::{Asked, Cause, Heard, Kept, Validator};
 use std::alloc::{AllocError, Global};
 
 /// What a cache would have answered: `fresh`, `validate`, `miss`, or `miss-vary` where what is

@@ -3,8 +3,8 @@ use Rattle.std.proofs.Common.{rules, ◌≡◌, ◌∙◌, ◌≤◌, ◌+◌, s
 use Rattle.std.proofs.lemmas.List.{length-map}
 use Rattle.std.proofs.lemmas.Option.{slice_get-map, slice_get_read}
 use Rattle.http_cache_recording.specs.Entry.{recorded_seen}
-use Rattle.http_cache_audit.specs.Walk.{verdict_seen}
-use Rattle.http_cache_audit.proofs.WalkLemmas.{drop-at}
+use Rattle.http_cache_walk.specs.Walk.{verdict_seen}
+use Rattle.http_cache_walk.proofs.WalkLemmas.{drop-at}
 use Rattle.http_cache_audit.proofs.LineLemmas.{entries-end}
 use Rattle.http_cache_audit.proofs.audit.push_entries.Goals as goal
 

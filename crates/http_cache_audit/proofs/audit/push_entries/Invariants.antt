@@ -1,7 +1,7 @@
 -- With the lines that are left these are all.
 use Rattle.std.proofs.Common.{ℕ, List, map, drop, string_bytes}
 use Rattle.http_cache_recording.specs.Entry.{recorded_seen}
-use Rattle.http_cache_audit.specs.Walk.{verdict_seen}
+use Rattle.http_cache_walk.specs.Walk.{verdict_seen}
 use Rattle.http_cache_audit.specs.Lines.{AreEntryLines}
 use Rattle.http_cache_audit.proofs.audit.push_entries.Given as goal
 

@@ -2,7 +2,7 @@
 use Rattle.std.proofs.Common.{rules, ◌≡◌, ◌∙◌, ◌+◌, suc, refl, ap, map, slice_get, Some, option_map, length, add-one, string_bytes}
 use Rattle.std.proofs.lemmas.Option.{slice_get-map, slice_get_read}
 use Rattle.http_cache_recording.specs.Entry.{recorded_seen}
-use Rattle.http_cache_audit.proofs.WalkLemmas.{drop-at}
+use Rattle.http_cache_walk.proofs.WalkLemmas.{drop-at}
 use Rattle.http_cache_audit.proofs.audit.push_skips.Goals as goal
 
 pub loop-place-preserved : goal.loop-place-preserved

@@ -1,0 +1,4 @@
+-- The lemmas about a walk.
+pub mod SessionLemmas
+pub mod ShelfLemmas
+pub mod WalkLemmas

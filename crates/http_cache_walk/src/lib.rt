@@ -1,0 +1,14 @@
+//! A walk over a recorded session: what a cache would have answered to each request.
+#![tactic(auto)]
+
+pub mod asked;
+pub mod heard;
+pub mod session;
+mod shelf;
+mod shelves;
+mod target;
+pub mod walk;
+
+pub use asked::{Asked, Cause, Validator};
+pub use heard::{Heard, Kept};
+pub use walk::{Assumed, Verdict, Walked};
