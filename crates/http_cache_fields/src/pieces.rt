@@ -75,6 +75,7 @@ impl<'a> Iterator for Commas<'a> {
 
     ghost remaining = { item_count (λ c. c) };
 
+    #[inline(always)]
     fn next(&mut self) -> Option<&'a str> {
         let line = match self.rest {
             Some(rest) => rest,

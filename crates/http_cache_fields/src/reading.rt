@@ -155,6 +155,7 @@ pub fn read_cache_control(alloc: Global, headers: &HeaderMap) -> Result<Reading<
 
 /// Whether a directive of the Cache-Control lines of a map has the name in any case. The name isn't
 /// must-revalidate, which directives in conflict set.
+#[inline(always)]
 pub fn says(headers: &HeaderMap, name: &str) -> bool
     requires named { 0 < length name.now }
     requires unset { bytes_eq (lowercase name.now) (codes "must-revalidate") ≡ false }

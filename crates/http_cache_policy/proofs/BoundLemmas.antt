@@ -9,7 +9,7 @@ use Rattle.std.proofs.lemmas.Bool.{not-false, not-true, cond-true, false_from_ne
 use Rattle.std.proofs.lemmas.Bool.Decides.{nat_tests}
 use Rattle.http_cache_fields.specs.Directives.{Directive, has}
 use Rattle.http_cache_rules.specs.Asks.{Asks, asks_of, asked_directives, has_no_cache, number_under, takes_stale}
-use Rattle.http_cache_policy.specs.Messages.{RequestSeen}
+use Rattle.http_cache_rules.specs.Messages.{RequestSeen}
 use Rattle.http_cache_policy.specs.Exchange.{Exchange, stored_directives}
 use Rattle.http_cache_rules.specs.Storing.{is_storable}
 use Rattle.http_cache_rules.specs.Lifetimes.{lifetime}

@@ -17,7 +17,7 @@ use Rattle.http_cache_rules.specs.Lifetimes.{lifetime}
 use Rattle.http_cache_rules.specs.Asks.{Asks, asks_of, asked_directives, number_under, is_young_enough}
 use Rattle.http_cache_rules.specs.Asks.{lasts_long_enough}
 use Rattle.http_cache_reasons.specs.Reason.{ReasonSeen, other_method, other_target, other_host, varies_by, is_mismatch}
-use Rattle.http_cache_policy.specs.Messages.{RequestSeen}
+use Rattle.http_cache_rules.specs.Messages.{RequestSeen}
 use Rattle.http_cache_policy.specs.Exchange.{Exchange, stored_directives}
 use Rattle.http_cache_policy.specs.Age.{age_at}
 use Rattle.http_cache_policy.specs.Match.{varied_names, vary_matches, matches, request_matches}

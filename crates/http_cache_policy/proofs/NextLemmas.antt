@@ -8,7 +8,7 @@ use Rattle.http_cache_fields.specs.Headers.{values}
 use Rattle.http_cache_fields.proofs.KeptLemmas.{kept_response-adds_none, kept_response-other}
 use Rattle.http_cache_rules.specs.Renewed.{is_of_body, renewed_headers}
 use Rattle.http_cache_rules.proofs.UpdateLemmas.{renewed_headers-adds_none, renewed_headers-body}
-use Rattle.http_cache_policy.specs.Messages.{RequestSeen, ResponseSeen}
+use Rattle.http_cache_rules.specs.Messages.{RequestSeen, ResponseSeen}
 use Rattle.http_cache_policy.specs.Exchange.{Exchange}
 use Rattle.http_cache_policy.specs.Kept.{kept_exchange}
 use Rattle.http_cache_policy.specs.Update.{next_where}

@@ -4,7 +4,7 @@ use Rattle.http.specs.declared.request.Parts.{Parts as RequestParts}
 use Rattle.http.specs.declared.response.Parts.{Parts}
 use Rattle.http_uri.specs.Uri.{uri_eq}
 use Rattle.http_cache_fields.specs.Headers.{headers_of}
-use Rattle.http_cache_policy.specs.Messages.{RequestSeen, request_seen, response_seen}
+use Rattle.http_cache_rules.specs.Messages.{RequestSeen, request_seen, response_seen}
 use Rattle.http_cache_policy.specs.Exchange.{Exchange}
 use Rattle.http_cache_policy.specs.Kept.{kept_exchange}
 use Rattle.http_cache_policy.specs.Fresh.{IsFreshParts}

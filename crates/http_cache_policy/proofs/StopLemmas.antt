@@ -9,7 +9,7 @@ use Rattle.http_cache_policy.specs.Update.{next_exchange}
 use Rattle.http_cache_policy.specs.Steps.{StepSeen, asks, receives, restarts}
 use Rattle.http_cache_policy.specs.Run.{IsAnswer}
 use Rattle.http_cache_policy.specs.RunStops.{RefusesStep, HasUndatedStep, HasNoOutcome, StopsFor}
-use Rattle.http_cache_policy.specs.Messages.{RequestSeen}
+use Rattle.http_cache_rules.specs.Messages.{RequestSeen}
 use Rattle.http_cache_policy.specs.declared.before.BeforeRequest.{BeforeRequest}
 use Rattle.http_cache_policy.specs.declared.before.BeforeRequest.TheVariants.{Fresh, Stale}
 use Rattle.http_cache_policy.specs.declared.steps.Outcome.{Outcome}

@@ -2,7 +2,7 @@
 use Rattle.std.specs.Prelude.{ℤ}
 use Rattle.http_cache_rules.specs.Options.{Options}
 pub use Rattle.http_cache_rules.specs.Exchange.{Exchange, exchange_code, stored_directives, request_directives}
-use Rattle.http_cache_policy.specs.Messages.{RequestSeen, ResponseSeen}
+use Rattle.http_cache_rules.specs.Messages.{RequestSeen, ResponseSeen}
 
 -- the exchange of a request and the response that came for it
 abbrev pub exchange_of : RequestSeen → ResponseSeen → Options → ℤ → Exchange

@@ -16,7 +16,7 @@ use Rattle.http_cache_reasons.specs.Reason.{asks_no_cache, asks_pragma, asks_max
 use Rattle.http_cache_reasons.specs.Reason.{ExplanationSeen}
 use Rattle.http_cache_reasons.specs.declared.reason.StaleReason.TheVariants.{NotAsked, NotStorable, MustRevalidate}
 use Rattle.http_cache_reasons.specs.declared.reason.StaleReason.TheVariants.{NoCache, TooStale}
-use Rattle.http_cache_policy.specs.Messages.{RequestSeen}
+use Rattle.http_cache_rules.specs.Messages.{RequestSeen}
 use Rattle.http_cache_policy.specs.Exchange.{Exchange, stored_directives}
 use Rattle.http_cache_policy.specs.Age.{age_at}
 use Rattle.http_cache_policy.specs.Match.{varied_names}

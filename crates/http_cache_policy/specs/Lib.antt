@@ -5,10 +5,10 @@ pub use Rattle.http_cache_rules.specs.Storing
 pub use Rattle.http_cache_rules.specs.FirstRow
 pub use Rattle.http_cache_rules.specs.Storability
 pub use Rattle.http_cache_rules.specs.Freshness
+pub use Rattle.http_cache_rules.specs.Messages
 pub use Rattle.http_cache_reasons.specs.Reason
 pub use Rattle.http_cache_reasons.specs.StructuredField
 pub use Rattle.http_cache_reasons.specs.CacheStatus
-pub mod Messages
 pub mod Exchange
 pub mod Kept
 pub mod Age

@@ -5,7 +5,7 @@ use Rattle.std.specs.Cmp.Lexicographic.{pointwise}
 use Rattle.http_cache_fields.specs.Headers.{Headers, first, first_under}
 use Rattle.http_cache_fields.specs.Pieces.{pieces_under}
 use Rattle.http_cache_fields.specs.Directives.{same_value}
-use Rattle.http_cache_policy.specs.Messages.{RequestSeen}
+use Rattle.http_cache_rules.specs.Messages.{RequestSeen}
 use Rattle.http_cache_policy.specs.Exchange.{Exchange}
 
 -- what a match looks at of a request, seen from a stored exchange

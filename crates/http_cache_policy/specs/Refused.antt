@@ -1,6 +1,6 @@
 -- Which answers to a request can't be given.
 use Rattle.std.specs.Prelude.{◌≡◌, ◌⊎◌, ℤ, true, false}
-use Rattle.http_cache_policy.specs.Messages.{RequestSeen}
+use Rattle.http_cache_rules.specs.Messages.{RequestSeen}
 use Rattle.http_cache_policy.specs.Exchange.{Exchange}
 use Rattle.http_cache_policy.specs.Match.{validates_for}
 use Rattle.http_cache_policy.specs.Verdict.{is_fresh_for}

@@ -2,7 +2,7 @@
 use Rattle.std.specs.Prelude.{◌≡◌, ⊤, ℤ, Bool, true, false, List, [], ◌∷◌, map}
 use Rattle.http.specs.declared.request.Parts.{Parts as RequestParts}
 use Rattle.http.specs.declared.response.Parts.{Parts}
-use Rattle.http_cache_policy.specs.Messages.{RequestSeen}
+use Rattle.http_cache_rules.specs.Messages.{RequestSeen}
 use Rattle.http_cache_policy.specs.Exchange.{Exchange}
 use Rattle.http_cache_policy.specs.Kept.{kept_exchange}
 use Rattle.http_cache_policy.specs.Match.{request_matches}

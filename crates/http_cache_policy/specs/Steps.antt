@@ -1,6 +1,6 @@
 -- The steps of a run and their outcomes, as they are seen.
 use Rattle.std.specs.Prelude.{ℤ, Bool}
-use Rattle.http_cache_policy.specs.Messages.{RequestSeen, ResponseSeen, request_seen, response_seen}
+use Rattle.http_cache_rules.specs.Messages.{RequestSeen, ResponseSeen, request_seen, response_seen}
 use Rattle.http_cache_policy.specs.declared.before.BeforeRequest.{BeforeRequest}
 use Rattle.http_cache_policy.specs.declared.before.BeforeRequest.TheVariants.{Fresh, Stale}
 use Rattle.http_cache_policy.specs.declared.steps.Step.{Step}

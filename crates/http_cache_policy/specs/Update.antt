@@ -2,7 +2,7 @@
 use Rattle.std.specs.Prelude.{ℤ, Bool, if◌then◌else◌}
 use Rattle.http_cache_rules.specs.Selection.{is_selected}
 use Rattle.http_cache_rules.specs.Renewed.{renewed_headers}
-use Rattle.http_cache_policy.specs.Messages.{RequestSeen, ResponseSeen}
+use Rattle.http_cache_rules.specs.Messages.{RequestSeen, ResponseSeen}
 use Rattle.http_cache_policy.specs.Exchange.{Exchange, exchange_of}
 use Rattle.http_cache_policy.specs.Kept.{kept_exchange}
 

@@ -3,7 +3,7 @@ use Rattle.std.specs.Prelude.{ℕ, ℤ, ◌-◌, Bool, not, ◌&&◌, ◌||◌, 
 use Rattle.http_cache_fields.specs.Directives.{Directive, has}
 use Rattle.http_cache_rules.specs.Asks.{Asks, asks_of, asked_directives, has_no_cache, is_young_enough}
 use Rattle.http_cache_rules.specs.Asks.{lasts_long_enough, takes_stale}
-use Rattle.http_cache_policy.specs.Messages.{RequestSeen}
+use Rattle.http_cache_rules.specs.Messages.{RequestSeen}
 use Rattle.http_cache_policy.specs.Exchange.{Exchange, stored_directives}
 use Rattle.http_cache_rules.specs.Storing.{is_storable}
 use Rattle.http_cache_rules.specs.Lifetimes.{lifetime}

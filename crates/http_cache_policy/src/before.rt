@@ -68,6 +68,7 @@ impl CachePolicy {
     /// or `if-modified-since` of a request for the origin, has to be added to full headers.
     /// `DateNotPrintable` comes for a fresh answer at a moment earlier than 1900.
     #[tactic(auto, unfolding(crate::specs::Verdict::is_fresh_for, crate::specs::Refused::RefusesAnswer))]
+    #[inline(always)]
     pub fn before_request<Req: RequestLike>(
         &self,
         alloc: Global,

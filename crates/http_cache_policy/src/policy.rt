@@ -161,6 +161,7 @@ impl CachePolicy {
 
     /// The policy of parts that are given away.
     #[tactic(auto, unfolding(crate::specs::Kept::kept_exchange))]
+    #[inline(always)]
     pub(crate) fn from_details(
         alloc: Global,
         mut parts: StoredParts,

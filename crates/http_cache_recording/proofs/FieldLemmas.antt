@@ -21,11 +21,11 @@ use Rattle.http_header.specs.FieldValue.{IsFieldValue}
 use Rattle.http_header.proofs.TokenLemmas.{IsFieldName-from_test, IsHeaderName-lowercase}
 use Rattle.http_header.specs.HeaderMap.{Entries}
 use Rattle.http_header.specs.FieldValue.{FieldValue}
-use Rattle.http_cache_semantics.specs.Text.{trim_front, trim_back, onto_trimmed}
+use Rattle.http_cache_fields.specs.Text.{trim_front, trim_back, onto_trimmed}
 use Rattle.http_cache_stored.specs.Pairs.{Pair, Fits, with_pair, with_pairs, HoldsPairs}
 use Rattle.http_cache_stored.specs.Form.{given}
 use Rattle.http_cache_stored.proofs.HeldLemmas.{grows, Gathers, gathers_none, gathers_all, holds_gathered, fits_held}
-use Rattle.http_cache_semantics.specs.Headers.{headers_of}
+use Rattle.http_cache_fields.specs.Headers.{headers_of}
 use Rattle.http_cache_recording.specs.Fields.{pairs_of, pairs_of_header, is_value, values_of_line, lines_of}
 use Rattle.http_cache_recording.specs.Fields.{is_line_feed, pairs_under, HasAdded, HasNoRoom, Overflow}
 

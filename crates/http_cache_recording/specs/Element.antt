@@ -8,7 +8,7 @@ use Rattle.http_uri.specs.declared.uri.Uri.{Uri}
 use Rattle.http.specs.StatusCode.{IsStatusCode}
 use Rattle.serde_json.specs.Data.{Data}
 use Rattle.serde_json.specs.Find.{get, as_str, as_bool, as_array}
-use Rattle.http_cache_semantics.specs.Messages.{ResponseSeen}
+use Rattle.http_cache_rules.specs.Messages.{ResponseSeen}
 use Rattle.http_cache_stored.specs.Form.{◌>>=◌}
 use Rattle.http_cache_stored.specs.Pairs.{HoldsPairs}
 use Rattle.http_cache_recording.specs.Entry.{AnswerSeen, failed, cached, received, EntrySeen, ReadingSeen, entry}

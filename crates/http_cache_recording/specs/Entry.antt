@@ -1,7 +1,7 @@
 -- What is seen of the entries of a recording.
 use Rattle.std.specs.Prelude.{ℕ, ℤ, List, Option, option_map, String, string_bytes}
 use Rattle.std.specs.declared.alloc.Global.{Global}
-use Rattle.http_cache_semantics.specs.Messages.{RequestSeen, ResponseSeen, request_seen, response_seen}
+use Rattle.http_cache_rules.specs.Messages.{RequestSeen, ResponseSeen, request_seen, response_seen}
 use Rattle.http_cache_recording.specs.declared.entry.Recorded.{Recorded}
 use Rattle.http_cache_recording.specs.declared.entry.Reading.{Reading}
 use Rattle.http_cache_recording.specs.declared.entry.Reading.TheVariants as reading

@@ -9,8 +9,8 @@ use Rattle.http_header.specs.Token.{lowercase, is_value_byte}
 use Rattle.http_header.specs.FieldName.{is_field_name}
 use Rattle.serde_json.specs.Data.{Num, unsigned, negative, float, Data, null, boolean, number, string, array, object}
 use Rattle.serde_json.specs.Find.{get, as_str, as_array}
-use Rattle.http_cache_semantics.specs.Text.{trim_both}
-use Rattle.http_cache_semantics.specs.Headers.{Headers}
+use Rattle.http_cache_fields.specs.Text.{trim_both}
+use Rattle.http_cache_fields.specs.Headers.{Headers}
 use Rattle.http_cache_stored.specs.Form.{◌>>=◌, given}
 use Rattle.http_cache_stored.specs.Lists.{values_of}
 use Rattle.http_cache_stored.specs.Pairs.{Pair, HoldsPairs, Fits, with_pairs}

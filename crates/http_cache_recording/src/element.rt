@@ -5,7 +5,7 @@ ghost use Rattle.http_header.specs.FieldValue.{IsFieldValue, plain_value};
 ghost use Rattle.http_uri.specs.Uri.{Spells, SpellsNone};
 ghost use Rattle.http.specs.StatusCode.{IsStatusCode};
 ghost use Rattle.serde_json.specs.View.{view};
-ghost use Rattle.http_cache_semantics.specs.Messages.{response_seen};
+ghost use Rattle.http_cache_rules.specs.Messages.{response_seen};
 ghost use Rattle.http_cache_recording.specs.Entry.{answer_seen, entry_seen, skip_seen, reading_seen, recorded_seen};
 ghost use Rattle.http_cache_recording.specs.Element.{asked_of, worker_flag, set_aside, started_text, started_of};
 ghost use Rattle.http_cache_recording.specs.Element.{made_seen};

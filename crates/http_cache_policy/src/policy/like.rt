@@ -1,7 +1,7 @@
 //! What a cache reads of requests and responses.
 ghost use Rattle.std.specs.Prelude.{◌≡◌, IfOk, IsOkUnless};
 ghost use Rattle.http_cache_fields.specs.Headers.{headers_of};
-ghost use Rattle.http_cache_policy.specs.Messages.{RequestSeen, ResponseSeen, request_seen, response_seen};
+ghost use Rattle.http_cache_rules.specs.Messages.{RequestSeen, ResponseSeen, request_seen, response_seen};
 
 use http::{HeaderMap, Method, Request, Response, StatusCode, Uri, request, response};
 use http_cache_fields::CacheError;

@@ -1,6 +1,6 @@
 -- A blank at the end is taken off, and a text that ends otherwise stays.
 use Rattle.std.proofs.Common.{◌≡◌, ◌-◌, take, get_or, true, false, sym, ap, ◌∙◌, arith}
-use Rattle.http_cache_semantics.specs.Text.{trim_back}
+use Rattle.http_cache_fields.specs.Text.{trim_back}
 use Rattle.http_cache_recording.specs.Fields.{is_blank}
 use Rattle.http_cache_recording.proofs.FieldLemmas.{trim_back-yes, trim_back-no, take_last}
 use Rattle.http_cache_recording.proofs.fields.trim_back.Goals as goal

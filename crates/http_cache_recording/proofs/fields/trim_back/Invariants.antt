@@ -1,6 +1,6 @@
 -- What is left trims at its end to what the whole does.
 use Rattle.std.proofs.Common.{◌≡◌, ◌≤◌, take, length}
-use Rattle.http_cache_semantics.specs.Text.{trim_back}
+use Rattle.http_cache_fields.specs.Text.{trim_back}
 use Rattle.http_cache_recording.specs.Fields.{is_blank}
 use Rattle.http_cache_recording.proofs.fields.trim_back.Given as goal
 

@@ -1,6 +1,6 @@
 -- What a line holds is a value, or it isn't.
 use Rattle.std.proofs.Common.{◌≡◌, List, ℕ, true, sym, ap, ◌∙◌, Err, Some}
-use Rattle.http_cache_semantics.specs.Text.{trim_both, trim_back}
+use Rattle.http_cache_fields.specs.Text.{trim_both, trim_back}
 use Rattle.http_cache_recording.specs.Fields.{is_blank, is_value, value_of_line}
 use Rattle.http_cache_recording.proofs.FieldLemmas.{is_value-yes, is_value-no, given_yes, given_no}
 use Rattle.http_cache_recording.proofs.fields.value_of_line.Goals as goal

@@ -3,7 +3,7 @@ use Rattle.std.proofs.Common.{◌≡◌, Bool, true, List, ℕ, ℤ, Result, Ok,
 use Rattle.std.proofs.lemmas.Result.{IfOk-weaker}
 use Rattle.http_cache_fields.specs.Headers.{headers_of, values, IsAbsent}
 use Rattle.http_cache_rules.specs.Renewed.{is_of_body}
-use Rattle.http_cache_policy.specs.Messages.{RequestSeen, ResponseSeen}
+use Rattle.http_cache_rules.specs.Messages.{RequestSeen, ResponseSeen}
 use Rattle.http_cache_policy.specs.Exchange.{Exchange}
 use Rattle.http_cache_policy.specs.Fresh.{HasOneAgeAndDate, RefusesFreshHeaders, HasNoDate}
 use Rattle.http_cache_policy.specs.Update.{next_where, next_exchange}
