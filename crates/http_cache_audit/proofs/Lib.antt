@@ -2,5 +2,4 @@
 pub mod JsonLineLemmas
 pub mod LineLemmas
 pub mod ReadLemmas
-pub mod SummaryLemmas
 pub mod TellLemmas

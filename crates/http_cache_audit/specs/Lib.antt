@@ -4,6 +4,5 @@ pub mod Lines
 pub mod Lint
 pub mod Output
 pub mod Status
-pub mod Summary
 pub mod Tell
 pub mod Words

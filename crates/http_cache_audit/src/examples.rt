@@ -1,13 +1,11 @@
 //! What stands behind the counts of an audit: an example of what isn't storable, by each condition,
 //! and the names that requests missed by.
-ghost use Rattle.std.specs.Prelude.{◌≡◌, string_bytes, OnOk};
-ghost use Rattle.http_cache_walk.specs.Walk.{verdict_seen};
-ghost use Rattle.http_cache_audit.specs.Summary.{first_of, is_missed_by_name, missed_by_name_of};
+ghost use Rattle.std.specs.Prelude.{string_bytes, OnOk};
 ghost use Rattle.http_cache_audit.specs.Lines.{IsBehind};
 
-use crate::summary::{Mark, Obstacle, has_mark};
 use crate::tell::request_text;
 use http_cache_recording::Recorded;
+use http_cache_summary::marks::{Mark, Obstacle, first_of, missed_by_name_of};
 use http_cache_walk::{Cause, Verdict, Walked};
 use std::alloc::{AllocError, Global};
 
@@ -20,33 +18,6 @@ const OBSTACLES: [Obstacle; 7] = [
     Obstacle::Authorization,
     Obstacle::NoPermission,
 ];
-
-/// The place of the first verdict that is counted, if one is.
-pub fn first_of(mark: Mark, verdicts: &[Verdict]) -> Option<usize>
-    ensures { result ≡ first_of mark verdicts.now }
-{
-    verdicts.iter().position(|verdict| has_mark(mark, verdict))
-}
-
-// No stored response was the answer to the request, as one that was stored varies by the name.
-fn is_missed_by_name(name: &str, verdict: &Verdict) -> bool
-    ensures { result ≡ is_missed_by_name name.now (verdict_seen verdict.now) }
-{
-    match &verdict.asked.cause {
-        Some(Cause::Vary(other)) => name == other.as_str(),
-        _ => false,
-    }
-}
-
-/// How many requests missed, as a stored response varies by a name, spelled so.
-pub fn missed_by_name_of(name: &str, verdicts: &[Verdict]) -> u64
-    ensures { result ≡ missed_by_name_of name.now verdicts.now }
-{
-    verdicts
-        .iter()
-        .filter(|verdict| is_missed_by_name(name, verdict))
-        .count() as u64
-}
 
 fn push_new<'a>(names: &mut Vec<&'a str>, verdict: &'a Verdict) -> Result<(), AllocError> {
     match &verdict.asked.cause {

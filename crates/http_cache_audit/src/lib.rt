@@ -7,6 +7,5 @@ pub mod examples;
 pub mod json;
 pub mod lint;
 pub mod run;
-pub mod summary;
 pub mod tell;
 pub mod words;

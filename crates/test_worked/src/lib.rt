@@ -12,4 +12,8 @@ mod own_messages;
 #[cfg(test)]
 mod parse_cache_control;
 #[cfg(test)]
+mod stored_form;
+#[cfg(test)]
+mod stored_values;
+#[cfg(test)]
 mod variants;

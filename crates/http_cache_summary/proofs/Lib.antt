@@ -1,0 +1,2 @@
+-- The lemmas about counts.
+pub mod SummaryLemmas

@@ -1,0 +1,2 @@
+-- What the answers over a recorded session come to.
+pub mod Summary
