@@ -1,5 +1,6 @@
 -- The lemmas of this crate.
 pub mod AgeLemmas
+pub mod BesideDateLemmas
 pub mod BoundLemmas
 pub mod ExplainLemmas
 pub mod FreshLemmas

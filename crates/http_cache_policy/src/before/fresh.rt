@@ -1,8 +1,12 @@
 //! The headers of a fresh answer.
-ghost use Rattle.std.specs.Prelude.{◌≡◌, ◌≢◌, ◌⊎◌, ℤ, decimal, IfOk, IfErr, IsErrOf};
+ghost use Rattle.std.specs.Prelude.{◌≡◌, ◌≢◌, ◌⊎◌, ◌≤◌, ℤ, true, false, codes, decimal, length};
+ghost use Rattle.std.specs.Prelude.{IfOk, IfErr, IsErrOf};
+ghost use Rattle.std.specs.FinMap as fin;
 ghost use Rattle.std.specs.Duration.{as_nanos};
 ghost use Rattle.http_header.specs.FieldValue.{IsFieldValue, plain_value};
-ghost use Rattle.http_cache_fields.specs.Headers.{headers_of};
+ghost use Rattle.http_cache_fields.specs.Headers.{headers_of, values, value_count, IsAbsent};
+ghost use Rattle.http_cache_rules.specs.Dates.{IsPrintable};
+ghost use Rattle.http_cache_rules.specs.Filter.{filtered_headers};
 ghost use Rattle.http_cache_policy.specs.Age.{age_at};
 ghost use Rattle.http_cache_policy.specs.Fresh.{is_guessed_past_a_day, warned_headers, RefusesWarning, IsFreshParts};
 ghost use Rattle.http_cache_policy.specs.Fresh.{RefusesFreshHeaders, HasNoDate};
@@ -12,9 +16,9 @@ use bytes::Bytes;
 use http::header::{AGE, DATE, HeaderValue, WARNING};
 use http::{HeaderMap, Version, response};
 use http_cache_fields::CacheError;
-use http_cache_fields::headers::{append, insert};
+use http_cache_fields::headers::{append, insert, reveal_header_map};
 use http_cache_rules::dates::print_date;
-use http_cache_rules::filter::filter;
+use http_cache_rules::filter::{filter, filter_beside_date};
 use itoa::Buffer;
 use jiff::Timestamp;
 use std::alloc::{AllocError, Global};
@@ -57,18 +61,44 @@ impl CachePolicy {
         age.as_nanos() > DAY && self.lifetime().as_nanos() > DAY && !self.has_explicit_expiration()
     }
 
-    // The stored headers that are handed on, with the warning that is due at the age.
-    fn warned_headers(&self, alloc: Global, age: Duration) -> Result<HeaderMap, CacheError>
+    // The stored headers that are handed on, and where a date is to be told, one that came beside
+    // them: it keeps the place.
+    fn handed_on(&self, alloc: Global, dated: bool) -> Result<HeaderMap, AllocError>
+        ensures beside { IfOk result (λ out. fin.remove (headers_of out) (codes "date")
+            ≡ filtered_headers self.now.response_headers) }
+        ensures undated { dated ≡ false → IfOk result (λ out.
+            IsAbsent (headers_of out) (codes "date")) }
+        ensures one_date { IfOk result (λ out. length (values (headers_of out) (codes "date")) ≤ 1) }
+        ensures few { IfOk result (λ out. value_count (headers_of out) ≤ 24576) }
+    {
+        if dated {
+            filter_beside_date(alloc, self.stored_headers())
+        } else {
+            filter(alloc, self.stored_headers())
+        }
+    }
+
+    // The same with the warning that is due at the age.
+    fn warned_headers(
+        &self,
+        alloc: Global,
+        age: Duration,
+        dated: bool,
+    ) -> Result<HeaderMap, CacheError>
         ensures ok { IfOk result (λ out. (now : ℤ) → as_nanos age ≡ age_at self.now now
-            → headers_of out ≡ warned_headers self.now now) }
+            → fin.remove (headers_of out) (codes "date") ≡ warned_headers self.now now) }
+        ensures undated { dated ≡ false → IfOk result (λ out.
+            IsAbsent (headers_of out) (codes "date")) }
+        ensures one_date { IfOk result (λ out. length (values (headers_of out) (codes "date")) ≤ 1) }
         ensures room { IfOk result (λ _. (now : ℤ) → as_nanos age ≡ age_at self.now now
             → ¬ (RefusesWarning self.now now)) }
         ensures full { IsErrOf result CacheError.HeaderMapFull
-            → (now : ℤ) → as_nanos age ≡ age_at self.now now → RefusesWarning self.now now }
+            → (now : ℤ) → as_nanos age ≡ age_at self.now now → (dated ≡ true → IsPrintable now)
+            → RefusesFreshHeaders self.now now }
         ensures known { IfErr result (λ e.
             (e ≡ CacheError.HeaderMapFull) ⊎ (e ≡ CacheError.Memory)) }
     {
-        let mut out = filter(alloc, self.stored_headers())?;
+        let mut out = self.handed_on(alloc, dated)?;
         if !self.is_guessed_past_a_day(age) {
             return Ok(out);
         }
@@ -96,8 +126,9 @@ impl CachePolicy {
             → HasNoDate self.now now.nanosecond }
         ensures no_other { result ≢ Err CacheError.Malformed }
     {
-        let mut headers = self.warned_headers(alloc, age)?;
-        let Some(date) = print_date(now) else {
+        let date = print_date(now);
+        let mut headers = self.warned_headers(alloc, age, date.is_some())?;
+        let Some(date) = date else {
             // The age comes first, and may have no room.
             insert(
                 &mut headers,
@@ -108,6 +139,7 @@ impl CachePolicy {
         };
         let (age, date) = age_and_date(alloc, age.as_secs(), &date)?;
         insert(&mut headers, AGE, age)?;
+        reveal_header_map(&headers);
         insert(&mut headers, DATE, date)?;
         Ok(response::Parts {
             status: self.stored_status(),
