@@ -1,5 +1,6 @@
 -- Headers with a date beside them: what is put among them, and where they have no room.
-use Rattle.std.proofs.Common.{◌≡◌, ℕ, ℤ, ◌+◌, ◌<◌, ◌≤◌, Bool, true, false, List, [], ◌∷◌, ◌++◌, length, cond, map}
+use Rattle.std.proofs.Common.{◌≡◌, ℕ, ℤ, ◌+◌, ◌<◌, ◌≤◌, Bool, true, false, List, [], ◌∷◌, ◌++◌, length}
+use Rattle.std.proofs.Common.{cond, map}
 use Rattle.std.proofs.Common.{bytes_eq, codes, Option, Some, None, unwrap_or, is_some, refl, sym, ap, subst, ◌∙◌, ◌⊎◌}
 use Rattle.std.proofs.Common.{inl, inr, arith, true≢false, if◌then◌else◌}
 use Rattle.std.specs.Cmp.Lexicographic.{nat_list_cmp_total}

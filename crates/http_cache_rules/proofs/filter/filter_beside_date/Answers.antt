@@ -1,6 +1,6 @@
 -- Beside a date the headers are those that are handed on, with at most one value for each name.
-use Rattle.std.proofs.Common.{◌≡◌, ℕ, List, codes, length, ◌≤◌, subst, sym, ap, ◌∙◌}
-use Rattle.http_cache_fields.specs.Headers.{Headers, headers_of, values, IsAbsent, set_unless_empty}
+use Rattle.std.proofs.Common.{◌≡◌, codes, subst, sym, ap, ◌∙◌}
+use Rattle.http_cache_fields.specs.Headers.{Headers, headers_of, IsAbsent, set_unless_empty}
 use Rattle.http_cache_fields.specs.Pieces.{pieces_under}
 use Rattle.http_cache_fields.proofs.HeadersLemmas.{few_values}
 use Rattle.http_cache_rules.specs.Filter.{lasting_warnings, end_to_end_headers, without_spelled}

@@ -1,5 +1,5 @@
 -- A fresh answer has the stored status, and its headers have the age and the date of the moment.
-use Rattle.std.proofs.Common.{◌≡◌, ◌/◌, ◌∷◌, [], ℕ, ℤ, List, true, false, Option, is_some, decimal, codes, refl, sym, ap}
+use Rattle.std.proofs.Common.{◌≡◌, ◌/◌, ◌∷◌, [], ℕ, List, true, false, Option, is_some, decimal, codes, refl, sym, ap}
 use Rattle.std.proofs.Common.{subst, ◌∙◌, inl, inr, rules, IsErrOf, IfSome, true≢false}
 use Rattle.std.specs.FinMap as fin
 use Rattle.http_cache_fields.specs.declared.error.CacheError.TheVariants.{HeaderMapFull}
@@ -78,8 +78,11 @@ returns-in_err-insert-3-clause-full c =
     ∙ remove-insert x (codes "date") (codes "age") (c.in_ok-age.age.bytes ∷ []) refl
     ∙ (λ i. set (c.in_ok-headers.ensures.ok now c.requires i) (codes "age") (printed i)) in
     λ refused. let r = cause refused in
-    inr (inr (printable, subst (λ (g : Headers). RefusesName g (codes "date"))
-    (sym (remove-absent aged (codes "date") r.0) ∙ with_age) r))
+    inr (inr (
+      printable,
+      subst (λ (g : Headers). RefusesName g (codes "date"))
+          (sym (remove-absent aged (codes "date") r.0) ∙ with_age) r,
+    ))
 
 pub returns-clause-fresh : goal.returns-clause-fresh
 returns-clause-fresh c =
