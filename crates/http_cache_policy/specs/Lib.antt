@@ -6,6 +6,7 @@ pub use Rattle.http_cache_rules.specs.FirstRow
 pub use Rattle.http_cache_rules.specs.Storability
 pub use Rattle.http_cache_rules.specs.Freshness
 pub use Rattle.http_cache_rules.specs.Messages
+pub use Rattle.http_cache_rules.specs.Forwarding
 pub use Rattle.http_cache_reasons.specs.Reason
 pub use Rattle.http_cache_reasons.specs.StructuredField
 pub use Rattle.http_cache_reasons.specs.CacheStatus
@@ -27,3 +28,4 @@ pub mod Steps
 pub mod Run
 pub mod RunStops
 pub mod Renewal
+pub mod ResponseAt

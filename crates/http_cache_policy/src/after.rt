@@ -121,16 +121,21 @@ impl CachePolicy {
             (Req.seen request.now) (Res.seen response.now) response_time.nanosecond) }
         ensures only_memory { IsOkUnless result CacheError.Memory }
     {
-        let not_modified = is_selected(
-            self.stored_headers(),
-            response.status(),
-            response.headers(),
-        );
+        let not_modified = self.is_confirmed_by(response);
         let policy = self.policy_after(alloc, not_modified, request, response, response_time)?;
         Ok(NextPolicy {
             not_modified,
             policy,
         })
+    }
+
+    /// Returns whether a response is a 304 that selects the stored one: the test by which
+    /// `after_response` and `next_policy` tell that the stored body still holds (RFC 9111, section
+    /// 4.3.4).
+    pub fn is_confirmed_by<Res: ResponseLike>(&self, response: &Res) -> bool
+        ensures { result ≡ selects self.now (Res.seen response.now) }
+    {
+        is_selected(self.stored_headers(), response.status(), response.headers())
     }
 
     // The headers of the new response, or those of the stored one that it renews.

@@ -6,6 +6,7 @@ pub mod after;
 pub mod before;
 pub mod explain;
 pub mod policy;
+pub mod response_at;
 pub mod run;
 pub mod steps;
 pub mod stored;

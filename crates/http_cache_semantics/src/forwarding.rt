@@ -1,60 +1,48 @@
 //! What a proxy needs of messages that it passes on (RFC 7230, section 5.7).
-ghost use Rattle.std.specs.Prelude.{◌≡◌, map, IfOk, IsOkUnless};
+ghost use Rattle.std.specs.Prelude.{◌≡◌, option_map, option_and_then, IfOk, IsOkUnless};
+ghost use Rattle.http_cache_fields.specs.Text.{text_of};
 ghost use Rattle.http_cache_fields.specs.Headers.{headers_of};
-ghost use Rattle.http_cache_semantics.specs.Forwarding.{without_named, forwarded_headers};
+ghost use Rattle.http_cache_rules.specs.Dates.{when, second_start};
+ghost use Rattle.http_cache_rules.specs.Forwarding.{forwarded_headers};
+ghost use Rattle.http_cache_rules.specs.Joined.{joined_headers, joins};
 
 use http::HeaderMap;
-use http::header::CONNECTION;
+use http::header::HeaderValue;
 use http_cache_fields::CacheError;
 pub use http_cache_fields::headers::append;
-use http_cache_fields::headers::{copy_of_map, remove};
-use http_cache_fields::pieces::{Commas, pieces_under};
-pub use http_cache_rules::dates::print_date;
+pub use http_cache_rules::dates::{http_date, print_date};
+use http_cache_rules::{dates, forwarding, joined};
+use jiff::Timestamp;
 use std::alloc::Global;
 
-// They speak of one connection alone, whether Connection spells them or not.
-const CONNECTION_FIELDS: [&str; 9] = [
-    "connection",
-    "keep-alive",
-    "proxy-authenticate",
-    "proxy-authorization",
-    "proxy-connection",
-    "te",
-    "trailer",
-    "transfer-encoding",
-    "upgrade",
-];
-
-// Takes these names away.
-fn remove_all(headers: &mut HeaderMap, names: &[&str])
-    ensures { headers_of headers.new
-        ≡ without_named (map (λ name. name.now) names.now) (headers_of headers.old) }
-{
-    for name in names {
-        remove(headers, *name);
-    }
-}
-
-// Takes away the names that texts spell, in any case.
-fn remove_spelled(headers: &mut HeaderMap, spelled: Commas<'_>)
-    ensures { headers_of headers.new ≡ without_named spelled.entry (headers_of headers.old) }
-{
-    for name in spelled {
-        remove(headers, name);
-    }
-}
-
-/// The headers of a message as a proxy passes them on: all values of each name, but for what speaks
-/// of one connection alone and what Connection spells (RFC 7230, section 6.1). It is refused for
-/// want of memory alone.
-#[tactic(auto, unfolding(crate::specs::Forwarding::forwarded_headers))]
+/// Returns the headers of a message as a proxy passes them on: all values of each name, but not
+/// the names that concern one connection nor those that Connection lists (RFC 7230, section 6.1).
+///
+/// # Errors
+///
+/// Returns `Memory` if there is not enough memory.
 pub fn forwarded_headers(_alloc: Global, headers: &HeaderMap) -> Result<HeaderMap, CacheError>
     ensures value { IfOk result (λ out.
         headers_of out ≡ forwarded_headers (headers_of headers.now)) }
     ensures only_memory { IsOkUnless result CacheError.Memory }
 {
-    let mut out = copy_of_map(headers)?;
-    remove_all(&mut out, &CONNECTION_FIELDS);
-    remove_spelled(&mut out, pieces_under(headers, CONNECTION));
-    Ok(out)
+    Ok(forwarding::forwarded_headers(headers)?)
+}
+
+/// Returns the second that a field value names as a date, as the rules of lifetimes read it: by
+/// jiff's grammar of RFC 2822, with a final `GMT` read as `+0000`. Dates of RFC 850 and of asctime
+/// aren't read, and return `None`, as does a value that is no text.
+///
+/// # Errors
+///
+/// Returns `Memory` if there is not enough memory; a date of up to 62 bytes takes none.
+pub fn read_date(alloc: Global, value: &HeaderValue) -> Result<Option<Timestamp>, CacheError>
+    ensures value { IfOk result (λ date. option_map (λ d. d.nanosecond) date
+        ≡ option_map second_start (option_and_then when (text_of value.now.bytes))) }
+    ensures only_memory { IsOkUnless result CacheError.Memory }
+{
+    match value.to_str() {
+        Ok(text) => Ok(dates::read_date(alloc, text)?),
+        Err(_) => Ok(None),
+    }
 }

@@ -5,9 +5,9 @@ use Rattle.std.specs.FinMap as fin
 use Rattle.std.proofs.lemmas.List.{map_more}
 use Rattle.http_header.specs.Token.{lowercase}
 use Rattle.http_cache_fields.specs.Headers.{Headers, headers_of}
-use Rattle.http_cache_semantics.specs.Forwarding.{without_named}
-use Rattle.http_cache_semantics.proofs.ForwardingLemmas.{without_named-none, without_named-push}
-use Rattle.http_cache_semantics.proofs.forwarding.remove_all.Goals as goal
+use Rattle.http_cache_rules.specs.Forwarding.{without_named}
+use Rattle.http_cache_rules.proofs.ForwardingLemmas.{without_named-none, without_named-push}
+use Rattle.http_cache_rules.proofs.forwarding.remove_all.Goals as goal
 
 pub loop-name-init : goal.loop-name-init
 loop-name-init c = sym (without_named-none (headers_of c.args.headers.now))

@@ -1,12 +1,12 @@
 -- What Connection spells goes behind what speaks of one connection in any case.
 use Rattle.std.proofs.Common.{◌≡◌, ap, ◌∙◌}
 use Rattle.http_cache_fields.specs.Headers.{headers_of}
-use Rattle.http_cache_semantics.specs.Forwarding.{connection_fields, without_named, forwarded_headers}
-use Rattle.http_cache_semantics.proofs.forwarding.forwarded_headers.Goals as goal
+use Rattle.http_cache_rules.specs.Forwarding.{connection_fields, without_named, forwarded_headers}
+use Rattle.http_cache_rules.proofs.forwarding.forwarded_headers.Goals as goal
 
-pub returns-clause-value : goal.returns-clause-value
+pub returns : goal.returns
 unfolding forwarded_headers
-returns-clause-value c =
+returns c =
     let h = headers_of c.args.headers.now in
     let before : headers_of c.remove_all.new.headers ≡ without_named connection_fields h =
     c.remove_all.ensures ∙ ap (λ m. without_named connection_fields (headers_of m)) c.in_ok-out.ensures in

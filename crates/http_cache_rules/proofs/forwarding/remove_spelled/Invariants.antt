@@ -1,8 +1,8 @@
 -- While spelled names are taken out, the headers are without those so far.
 use Rattle.std.proofs.Common.{◌≡◌, map}
 use Rattle.http_cache_fields.specs.Headers.{headers_of}
-use Rattle.http_cache_semantics.specs.Forwarding.{without_named}
-use Rattle.http_cache_semantics.proofs.forwarding.remove_spelled.Given as goal
+use Rattle.http_cache_rules.specs.Forwarding.{without_named}
+use Rattle.http_cache_rules.proofs.forwarding.remove_spelled.Given as goal
 
 abbrev pub invariant-loop-name : goal.invariant-loop-name
 invariant-loop-name l =

@@ -8,7 +8,7 @@ use Rattle.http_header.specs.Token.{lowercase}
 use Rattle.http_cache_fields.specs.Headers.{Headers}
 use Rattle.http_cache_fields.proofs.HeadersLemmas.{ties, same_headers}
 use Rattle.http_cache_rules.specs.Filter.{is_spelled}
-use Rattle.http_cache_semantics.specs.Forwarding.{without_named}
+use Rattle.http_cache_rules.specs.Forwarding.{without_named}
 
 get-without_named : (texts : List (List ℕ)) (h : Headers) (name : List ℕ)
     → fin.get (without_named texts h) name ≡ cond (not (is_spelled texts name)) (fin.get h name) None

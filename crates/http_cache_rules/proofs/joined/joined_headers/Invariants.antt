@@ -1,0 +1,10 @@
+-- While lines are joined name by name, each is done already, or is still to come and untouched.
+use Rattle.std.proofs.Common.{List, ℕ}
+use Rattle.http_cache_fields.specs.Headers.{headers_of}
+use Rattle.http_cache_rules.proofs.JoinedLemmas.{joins}
+use Rattle.http_cache_rules.proofs.SweepLemmas.{IsSwept}
+use Rattle.http_cache_rules.proofs.joined.joined_headers.Given as goal
+
+abbrev pub invariant-loop-name : goal.invariant-loop-name
+invariant-loop-name l = (name : List ℕ)
+    → IsSwept joins (headers_of l.headers) (headers_of l.out) l.name-iterator name
