@@ -1,20 +1,22 @@
 -- One field line for each name.
 use Rattle.std.proofs.Common.{◌≡◌, ◌∙◌, ℕ, Bool, true, false, not, ◌||◌, List, [], ◌∷◌, ◌++◌, codes, bytes_eq}
-use Rattle.std.proofs.Common.{subst, slice_get, is_some, ◌-◌, length, length-drop, arith, Option, Some, None, option_map, unwrap_or, cond, refl, sym, ap, inl, inr}
+use Rattle.std.proofs.Common.{◌<◌, map, filter, subst, slice_get, is_some, ◌-◌, length, length-drop, arith, Option, Some, None, option_map, unwrap_or, cond, refl, sym, ap, inl, inr}
 use Rattle.std.specs.FinMap as fin
-use Rattle.std.specs.List.{list_all, flat_map}
+use Rattle.std.specs.List.{list_all, flat_map, slice_split, onto_first}
+use Rattle.std.proofs.lemmas.List.Splits.{length-slice_split}
 use Rattle.std.specs.Cmp.Lexicographic.{nat_list_cmp_total}
 use Rattle.std.proofs.lemmas.Bool.{cases_Bool}
 use Rattle.std.proofs.lemmas.List.Folds.{list_all-append}
 use Rattle.http_header.specs.Token.{is_visible_or_blank}
 use Rattle.std.proofs.lemmas.List.{append-nil, append_assoc, map-append}
 use Rattle.std.proofs.lemmas.Grind.{flat_map-append}
-use Rattle.http_cache_fields.specs.Text.{is_text}
+use Rattle.http_cache_fields.specs.Text.{is_text, is_comma, trim}
+use Rattle.http_cache_fields.specs.Directives.{directives, cache_control}
 use Rattle.std.proofs.lemmas.Slice.Eq.{bytes_eq-Decides}
 use Rattle.http_header.specs.FieldValue.{FieldValue, IsFieldValue}
 use Rattle.http_header.specs.HeaderMap.{Entries, IsHeaderMap, get_all, value_count}
-use Rattle.http_cache_fields.specs.Headers.{Headers, headers_of, bytes_of, values, last_only, set, ChangesUnder}
-use Rattle.http_cache_fields.specs.Pieces.{comma_and_text}
+use Rattle.http_cache_fields.specs.Headers.{Headers, headers_of, bytes_of, values, first, last_only, set, ChangesUnder}
+use Rattle.http_cache_fields.specs.Pieces.{comma_and_text, pieces, pieces_of_line, pieces_of_values, pieces_under}
 use Rattle.http_cache_fields.proofs.HeadersLemmas.{same_headers, non_empty, ties, get-headers_of}
 use Rattle.http_cache_fields.proofs.JoinLemmas.{text-is_value}
 use Rattle.http_cache_fields.proofs.TrimLemmas.{and-left, and-right}
@@ -95,7 +97,7 @@ pub joined_headers-by_sweep : (h out : Headers) → IsFilled h
     → ((name : List ℕ) → IsSwept joins h out [] name) → out ≡ joined_headers h
 joined_headers-by_sweep h out filled swept =
     same_headers out (joined_headers h)
-    (λ name. IsSwept-end joins joins-settle h out swept name ∙ sym (get-joined_headers h filled name))
+    (λ name. IsSwept-end joins joins-settle.again h out swept name ∙ sym (get-joined_headers h filled name))
 
 -- where no name has two lines nothing is left to do
 one_line : (name : List ℕ) (o : Option (List (List ℕ))) → o ≡ option_map last_only o → o ≡ joins name o
@@ -207,9 +209,106 @@ text_lines-text (line ∷ lines) all =
       text_lines-text lines (and-right (is_text line) _ all),
     ) refl
 
+joined_text-text : (lines : List (List ℕ)) → list_all is_text lines ≡ true → is_text (joined_text lines) ≡ true
+joined_text-text [] all = refl
+joined_text-text (line ∷ lines) all =
+    list_all-append is_visible_or_blank line (flat_map comma_and_text lines)
+    ∙ rw (and-left (is_text line) _ all, text_lines-text lines (and-right (is_text line) _ all)) refl
+
 pub joined_text-is_value : (lines : List (List ℕ)) → list_all is_text lines ≡ true → IsFieldValue (joined_text lines)
-joined_text-is_value [] all = text-is_value [] refl
-joined_text-is_value (line ∷ lines) all =
-    text-is_value (line ++ flat_map comma_and_text lines)
-    (list_all-append is_visible_or_blank line (flat_map comma_and_text lines)
-    ∙ rw (and-left (is_text line) _ all, text_lines-text lines (and-right (is_text line) _ all)) refl)
+joined_text-is_value lines all = text-is_value (joined_text lines) (joined_text-text lines all)
+
+-- ---- the pieces stay
+
+onto_first-append : (x : ℕ) (ps qs : List (List ℕ)) → 0 < length ps
+    → onto_first x (ps ++ qs) ≡ onto_first x ps ++ qs
+onto_first-append x [] qs some = absurd (omega arith)
+onto_first-append x (p ∷ ps) qs some = refl
+
+split-append : (xs ys : List ℕ)
+    → slice_split is_comma (xs ++ 44 ∷ ys) ≡ slice_split is_comma xs ++ slice_split is_comma ys
+split-append [] ys = refl
+split-append (x ∷ xs) ys = by (is_comma x) (split-append xs ys)
+  where
+    by : (b : Bool)
+        → slice_split is_comma (xs ++ 44 ∷ ys) ≡ slice_split is_comma xs ++ slice_split is_comma ys
+        → cond b ([] ∷ slice_split is_comma (xs ++ 44 ∷ ys)) (onto_first x (slice_split is_comma (xs ++ 44 ∷ ys)))
+        ≡ cond b ([] ∷ slice_split is_comma xs) (onto_first x (slice_split is_comma xs)) ++ slice_split is_comma ys
+    by true e = ap (λ (ps : List (List ℕ)). [] ∷ ps) e
+    by false e =
+        ap (onto_first x) e
+        ∙ onto_first-append x (slice_split is_comma xs) (slice_split is_comma ys)
+        (omega (arith, length-slice_split is_comma xs))
+
+trimmed-blank : (ps : List (List ℕ)) → 0 < length ps → map trim (onto_first 32 ps) ≡ map trim ps
+trimmed-blank [] some = absurd (omega arith)
+trimmed-blank (p ∷ ps) some = refl
+
+-- the pieces of two lines, joined
+pieces-behind : (xs ys : List ℕ)
+    → pieces_of_line (xs ++ comma_and_text ys) ≡ pieces_of_line xs ++ pieces_of_line ys
+pieces-behind xs ys =
+    ap (map trim) (split-append xs (32 ∷ ys))
+    ∙ map-append trim (slice_split is_comma xs) (slice_split is_comma (32 ∷ ys))
+    ∙ ap (λ (ps : List (List ℕ)). pieces_of_line xs ++ ps)
+    (trimmed-blank (slice_split is_comma ys) (omega (arith, length-slice_split is_comma ys)))
+
+pieces-joined : (line : List ℕ) (lines : List (List ℕ))
+    → pieces_of_line (line ++ flat_map comma_and_text lines) ≡ flat_map pieces_of_line (line ∷ lines)
+pieces-joined line [] = ap pieces_of_line (append-nil line) ∙ sym (append-nil (pieces_of_line line))
+pieces-joined line (next ∷ lines) =
+    pieces-behind line (next ++ flat_map comma_and_text lines)
+    ∙ ap (λ (ps : List (List ℕ)). pieces_of_line line ++ ps) (pieces-joined next lines)
+
+filter-all : (p : List ℕ → Bool) (xs : List (List ℕ)) → list_all p xs ≡ true → filter p xs ≡ xs
+filter-all p [] all = refl
+filter-all p (x ∷ xs) all = rw (and-left (p x) _ all, filter-all p xs (and-right (p x) _ all)) refl
+
+pieces-values : (name : List ℕ) (vs : List (List ℕ)) → is_singleton name ≡ false
+    → pieces_of_values (joined_values name vs) ≡ pieces_of_values vs
+pieces-values name [] single = refl
+pieces-values name (line ∷ lines) single =
+    by (bytes_eq name (codes "set-cookie")) (list_all is_text (line ∷ lines)) refl refl
+  where
+    by : (cookie all : Bool) → bytes_eq name (codes "set-cookie") ≡ cookie
+        → list_all is_text (line ∷ lines) ≡ all
+        → pieces_of_values (joined_values name (line ∷ lines)) ≡ pieces_of_values (line ∷ lines)
+    by true all c a = rw (single, c) refl
+    by false false c a = rw (single, c, a) refl
+    by false true c a =
+        let joined : joined_values name (line ∷ lines) ≡ joined_text (line ∷ lines) ∷ [] = rw (single, c, a) refl in
+        ap pieces_of_values joined
+        ∙ ap pieces (filter-all is_text (joined_text (line ∷ lines) ∷ [])
+        (rw (joined_text-text (line ∷ lines) a) refl))
+        ∙ append-nil (pieces_of_line (joined_text (line ∷ lines)))
+        ∙ pieces-joined line lines
+        ∙ sym (ap pieces (filter-all is_text (line ∷ lines) a))
+
+values-joined : (h : Headers) → IsFilled h → (name : List ℕ)
+    → values (joined_headers h) name ≡ joined_values name (values h name)
+values-joined h filled name = ap (λ o. unwrap_or o []) (get-joined_headers h filled name) ∙ by (fin.get h name)
+  where
+    by : (o : Option (List (List ℕ))) → unwrap_or (joins name o) [] ≡ joined_values name (unwrap_or o [])
+    by None = refl
+    by (Some vs) = refl
+
+-- under each name but those of singletons there are the same pieces
+pub pieces-joined_headers : (h : Headers) → IsFilled h → (name : List ℕ) → is_singleton name ≡ false
+    → pieces_under (joined_headers h) name ≡ pieces_under h name
+pieces-joined_headers h filled name single =
+    ap pieces_of_values (values-joined h filled name) ∙ pieces-values name (values h name) single
+
+-- and under a singleton the same first line
+pub first-joined_headers : (h : Headers) → IsFilled h → (name : List ℕ) → is_singleton name ≡ true
+    → first (joined_headers h) name ≡ first h name
+first-joined_headers h filled name single =
+    ap (λ (vs : List (List ℕ)). slice_get vs 0) (values-joined h filled name) ∙ by (values h name)
+  where
+    by : (vs : List (List ℕ)) → slice_get (joined_values name vs) 0 ≡ slice_get vs 0
+    by [] = refl
+    by (v ∷ vs) = rw single refl
+
+-- the directives are the same
+pub directives-joined_headers : (h : Headers) → IsFilled h → cache_control (joined_headers h) ≡ cache_control h
+unfolding is_singleton
+directives-joined_headers h filled = ap directives (pieces-joined_headers h filled (codes "cache-control") refl)

@@ -22,8 +22,8 @@ const CONNECTION_FIELDS: [&str; 9] = [
     "upgrade",
 ];
 
-// Takes these names away.
-fn remove_all(headers: &mut HeaderMap, names: &[&str])
+/// Removes these names.
+pub(crate) fn remove_all(headers: &mut HeaderMap, names: &[&str])
     ensures { headers_of headers.new
         ≡ without_named (map (λ name. name.now) names.now) (headers_of headers.old) }
 {

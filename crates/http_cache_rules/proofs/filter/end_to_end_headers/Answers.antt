@@ -26,7 +26,7 @@ loop-name-preserved c =
     let before : (name : List ℕ) → IsSwept swept_values h old (c.in-Some.name.now ∷ c.next.new.self) name =
     subst (λ (xs : List (List ℕ)). (name : List ℕ) → IsSwept swept_values h old xs name)
     c.in-Some.ensures.steps c.loop-name.invariant in
-    IsSwept-turn swept_values sweep-settles h old
+    IsSwept-turn swept_values sweep-settles.again h old
     (headers_of c.sweep.new.map) c.in-Some.name.now c.next.new.self before c.in_ok-sweep.ensures
 
 pub returns : goal.returns

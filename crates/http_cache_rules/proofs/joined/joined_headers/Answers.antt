@@ -32,7 +32,7 @@ loop-name-preserved c =
     let before : (name : List ℕ) → IsSwept joins h old (c.in-Some.name.now ∷ c.next.new.self) name =
     subst (λ (xs : List (List ℕ)). (name : List ℕ) → IsSwept joins h old xs name)
     c.in-Some.ensures.steps c.loop-name.invariant in
-    IsSwept-turn joins joins-settle h old
+    IsSwept-turn joins joins-settle.again h old
     (headers_of c.join_lines.new.map) c.in-Some.name.now c.next.new.self before c.in_ok-join_lines.ensures
 
 pub returns : goal.returns

@@ -32,7 +32,7 @@ loop-name-preserved c =
     let before : (name : List ℕ) → IsSwept keeps_last h old (c.in-Some.name.now ∷ c.next.new.self) name =
     subst (λ (xs : List (List ℕ)). (name : List ℕ) → IsSwept keeps_last h old xs name)
     c.in-Some.ensures.steps c.loop-name.invariant in
-    IsSwept-turn keeps_last last-settles h old
+    IsSwept-turn keeps_last last-settles.again h old
     (headers_of c.retain_last.new.map) c.in-Some.name.now c.next.new.self before c.in_ok-retain_last.ensures
 
 pub returns : goal.returns
