@@ -7,5 +7,6 @@ pub mod before;
 pub mod explain;
 pub mod policy;
 pub mod run;
+pub mod stale_use;
 pub mod steps;
 pub mod stored;
