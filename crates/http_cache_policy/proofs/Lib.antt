@@ -10,5 +10,6 @@ pub mod NextLemmas
 pub mod ReadLemmas
 pub mod RenewalLemmas
 pub mod RunLemmas
+pub mod StaleUseLemmas
 pub mod StopLemmas
 pub mod VaryLemmas

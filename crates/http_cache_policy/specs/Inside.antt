@@ -1,9 +1,10 @@
 -- What lies under a policy.
-use Rattle.std.specs.Prelude.{◌≡◌}
+use Rattle.std.specs.Prelude.{◌≡◌, codes}
 use Rattle.std.specs.Duration.{as_nanos}
+use Rattle.http_cache_fields.specs.Directives.{has}
 use Rattle.http_cache_rules.specs.StoredDirectives.{stored_directives_of}
 use Rattle.http_cache_rules.specs.Exchange.{Exchange, exchange_in}
-use Rattle.http_cache_policy.specs.Exchange.{stored_directives}
+use Rattle.http_cache_policy.specs.Exchange.{stored_directives, request_directives}
 use Rattle.http_cache_policy.specs.Kept.{kept_exchange}
 use Rattle.http_cache_rules.specs.Storing.{is_storable}
 use Rattle.http_cache_rules.specs.Lifetimes.{lifetime}
@@ -14,6 +15,7 @@ use Rattle.http_cache_policy.specs.declared.policy.CachePolicy.TheInside.{Inside
 
 -- what is read once of an exchange
 pub record IsFoundIn (e : Exchange) (f : Found) : Type 0 where
+  pub no_store : f.request_no_store ≡ has (request_directives e) (codes "no-store")
   pub directives : f.directives ≡ stored_directives_of (stored_directives e)
   pub storable : f.storable ≡ is_storable e
   pub received : f.received_age ≡ received_age e

@@ -17,6 +17,8 @@ pub mod Inside
 pub mod Match
 pub mod Verdict
 pub mod Bound
+pub mod StaleUse
+pub mod NotModified
 pub mod Explain
 pub mod Fresh
 pub mod Stale

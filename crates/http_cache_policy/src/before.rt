@@ -12,6 +12,7 @@ ghost use Rattle.http_cache_policy.specs.Stale.{IsStaleRequest};
 ghost use Rattle.http_cache_policy.specs.Run.{IsAnswer};
 ghost use Rattle.http_cache_policy.specs.Refused.{RefusesAnswer, HasUndatedAnswer};
 
+mod conditions;
 mod fresh;
 mod matching;
 mod origin;

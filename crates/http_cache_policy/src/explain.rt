@@ -42,7 +42,7 @@ impl CachePolicy {
         ensures value { result ≡ storability self.now }
         ensures storable { is_allowed result ≡ is_storable self.now }
     {
-        storability_of(self.parts(), self.directives())
+        storability_of(self.parts(), self.request_no_store(), self.directives())
     }
 
     /// Why the stored response isn't used for a request at a moment without validation, or that it

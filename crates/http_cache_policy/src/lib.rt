@@ -8,5 +8,6 @@ pub mod explain;
 pub mod policy;
 pub mod response_at;
 pub mod run;
+pub mod stale_use;
 pub mod steps;
 pub mod stored;

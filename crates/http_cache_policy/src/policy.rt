@@ -1,9 +1,10 @@
 //! A stored exchange: whether it may be stored, how old it is and how long it stays fresh.
-ghost use Rattle.std.specs.Prelude.{◌≡◌, ◌-◌, ℤ, ◌≤ℤ◌, ◌≤◌, ◌↔◌, true, IsTrue, IfOk, IsOkUnless};
+ghost use Rattle.std.specs.Prelude.{◌≡◌, ◌-◌, ℤ, ◌≤ℤ◌, ◌≤◌, ◌↔◌, true, codes, IsTrue, IfOk};
+ghost use Rattle.std.specs.Prelude.{IsOkUnless};
 ghost use Rattle.std.specs.Duration.{as_nanos};
 ghost use Rattle.http.specs.declared.version.TheConstants.Version.{HTTP_11};
 ghost use Rattle.http_cache_fields.specs.Headers.{headers_of};
-ghost use Rattle.http_cache_fields.specs.Directives.{cache_control};
+ghost use Rattle.http_cache_fields.specs.Directives.{cache_control, has};
 ghost use Rattle.http_cache_rules.specs.Options.{options_of, default_options};
 ghost use Rattle.http_cache_rules.specs.Exchange.{exchange_in};
 
@@ -11,8 +12,10 @@ mod like;
 
 use http::{HeaderMap, Method, StatusCode, Uri, Version, request};
 use http_cache_fields::CacheError;
+use http_cache_fields::directives::{CacheControl, directives_of_response};
 use http_cache_fields::headers::copy_of_map;
 use http_cache_fields::kept::keep;
+use http_cache_rules::asks::forbids_storing;
 use http_cache_rules::freshness::{Freshness, LifetimeSource};
 use http_cache_rules::lifetime::{elapsed_time, lifetime_of, received_age};
 pub use http_cache_rules::options::{CacheOptions, Fraction};
@@ -74,6 +77,7 @@ pub(crate) fn request_with(
 // What is read once of the parts, so that the answers below take no memory.
 #[derive(Clone, Copy, Debug)]
 struct Found {
+    request_no_store: bool,
     directives: StoredDirectives,
     storable: bool,
     received_age: u64,
@@ -87,10 +91,12 @@ impl Found {
     fn of(alloc: Global, parts: &StoredParts) -> Result<Found, AllocError>
         ensures { IfOk result (λ found. IsFoundIn (exchange_in parts.now) found) }
     {
+        let request_no_store = forbids_storing(&parts.request_headers);
         let directives = StoredDirectives::of(alloc, &parts.response_headers)?;
-        let storable = is_storable(parts, &directives);
+        let storable = is_storable(parts, request_no_store, &directives);
         let freshness = lifetime_of(alloc, storable, parts, &directives)?;
         Ok(Found {
+            request_no_store,
             directives,
             storable,
             received_age: received_age(&parts.response_headers),
@@ -102,7 +108,7 @@ impl Found {
 
 impl CachePolicy {
     ghost use Rattle.http_cache_fields.specs.CargoCult.{has_cargo_cult, without_cargo_cult};
-    ghost use Rattle.http_cache_policy.specs.Exchange.{exchange_of, stored_directives};
+    ghost use Rattle.http_cache_policy.specs.Exchange.{exchange_of, stored_directives, request_directives};
     ghost use Rattle.http_cache_policy.specs.Kept.{kept_exchange};
     ghost use Rattle.http_cache_rules.specs.Storing.{has_explicit_expiration};
     ghost use Rattle.http_cache_rules.specs.Storing.{is_storable};
@@ -280,6 +286,27 @@ impl CachePolicy {
         ensures { result.now ≡ stored_directives_of (stored_directives self.now) }
     {
         &self.found.directives
+    }
+
+    /// Whether the stored request forbids to store the response.
+    pub(crate) fn request_no_store(&self) -> bool
+        ensures { result ≡ has (request_directives self.now) (codes "no-store") }
+    {
+        self.found.request_no_store
+    }
+
+    /// Returns the directives by which the policy decides, in order: those of the stored response
+    /// after `ignore_cargo_cult`, and the `no-cache` of a Pragma that stands in for Cache-Control
+    /// (RFC 7234, sections 5.2 and 5.4). They are read anew from the stored headers at each call.
+    ///
+    /// # Errors
+    ///
+    /// `Memory` only.
+    pub fn stored_directives(&self, alloc: Global) -> Result<CacheControl, CacheError>
+        ensures value { IfOk result (λ directives. directives ≡ stored_directives self.now) }
+        ensures only_memory { IsOkUnless result CacheError.Memory }
+    {
+        Ok(directives_of_response(alloc, self.stored_headers())?)
     }
 
     /// How long the stored response stays fresh, and what decides that: the first row of the table

@@ -74,4 +74,5 @@ asked-by_directives ps = λ i. record {
   max_age = said-by_directive ps (codes "max-age") refl refl i;
   min_fresh = said-by_directive ps (codes "min-fresh") refl refl i;
   max_stale = said-by_directive ps (codes "max-stale") refl refl i;
+  stale_if_error = said-by_directive ps (codes "stale-if-error") refl refl i;
 }

@@ -138,8 +138,8 @@ module _ (ps : List (List ℕ)) (p : List ℕ) (asked : List Said) (others : Lis
       }
 
   -- of a name that has a place
-  pub told-placed : (d : Said) (o : Option (Option (List ℕ))) (s : Said) → length asked ≡ 9
-      → place asked_names n < 9 → o ≡ option_map option_copied (slice_index_or asked (place asked_names n) d)
+  pub told-placed : (d : Said) (o : Option (Option (List ℕ))) (s : Said) → length asked ≡ 11
+      → place asked_names n < 11 → o ≡ option_map option_copied (slice_index_or asked (place asked_names n) d)
       → option_map option_copied s ≡ Some (said_first o raw)
       → IsToldBy (ps ++ p ∷ []) (slice_set asked (place asked_names n) s) others (conflict || says_another o raw)
   told-placed d o s size inside old new =
@@ -175,7 +175,7 @@ module _ (ps : List (List ℕ)) (p : List ℕ) (asked : List Said) (others : Lis
       clash (Some v) f = (λ i. told.clash i || says_another (f i) raw)
 
   -- of any other name
-  pub told-beside : nat_lt (place asked_names n) 9 ≡ false
+  pub told-beside : nat_lt (place asked_names n) 11 ≡ false
       → (r : Reading) → r ≡ read_beside (record { first = others; conflict = conflict }) n raw (value_under others n)
       → IsToldBy (ps ++ p ∷ []) asked r.first r.conflict
   told-beside past r more =
@@ -235,14 +235,14 @@ found_nowhere true j e = absurd (cc)
 found_nowhere false j e = refl
 
 -- a name that the rules ask for has bytes
-asked-named : (n : List ℕ) → nat_lt (place asked_names n) 9 ≡ true → nat_lt 0 (length n) ≡ true
+asked-named : (n : List ℕ) → nat_lt (place asked_names n) 11 ≡ true → nat_lt 0 (length n) ≡ true
 asked-named [] inside = let no : false ≡ true = inside in cc
 asked-named (b ∷ bs) inside = grind (arith, nat_tests)
 
 module _ (ps : List (List ℕ)) (p : List ℕ) (asked : List Said) (others : List Directive) (conflict : Bool)
     (told : IsToldBy ps asked others conflict) where
   -- one of a name that the rules ask for goes to its place, where it is the first
-  pub told-asked : (k : ℕ) (d s : Said) (c : Bool) → length asked ≡ 9
+  pub told-asked : (k : ℕ) (d s : Said) (c : Bool) → length asked ≡ 11
       → position (bytes_eq (name_of p)) asked_names ≡ Some k
       → option_map option_copied s
       ≡ Some (said_first (option_map option_copied (slice_index_or asked k d)) (raw_value_of p))
@@ -279,7 +279,7 @@ module _ (ps : List (List ℕ)) (p : List ℕ) (asked : List Said) (others : Lis
 
 -- in the end it is what all pieces say
 pub told-all : (pieces : List (List ℕ)) (asked : List Said) (others : List Directive) (conflict : Bool)
-    → length asked ≡ 9 → IsToldBy (filter has_name pieces) asked others conflict → IsTold pieces asked conflict
+    → length asked ≡ 11 → IsToldBy (filter has_name pieces) asked others conflict → IsTold pieces asked conflict
 told-all pieces asked others conflict size told =
     record {
       sized = size;

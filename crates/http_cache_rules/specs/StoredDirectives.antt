@@ -16,4 +16,6 @@ stored_directives_of ds = record {
   immutable = has ds (codes "immutable");
   s_maxage = delta_seconds_under ds (codes "s-maxage");
   max_age = delta_seconds_under ds (codes "max-age");
+  stale_while_revalidate = delta_seconds_under ds (codes "stale-while-revalidate");
+  stale_if_error = delta_seconds_under ds (codes "stale-if-error");
 }

@@ -13,7 +13,8 @@ use Rattle.http_cache_fields.specs.Directives.{first_directives, has_conflict}
 abbrev pub asked_names : List (List ℕ)
 asked_names =
     codes "no-store" ∷ codes "no-cache" ∷ codes "private" ∷ codes "public" ∷ codes "must-revalidate"
-    ∷ codes "proxy-revalidate" ∷ codes "immutable" ∷ codes "s-maxage" ∷ codes "max-age" ∷ []
+    ∷ codes "proxy-revalidate" ∷ codes "immutable" ∷ codes "s-maxage" ∷ codes "max-age"
+    ∷ codes "stale-while-revalidate" ∷ codes "stale-if-error" ∷ []
 
 -- what the first directive of a name says, if there is one
 abbrev pub Said : Type 0
@@ -49,8 +50,8 @@ place_of name = position_or_len (bytes_eq name) asked_names
 
 -- at each place stands what pieces say under its name; those without a name don't count
 pub record IsTold (pieces : List (List ℕ)) (asked : List Said) (conflict : Bool) : Type 0 where
-  pub sized : length asked ≡ 9
-  pub under : (name : List ℕ) → nat_lt (place_of name) 9 ≡ true
+  pub sized : length asked ≡ 11
+  pub under : (name : List ℕ) → nat_lt (place_of name) 11 ≡ true
       → option_map option_copied (slice_index_or asked (place_of name) None)
       ≡ value_under (first_directives (filter has_name pieces)) name
   pub clash : conflict ≡ has_conflict (filter has_name pieces)

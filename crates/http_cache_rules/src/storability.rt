@@ -1,10 +1,10 @@
 //! Why a response may be stored, or may not (RFC 7234, section 3).
-ghost use Rattle.std.specs.Prelude.{◌≡◌, is_none};
-ghost use Rattle.http_cache_rules.specs.Exchange.{exchange_in, stored_directives};
+ghost use Rattle.std.specs.Prelude.{◌≡◌, is_none, codes};
+ghost use Rattle.http_cache_fields.specs.Directives.{has};
+ghost use Rattle.http_cache_rules.specs.Exchange.{exchange_in, stored_directives, request_directives};
 ghost use Rattle.http_cache_rules.specs.StoredDirectives.{stored_directives_of};
 ghost use Rattle.http_cache_rules.specs.Storability.{permission, obstacles, storability};
 
-use crate::asks::forbids_storing;
 use crate::parts::StoredParts;
 use crate::storable::{
     allows_authorized, has_explicit_expiration, is_method_cacheable,
@@ -151,17 +151,20 @@ fn permission_of(parts: &StoredParts, directives: &StoredDirectives) -> Option<P
 // Which conditions forbid to store the response, by whether nothing lets it be stored too.
 fn obstacles_of(
     parts: &StoredParts,
+    request_no_store: bool,
     directives: &StoredDirectives,
     no_permission: bool,
 ) -> Obstacles
     ensures { no_permission ≡ is_none (permission (exchange_in parts.now))
+        → request_no_store
+        ≡ has (request_directives (exchange_in parts.now)) (codes "no-store")
         → directives.now ≡ stored_directives_of (stored_directives (exchange_in parts.now))
         → result ≡ obstacles (exchange_in parts.now) }
 {
     let shared = parts.options.shared;
     let authorized = contains_key(&parts.request_headers, AUTHORIZATION);
     Obstacles {
-        request_no_store: forbids_storing(&parts.request_headers),
+        request_no_store,
         method: !is_method_cacheable(&parts.method, has_explicit_expiration(parts, directives)),
         status: !is_status_understood(parts.status),
         response_no_store: directives.no_store,
@@ -171,14 +174,21 @@ fn obstacles_of(
     }
 }
 
-/// Why the response may be stored, or may not, by its directives too.
+/// Why the response may be stored, or may not, by whether its request says `no-store` and by its
+/// directives.
 #[tactic(auto, unfolding(crate::specs::Storability::storability))]
-pub fn storability_of(parts: &StoredParts, directives: &StoredDirectives) -> Storability
-    ensures { directives.now ≡ stored_directives_of (stored_directives (exchange_in parts.now))
+pub fn storability_of(
+    parts: &StoredParts,
+    request_no_store: bool,
+    directives: &StoredDirectives,
+) -> Storability
+    ensures { request_no_store
+        ≡ has (request_directives (exchange_in parts.now)) (codes "no-store")
+        → directives.now ≡ stored_directives_of (stored_directives (exchange_in parts.now))
         → result ≡ storability (exchange_in parts.now) }
 {
     let permission = permission_of(parts, directives);
-    let obstacles = obstacles_of(parts, directives, permission.is_none());
+    let obstacles = obstacles_of(parts, request_no_store, directives, permission.is_none());
     match permission {
         Some(permission) if !obstacles.is_any() => Storability::Allowed(permission),
         _ => Storability::Forbidden(obstacles),

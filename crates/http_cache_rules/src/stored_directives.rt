@@ -13,7 +13,7 @@ use http_cache_fields::pragma::pragma_stands_in;
 use http_header::HeaderMap;
 use std::alloc::{AllocError, Global};
 
-/// What storability and the lifetime ask of the directives, found once.
+/// What storability, the lifetime and the use of a stale response ask of the directives, found once.
 #[derive(Clone, Copy, Debug)]
 pub struct StoredDirectives {
     /// Whether no-store is there.
@@ -34,6 +34,10 @@ pub struct StoredDirectives {
     pub s_maxage: DeltaSeconds,
     /// What max-age says.
     pub max_age: DeltaSeconds,
+    /// What stale-while-revalidate says (RFC 5861, section 3).
+    pub stale_while_revalidate: DeltaSeconds,
+    /// What stale-if-error says (RFC 5861, section 4).
+    pub stale_if_error: DeltaSeconds,
 }
 
 // What a directive says that counts seconds, if it is there.
@@ -47,7 +51,7 @@ fn delta_seconds(said: Said<'_>) -> DeltaSeconds
 }
 
 // What directives say that were read, where a Pragma may say no-cache.
-fn found_in(asked: [Said<'_>; 9], conflict: bool, no_cache: bool) -> StoredDirectives
+fn found_in(asked: [Said<'_>; 11], conflict: bool, no_cache: bool) -> StoredDirectives
     ensures { (pieces : List (List ℕ)) → IsTold pieces asked.entry conflict
         → result ≡ stored_directives_of (with_no_cache no_cache (directives pieces)) }
 {
@@ -61,6 +65,8 @@ fn found_in(asked: [Said<'_>; 9], conflict: bool, no_cache: bool) -> StoredDirec
         immutable: asked[6].is_some(),
         s_maxage: delta_seconds(asked[7]),
         max_age: delta_seconds(asked[8]),
+        stale_while_revalidate: delta_seconds(asked[9]),
+        stale_if_error: delta_seconds(asked[10]),
     }
 }
 

@@ -16,7 +16,7 @@ use http_header::{CACHE_CONTROL, HeaderMap};
 use std::alloc::{AllocError, Global};
 
 // The names that the rules ask for.
-const ASKED: [&str; 9] = [
+const ASKED: [&str; 11] = [
     "no-store",
     "no-cache",
     "private",
@@ -26,6 +26,8 @@ const ASKED: [&str; 9] = [
     "immutable",
     "s-maxage",
     "max-age",
+    "stale-while-revalidate",
+    "stale-if-error",
 ];
 
 /// What the first directive of a name says, if there is one.
@@ -62,11 +64,11 @@ fn says_another(said: Said<'_>, value: Option<&str>) -> bool
 
 /// What the Cache-Control lines of a map say under the names that the rules ask for, in their
 /// order, and whether any name comes again with another value.
-pub fn told_by(alloc: Global, headers: &HeaderMap) -> Result<([Said<'_>; 9], bool), AllocError>
+pub fn told_by(alloc: Global, headers: &HeaderMap) -> Result<([Said<'_>; 11], bool), AllocError>
     ensures { IfOk result (λ told.
         IsTold (pieces_under (headers_of headers.now) (codes "cache-control")) told.0 told.1) }
 {
-    let mut asked = [None; 9];
+    let mut asked = [None; 11];
     let mut others = Reading::new(alloc);
     for piece in pieces_under(headers, CACHE_CONTROL) {
         let (name, value) = split_piece(piece);

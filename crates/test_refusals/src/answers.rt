@@ -211,6 +211,14 @@ pub fn are_directives(read: &CacheControl) -> bool {
         && read.get("public") == Some(None)
 }
 
+/// The directives of the policy, without those of cargo cult.
+pub fn are_stored(read: &CacheControl) -> bool {
+    read.len() == 3
+        && read.get("max-age") == Some(Some("10"))
+        && read.get("a") == Some(Some("b c"))
+        && read.get("public") == Some(None)
+}
+
 /// What the steps come to, from the policy of the exchange on.
 pub fn are_outcomes(outcomes: &[Outcome]) -> bool {
     match outcomes {

@@ -6,6 +6,7 @@ pub enum Call {
     New,
     NewOptions,
     TryClone,
+    StoredDirectives,
     Parse,
     Format,
     /// `before_request`, with an answer that is fresh.
@@ -45,10 +46,11 @@ pub enum Call {
 }
 
 /// Each call once.
-pub const CALLS: [Call; 24] = [
+pub const CALLS: [Call; 25] = [
     Call::New,
     Call::NewOptions,
     Call::TryClone,
+    Call::StoredDirectives,
     Call::Parse,
     Call::Format,
     Call::Fresh,

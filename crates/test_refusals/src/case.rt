@@ -1,8 +1,8 @@
 //! The exchange on which the calls are made.
 use crate::answers::{
     FIVE_SECONDS, PLAIN, UNMATCHED, UNMATCHED_HEAD, VALIDATED, are_directives, are_outcomes,
-    are_outcomes_of_example, are_passed_on, chooses_fresh, chooses_validated, is_at, is_fresh,
-    is_stale, is_unstorable_at, renews, replaces,
+    are_outcomes_of_example, are_passed_on, are_stored, chooses_fresh, chooses_validated, is_at,
+    is_fresh, is_stale, is_unstorable_at, renews, replaces,
 };
 use crate::call::Call;
 use cache_script::{Script, Step, UnreadScript, script_from_bytes};
@@ -307,6 +307,7 @@ impl Case {
                 self.makes_policy(alloc, call)
             }
             Call::Parse | Call::Format => self.reads_directives(alloc, call),
+            Call::StoredDirectives => self.lists_directives(alloc),
             Call::Fresh
             | Call::Validated
             | Call::Unmatched
@@ -387,6 +388,10 @@ impl Case {
     pub(crate) fn directives(&self, alloc: Global) -> Result<CacheControl, CacheError> {
         let values = self.script.response.headers.get_all("cache-control");
         parse_cache_control(alloc, values)
+    }
+
+    fn lists_directives(&self, alloc: Global) -> Result<bool, CacheError> {
+        Ok(are_stored(&self.policy.stored_directives(alloc)?))
     }
 
     fn reads_directives(&self, alloc: Global, call: Call) -> Result<bool, CacheError> {

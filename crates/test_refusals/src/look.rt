@@ -34,6 +34,10 @@ pub enum Look {
     FreshAt,
     /// The same.
     Explain,
+    /// Of a request that is to be validated, where no use of a stale response is allowed.
+    StaleUse,
+    /// Of a request whose If-None-Match has another tag.
+    IsNotModifiedFor,
     SatisfiesWithoutRevalidation,
     GetStr,
     /// With each step to the end.
@@ -67,7 +71,7 @@ pub enum Look {
 }
 
 /// Each of these calls once.
-pub const LOOKS: [Look; 38] = [
+pub const LOOKS: [Look; 40] = [
     Look::IsStorable,
     Look::Age,
     Look::TimeToLive,
@@ -82,6 +86,8 @@ pub const LOOKS: [Look; 38] = [
     Look::MatchesRequest,
     Look::FreshAt,
     Look::Explain,
+    Look::StaleUse,
+    Look::IsNotModifiedFor,
     Look::SatisfiesWithoutRevalidation,
     Look::GetStr,
     Look::GetAllComma,
@@ -136,12 +142,15 @@ fn is_right_of_stored(case: &Case, look: Look) -> bool {
     }
 }
 
-// Whether the request of a step matches, and whether it is answered without validation.
+// What the policy tells of the request of a step: whether it matches, is answered without validation,
+// may be answered by a stale response after an error, or by a 304.
 fn told_at(case: &Case, place: usize, look: Look) -> Option<bool> {
     match case.script().steps.get(place) {
         Some(Step::Ask { request, moment }) => Some(match look {
             Look::FreshAt => case.policy().fresh_at(request, *moment),
             Look::Explain => case.policy().explain(request, *moment).reason.is_none(),
+            Look::StaleUse => case.policy().stale_use(request, *moment).if_error,
+            Look::IsNotModifiedFor => case.policy().is_not_modified_for(request),
             _ => case.policy().matches_request(request),
         }),
         _ => None,
@@ -267,6 +276,7 @@ fn is_right_of_exchange(alloc: Global, case: &Case, look: Look) -> bool {
         Look::MatchesRequest | Look::FreshAt | Look::Explain => {
             told_at(case, 0, look) == Some(true) && told_at(case, 6, look) == Some(false)
         }
+        Look::StaleUse | Look::IsNotModifiedFor => { told_at(case, 2, look) == Some(false) }
         Look::Fraction | Look::DefaultOptions => is_right_of_options(look),
         Look::NewVariants => is_right_of_new(alloc),
         Look::PrintDate => is_right_of_dates() == Ok(true),

@@ -4,6 +4,8 @@
 #[cfg(test)]
 mod chains;
 #[cfg(test)]
+mod conditions;
+#[cfg(test)]
 mod errors;
 #[cfg(test)]
 mod explanations;
@@ -11,6 +13,8 @@ mod explanations;
 mod own_messages;
 #[cfg(test)]
 mod parse_cache_control;
+#[cfg(test)]
+mod stale_uses;
 #[cfg(test)]
 mod stored_form;
 #[cfg(test)]

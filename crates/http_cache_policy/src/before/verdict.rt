@@ -37,8 +37,8 @@ fn lesser(one: Option<u128>, other: Option<u128>) -> Option<u128>
     }
 }
 
-// Whether an age is below a bound, if there is one.
-fn is_below(bound: Option<u128>, age: u128) -> bool
+/// Whether an age is below a bound, if there is one.
+pub(crate) fn is_below(bound: Option<u128>, age: u128) -> bool
     ensures { result ≡ is_below bound age }
 {
     match bound {
@@ -79,8 +79,8 @@ impl CachePolicy {
         !(asked.no_cache || pragma_forbids(headers)) && is_below(self.bound(&asked), age.as_nanos())
     }
 
-    // The bound below which the age must be, if there is one.
-    fn bound(&self, asked: &Asked) -> Option<u128>
+    /// The bound below which the age must be, if there is one.
+    pub(crate) fn bound(&self, asked: &Asked) -> Option<u128>
         ensures { (asks : Asks) → asked.now ≡ asked_of (asked_directives asks)
             → result ≡ bound self.now asks }
     {

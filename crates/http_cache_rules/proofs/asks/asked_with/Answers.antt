@@ -28,4 +28,7 @@ returns c = λ ps asked.
       max_stale =
           c.said_with-3.ensures ps p (ap (λ a. a.max_stale) asked)
           c.split_piece.ensures.name c.split_piece.ensures.value i;
+      stale_if_error =
+          c.said_with-4.ensures ps p (ap (λ a. a.stale_if_error) asked)
+          c.split_piece.ensures.name c.split_piece.ensures.value i;
     })

@@ -18,7 +18,7 @@ returns c = λ pieces told.
     let conflict = has_conflict ps in
     let clash = told.clash in
     let left = found-other said conflict ds in
-    let there = λ (n : List ℕ) (inside : nat_lt (place_of n) 9 ≡ true).
+    let there = λ (n : List ℕ) (inside : nat_lt (place_of n) 11 ≡ true).
     is_some-copied (slice_index_or asked (place_of n) None) ∙ ap is_some (told.under n inside) in
     let no_cache : c.if-no_cache.result ≡ (said || has ds (codes "no-cache")) =
     elim c.if-no_cache.branch [
@@ -34,9 +34,9 @@ returns c = λ pieces told.
       | else-conflict w ↦ w.result-is ∙ w.is_some-else-conflict.ensures ∙ there (codes "must-revalidate") refl
           ∙ ap (λ (b : Bool). b || has ds (codes "must-revalidate")) (sym w.if-conflict.false ∙ clash)
     ] in
-    let has_left = λ (n : List ℕ) (inside : nat_lt (place_of n) 9 ≡ true) (e : bytes_eq n (codes "no-cache") ≡ false)
+    let has_left = λ (n : List ℕ) (inside : nat_lt (place_of n) 11 ≡ true) (e : bytes_eq n (codes "no-cache") ≡ false)
     (f : bytes_eq n (codes "must-revalidate") ≡ false). there n inside ∙ ap is_some (sym (left n e f)) in
-    let said_left = λ (n : List ℕ) (inside : nat_lt (place_of n) 9 ≡ true) (e : bytes_eq n (codes "no-cache") ≡ false)
+    let said_left = λ (n : List ℕ) (inside : nat_lt (place_of n) 11 ≡ true) (e : bytes_eq n (codes "no-cache") ≡ false)
     (f : bytes_eq n (codes "must-revalidate") ≡ false). ap said_by_value (told.under n inside ∙ sym (left n e f)) in
     λ i. record {
       no_store = (c.is_some.ensures ∙ has_left (codes "no-store") refl refl refl) i;
@@ -48,4 +48,7 @@ returns c = λ pieces told.
       immutable = (c.is_some-5.ensures ∙ has_left (codes "immutable") refl refl refl) i;
       s_maxage = (c.delta_seconds.ensures ∙ said_left (codes "s-maxage") refl refl refl) i;
       max_age = (c.delta_seconds-2.ensures ∙ said_left (codes "max-age") refl refl refl) i;
+      stale_while_revalidate =
+          (c.delta_seconds-3.ensures ∙ said_left (codes "stale-while-revalidate") refl refl refl) i;
+      stale_if_error = (c.delta_seconds-4.ensures ∙ said_left (codes "stale-if-error") refl refl refl) i;
     }

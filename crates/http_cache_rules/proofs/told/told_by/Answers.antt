@@ -23,7 +23,7 @@ loop-piece-preserved-in-Some-place_of c =
     let p = c.in-Some.piece in
     let asked = c.loop-piece.asked in
     let k = c.in-Some-place_of.place in
-    let size : length asked ≡ 9 = c.loop-piece.invariant.2 in
+    let size : length asked ≡ 11 = c.loop-piece.invariant.2 in
     let at : position (bytes_eq (name_of p.now)) asked_names ≡ Some k =
     ap (λ (n : List ℕ). position (bytes_eq n) asked_names) (sym c.split_piece.ensures.name)
     ∙ sym c.place_of.ensures ∙ c.in-Some-place_of.is in

@@ -7,5 +7,5 @@ use Rattle.http_cache_rules.proofs.told.told_by.Given as goal
 abbrev pub invariant-loop-piece : goal.invariant-loop-piece
 invariant-loop-piece l =
     (goal.iterator-loop-piece).can_next l.piece-iterator
-    × (goal.iterator-loop-piece).is_finite l.piece-iterator × (length l.asked ≡ 9)
+    × (goal.iterator-loop-piece).is_finite l.piece-iterator × (length l.asked ≡ 11)
     × IsToldBy (named l.yielded) l.asked l.others.first l.others.conflict

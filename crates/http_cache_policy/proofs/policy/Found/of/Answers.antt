@@ -12,9 +12,11 @@ unfolding received_age
 returns c =
     let e : Exchange = exchange_in c.args.parts.now in
     let directives = c.in_ok-directives.ensures in
-    let storable : c.is_storable-storable.result ≡ is_storable e = c.is_storable-storable.ensures directives in
+    let storable : c.is_storable-storable.result ≡ is_storable e =
+    c.is_storable-storable.ensures c.forbids_storing-request_no_store.ensures directives in
     let fresh = c.in_ok-freshness.ensures storable directives in
     record {
+      no_store = c.forbids_storing-request_no_store.ensures;
       directives = directives;
       storable = storable;
       received = c.received_age.ensures;

@@ -1,0 +1,27 @@
+//! Whether a 304 answers a request's own conditions (RFC 9110, section 13.2.2).
+ghost use Rattle.std.specs.Prelude.{◌≡◌, true};
+ghost use Rattle.http_cache_rules.specs.Conditions.{is_conditional};
+ghost use Rattle.http_cache_policy.specs.NotModified.{is_not_modified_for};
+
+use crate::policy::{CachePolicy, RequestLike};
+use http::{Method, StatusCode};
+use http_cache_rules::conditions::has_stored_already;
+
+impl CachePolicy {
+    /// Returns whether a 304 answers the request's own conditions, by the stored response.
+    ///
+    /// That is for GET and HEAD and a stored 200. If-None-Match counts by weak comparison, or else
+    /// If-Modified-Since against the stored Last-Modified, or Date where there is none (RFC 9110,
+    /// sections 13.1.2, 13.1.3 and 13.2.2, and RFC 9111, section 4.3.2). Ask it only where the
+    /// response may be used, or was validated: whether the request matches isn't looked at.
+    #[tactic(auto, unfolding(crate::specs::NotModified::is_not_modified_for))]
+    pub fn is_not_modified_for<Req: RequestLike>(&self, req: &Req) -> bool
+        ensures value { result ≡ is_not_modified_for self.now (Req.seen req.now) }
+        ensures conditional { result ≡ true → is_conditional (Req.seen req.now).headers ≡ true }
+        ensures stored_ok { result ≡ true → self.now.status ≡ 200 }
+    {
+        (*req.method() == Method::GET || *req.method() == Method::HEAD)
+            && self.stored_status() == StatusCode::OK
+            && has_stored_already(self.stored_headers(), req.headers())
+    }
+}

@@ -1,0 +1,155 @@
+//! What the conditions of a request say of a stored response (RFC 9110, sections 13.1 and 13.2.2).
+//! Nothing here allocates.
+ghost use Rattle.std.specs.Prelude.{◌≡◌, ◌∷◌, ◌<◌, [], ℕ, List, length, bytes_eq, option_copied, MatchOption};
+ghost use Rattle.std.specs.Prelude.{option_map, unwrap_or, false, codes};
+ghost use Rattle.std.specs.List.{list_any};
+ghost use Rattle.httpdate.specs.Date.{parse_secs};
+ghost use Rattle.http_cache_fields.specs.Headers.{headers_of, values, first_text};
+ghost use Rattle.http_cache_fields.specs.Pieces.{text_lines};
+ghost use Rattle.http_cache_rules.specs.Conditions.{opaque_tags, has_tag, names_stored, only_text, asked_since};
+ghost use Rattle.http_cache_rules.specs.Conditions.{last_change, is_unchanged, has_stored_already};
+
+use http::header::{DATE, ETAG, IF_MODIFIED_SINCE, IF_NONE_MATCH, LAST_MODIFIED};
+use http::{HeaderMap, HeaderValue};
+use http_cache_fields::headers::{contains_key, first_text};
+use http_cache_fields::text::trim;
+use httpdate::HttpDate;
+
+// The first opaque tag of a text, and what follows its second quote.
+fn first_tag(text: &str) -> Option<(&str, &str)>
+    ensures { MatchOption result (opaque_tags text.now ≡ [])
+        (λ cut. (opaque_tags text.now ≡ cut.0.now ∷ opaque_tags cut.1.now)
+        × (length cut.1.now < length text.now)) }
+{
+    match text.split_once('"') {
+        Some((_, after)) => after.split_once('"'),
+        None => None,
+    }
+}
+
+// Whether a line has an opaque tag.
+fn has_opaque(line: &str, opaque: &str) -> bool
+    ensures { result ≡ list_any (bytes_eq opaque.now) (opaque_tags line.now) }
+{
+    let mut rest = line;
+    while let Some((found, after)) = first_tag(rest) {
+        if opaque == found {
+            return true;
+        }
+        rest = after;
+    }
+    false
+}
+
+// Whether a line has a stored tag by weak comparison (RFC 9110, section 8.8.3.2).
+fn has_tag(line: &str, tag: &str) -> bool
+    ensures { result ≡ has_tag line.now tag.now }
+{
+    match first_tag(tag) {
+        Some((opaque, _)) => has_opaque(line, opaque),
+        None => trim(line) == trim(tag),
+    }
+}
+
+// Whether a line of If-None-Match names the stored response (RFC 9110, section 13.1.2).
+fn names_stored(tag: Option<&str>, line: &str) -> bool
+    ensures { result ≡ names_stored (option_copied tag.entry) line.now }
+{
+    if trim(line) == "*" {
+        return true;
+    }
+    match tag {
+        Some(tag) => has_tag(line, tag),
+        None => false,
+    }
+}
+
+// Whether a value of If-None-Match is text, and names the stored response.
+fn is_named_by(value: &HeaderValue, tag: Option<&str>) -> bool
+    ensures { result ≡ list_any (names_stored (option_copied tag.entry))
+        (text_lines (value.now.bytes ∷ [])) }
+{
+    match value.to_str() {
+        Ok(line) => names_stored(tag, line),
+        Err(_) => false,
+    }
+}
+
+// Whether a line of If-None-Match names the stored response.
+fn is_named(request: &HeaderMap, tag: Option<&str>) -> bool
+    ensures { result ≡ list_any (names_stored (option_copied tag.entry))
+        (text_lines (values (headers_of request.now) (codes "if-none-match"))) }
+{
+    let mut lines = request.get_all(IF_NONE_MATCH).iter();
+    while let Some(value) = lines.next() {
+        if is_named_by(value, tag) {
+            return true;
+        }
+    }
+    false
+}
+
+// The only If-Modified-Since, if it is text.
+fn only_date(request: &HeaderMap) -> Option<&str>
+    ensures { option_copied result
+        ≡ only_text (headers_of request.now) (codes "if-modified-since") }
+{
+    let mut lines = request.get_all(IF_MODIFIED_SINCE).iter();
+    let Some(only) = lines.next() else {
+        return None;
+    };
+    match lines.next() {
+        Some(_) => None,
+        None => only.to_str().ok(),
+    }
+}
+
+// The second of a date in any of the three forms of HTTP (RFC 9110, section 5.6.7).
+fn second_of(text: &str) -> Option<u64>
+    ensures { result ≡ parse_secs text.now }
+{
+    match HttpDate::parse_ascii(text.as_bytes()) {
+        Ok(date) => Some(date.unix_secs()),
+        Err(_) => None,
+    }
+}
+
+// The second since which the request asks for changes.
+fn asked_since(request: &HeaderMap) -> Option<u64>
+    ensures { result ≡ asked_since (headers_of request.now) }
+{
+    second_of(only_date(request)?)
+}
+
+// The second of the last change that the stored response tells.
+fn last_change(stored: &HeaderMap) -> Option<u64>
+    ensures { result ≡ last_change (headers_of stored.now) }
+{
+    match first_text(stored, LAST_MODIFIED) {
+        Some(modified) => second_of(modified),
+        None => second_of(first_text(stored, DATE)?),
+    }
+}
+
+// Whether both seconds are known, and the change isn't after the other.
+fn is_unchanged(changed: Option<u64>, since: Option<u64>) -> bool
+    ensures { result ≡ is_unchanged changed since }
+{
+    match (changed, since) {
+        (Some(changed), Some(since)) => changed <= since,
+        _ => false,
+    }
+}
+
+/// Returns whether the conditions of a request say that it has the stored response already, by the
+/// stored headers: If-None-Match, and only where there is none If-Modified-Since (RFC 9110, section
+/// 13.2.2). The method and the status aren't looked at.
+#[tactic(auto, unfolding(crate::specs::Conditions::has_stored_already))]
+pub fn has_stored_already(stored: &HeaderMap, request: &HeaderMap) -> bool
+    ensures { result ≡ has_stored_already (headers_of stored.now) (headers_of request.now) }
+{
+    if contains_key(request, IF_NONE_MATCH) {
+        return is_named(request, first_text(stored, ETAG));
+    }
+    is_unchanged(last_change(stored), asked_since(request))
+}
