@@ -32,9 +32,9 @@ pub enum BeforeRequest {
     Fresh(response::Parts),
     /// The origin is to be asked.
     Stale {
-        /// The request that asks the origin about the stored response: its target and its method
-        /// are the stored ones. Where `matches` is false it asks for another page than the incoming
-        /// request does, so send that one as it is.
+        /// The request that validates the stored response at the origin: its target and its method
+        /// are the stored ones. If `matches` is false it asks for another page than the incoming
+        /// request does, so forward the incoming request instead.
         request: request::Parts,
         /// Whether the stored response answers the request, once it is validated.
         matches: bool,

@@ -230,7 +230,8 @@ impl CachePolicy {
         self.parts.status
     }
 
-    /// The headers of the stored response, as it came, but for what `ignore_cargo_cult` takes away.
+    /// Returns the headers of the stored response: those received, with what later 304 responses
+    /// renewed, and without what `ignore_cargo_cult` removes.
     pub fn stored_headers(&self) -> &HeaderMap
         ensures { headers_of result.now ≡ self.now.response_headers }
     {

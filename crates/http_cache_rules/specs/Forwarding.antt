@@ -5,7 +5,8 @@ use Rattle.http_cache_fields.specs.Headers.{Headers}
 use Rattle.http_cache_fields.specs.Pieces.{pieces_under}
 use Rattle.http_cache_rules.specs.Filter.{is_spelled}
 
--- names that speak of one connection alone, whether Connection spells them or not
+-- names that speak of one connection alone, whether Connection spells them or not (RFC 7230, section
+-- 6.1, and of proxy-authenticate and proxy-authorization RFC 7235, sections 4.3 and 4.4)
 abbrev pub connection_fields : List (List ℕ)
 connection_fields =
     codes "connection"

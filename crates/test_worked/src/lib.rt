@@ -10,6 +10,8 @@ mod errors;
 #[cfg(test)]
 mod explanations;
 #[cfg(test)]
+mod forwarding;
+#[cfg(test)]
 mod own_messages;
 #[cfg(test)]
 mod parse_cache_control;
