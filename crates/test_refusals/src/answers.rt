@@ -95,6 +95,28 @@ pub fn are_passed_on(headers: &HeaderMap) -> bool {
     headers.len() == 7 && headers.get_all("x").iter().count() == 2 && has_all(headers, &PASSED_ON)
 }
 
+/// The stored headers, all values of each name but for what concerns one connection, with the age.
+pub fn are_sent(parts: &response::Parts) -> bool {
+    let headers = &parts.headers;
+    parts.status.as_u16() == 200
+        && headers.len() == 8
+        && headers.get_all("x").iter().count() == 2
+        && has_all(
+            headers,
+            &[("age", "5"), ("etag", "\"c\""), ("vary", "Accept")],
+        )
+}
+
+/// The headers of the response, with one line for each name.
+pub fn are_joined(headers: &HeaderMap) -> bool {
+    headers.len() == 8 && has_all(headers, &[("connection", "X-Gone"), ("x", "1, 2")])
+}
+
+/// The headers of the response after a 304.
+pub fn are_updated(headers: &HeaderMap) -> bool {
+    headers.len() == 8 && has_all(headers, &[("x", "3"), ("etag", "\"c\""), ("x-gone", "1")])
+}
+
 fn has(headers: &HeaderMap, name: &str, value: &str) -> bool {
     headers.get_str(name).is_some_and(|text| text == value)
 }

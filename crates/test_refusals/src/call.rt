@@ -23,6 +23,8 @@ pub enum Call {
     Modified,
     /// `next_policy`, with a 304.
     NextPolicy,
+    /// `response_at`.
+    ResponseAt,
     ToValue,
     FromValue,
     /// Three caches behind the first one.
@@ -39,6 +41,10 @@ pub enum Call {
     ChooseValidated,
     /// The headers of the response, as a proxy passes them on.
     Forward,
+    /// One line for each name of the response.
+    Join,
+    /// The headers of the response after a 304.
+    Update,
     /// `append`, to headers that hold nothing.
     Append,
     /// `cache_status`, with a name and a detail that are strings.
@@ -46,7 +52,7 @@ pub enum Call {
 }
 
 /// Each call once.
-pub const CALLS: [Call; 25] = [
+pub const CALLS: [Call; 28] = [
     Call::New,
     Call::NewOptions,
     Call::TryClone,
@@ -61,6 +67,7 @@ pub const CALLS: [Call; 25] = [
     Call::NotModified,
     Call::Modified,
     Call::NextPolicy,
+    Call::ResponseAt,
     Call::ToValue,
     Call::FromValue,
     Call::Chain,
@@ -70,6 +77,8 @@ pub const CALLS: [Call; 25] = [
     Call::ChooseFresh,
     Call::ChooseValidated,
     Call::Forward,
+    Call::Join,
+    Call::Update,
     Call::Append,
     Call::CacheStatus,
 ];

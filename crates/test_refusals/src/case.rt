@@ -1,8 +1,9 @@
 //! The exchange on which the calls are made.
 use crate::answers::{
-    FIVE_SECONDS, PLAIN, UNMATCHED, UNMATCHED_HEAD, VALIDATED, are_directives, are_outcomes,
-    are_outcomes_of_example, are_passed_on, are_stored, chooses_fresh, chooses_validated, is_at,
-    is_fresh, is_stale, is_unstorable_at, renews, replaces,
+    FIVE_SECONDS, PLAIN, UNMATCHED, UNMATCHED_HEAD, VALIDATED, are_directives, are_joined,
+    are_outcomes, are_outcomes_of_example, are_passed_on, are_sent, are_stored, are_updated,
+    chooses_fresh, chooses_validated, is_at, is_fresh, is_stale, is_unstorable_at, renews,
+    replaces,
 };
 use crate::call::Call;
 use cache_script::{Script, Step, UnreadScript, script_from_bytes};
@@ -12,7 +13,9 @@ use http_cache_semantics::chain::{chain, replay};
 use http_cache_semantics::directives::{
     CacheControl, GetHeaderStr, format_cache_control, parse_cache_control,
 };
-use http_cache_semantics::forwarding::{append, forwarded_headers};
+use http_cache_semantics::forwarding::{
+    append, forwarded_headers, joined_headers, updated_headers,
+};
 use http_cache_semantics::{
     AfterResponse, BeforeRequest, CacheError, CachePolicy, Choice, Variants,
 };
@@ -320,7 +323,10 @@ impl Case {
             Call::Replay | Call::ReplayExample => self.runs(alloc, call),
             Call::Add => self.adds(alloc),
             Call::ChooseFresh | Call::ChooseValidated => self.chooses(alloc, call),
+            Call::ResponseAt => self.is_sent(alloc),
             Call::Forward => self.is_passed_on(alloc),
+            Call::Join => self.is_joined(alloc),
+            Call::Update => self.is_updated(alloc),
             Call::Append => is_appended(alloc),
             Call::CacheStatus => self.explains(alloc),
         }
@@ -348,6 +354,28 @@ impl Case {
     fn is_passed_on(&self, alloc: Global) -> Result<bool, CacheError> {
         let headers = &self.script.response.headers;
         Ok(are_passed_on(&forwarded_headers(alloc, headers)?))
+    }
+
+    fn is_sent(&self, alloc: Global) -> Result<bool, CacheError> {
+        let now = after(5_500_000_000)?;
+        Ok(are_sent(&self.policy.response_at(alloc, now)?))
+    }
+
+    fn is_joined(&self, alloc: Global) -> Result<bool, CacheError> {
+        let headers = &self.script.response.headers;
+        Ok(are_joined(&joined_headers(alloc, headers)?))
+    }
+
+    // The 304 has the stored ETag, and another X.
+    fn is_updated(&self, alloc: Global) -> Result<bool, CacheError> {
+        match self.script.steps.get(3) {
+            Some(Step::Receive { response, .. }) => {
+                let stored = &self.script.response.headers;
+                let updated = updated_headers(alloc, stored, &response.headers)?;
+                Ok(are_updated(&updated))
+            }
+            _ => Err(CacheError::Malformed),
+        }
     }
 
     fn adds(&self, alloc: Global) -> Result<bool, CacheError> {

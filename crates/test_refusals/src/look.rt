@@ -3,7 +3,7 @@ use crate::case::{Case, after, choice_at, form, variants};
 use cache_script::{Script, Step};
 use http_cache_semantics::directives::{CacheControl, GetHeaderStr, get_all_comma};
 use http_cache_semantics::explain::{LifetimeSource, Permission, Storability};
-use http_cache_semantics::forwarding::print_date;
+use http_cache_semantics::forwarding::{http_date, print_date, read_date};
 use http_cache_semantics::policy::Fraction;
 use http_cache_semantics::stored::{moment_from_value, options_from_value};
 use http_cache_semantics::{
@@ -68,10 +68,18 @@ pub enum Look {
     ExplainVariants,
     /// From 1900 on, and before.
     PrintDate,
+    /// The same.
+    HttpDate,
+    /// Of the usual length.
+    ReadDate,
+    IsConfirmedBy,
+    IsEmpty,
+    /// `iter`, with each step to the end.
+    Iter,
 }
 
 /// Each of these calls once.
-pub const LOOKS: [Look; 40] = [
+pub const LOOKS: [Look; 45] = [
     Look::IsStorable,
     Look::Age,
     Look::TimeToLive,
@@ -112,6 +120,11 @@ pub const LOOKS: [Look; 40] = [
     Look::MatchingPlace,
     Look::ExplainVariants,
     Look::PrintDate,
+    Look::HttpDate,
+    Look::ReadDate,
+    Look::IsConfirmedBy,
+    Look::IsEmpty,
+    Look::Iter,
 ];
 
 // Whether a policy of ten seconds tells what it has to after five and a half.
@@ -260,6 +273,39 @@ fn is_right_of_dates() -> Result<bool, CacheError> {
     )
 }
 
+fn is_right_of_http_dates() -> Result<bool, CacheError> {
+    let last_of_1899 = Timestamp::from_second(-2_208_988_801);
+    Ok(
+        http_date(after(5_500_000_000)?) == Some(*b"Mon, 01 Jan 2024 00:00:05 GMT")
+            && last_of_1899.is_ok_and(|moment| http_date(moment).is_none()),
+    )
+}
+
+// Whether the stored Last-Modified is read as the date that it is.
+fn is_right_of_read_date(alloc: Global, case: &Case) -> Result<bool, CacheError> {
+    match case.script().response.headers.get("last-modified") {
+        Some(value) => Ok(read_date(alloc, value)?.is_some_and(|date| date.as_second()
+            == 1_695_427_200)),
+        None => Ok(false),
+    }
+}
+
+// Whether the 304 of a step confirms the stored response, and the other response doesn't.
+fn is_right_of_confirmed(case: &Case) -> bool {
+    match (case.script().steps.get(3), case.script().steps.get(5)) {
+        (
+            Some(Step::Receive { response: one, .. }),
+            Some(
+                Step::Receive {
+                    response: other,
+                    ..
+                },
+            ),
+        ) => { case.policy().is_confirmed_by(one) && !case.policy().is_confirmed_by(other) }
+        _ => false,
+    }
+}
+
 fn is_right_of_exchange(alloc: Global, case: &Case, look: Look) -> bool {
     match look {
         Look::IsStorable
@@ -280,8 +326,16 @@ fn is_right_of_exchange(alloc: Global, case: &Case, look: Look) -> bool {
         Look::Fraction | Look::DefaultOptions => is_right_of_options(look),
         Look::NewVariants => is_right_of_new(alloc),
         Look::PrintDate => is_right_of_dates() == Ok(true),
+        Look::HttpDate => is_right_of_http_dates() == Ok(true),
+        Look::ReadDate => is_right_of_read_date(alloc, case) == Ok(true),
+        Look::IsConfirmedBy => is_right_of_confirmed(case),
         _ => is_right_of_messages(case.script(), look),
     }
+}
+
+fn are_directives_in_order(read: &CacheControl) -> bool {
+    let mut directives = read.iter();
+    directives.next() == Some(("max-age", Some("10"))) && directives.count() == 4
 }
 
 fn is_right_of_directives(read: &CacheControl, look: Look) -> bool {
@@ -289,6 +343,8 @@ fn is_right_of_directives(read: &CacheControl, look: Look) -> bool {
         Look::Len => read.len() == 5,
         Look::ContainsKey => read.contains_key("public") && !read.contains_key("private"),
         Look::Get => read.get("public") == Some(None),
+        Look::IsEmpty => !read.is_empty(),
+        Look::Iter => are_directives_in_order(read),
         _ => read.entry_at(0) == Some(("max-age", Some("10"))) && read.entry_at(5).is_none(),
     }
 }
@@ -350,7 +406,9 @@ fn in_exchange(rt: &HostRuntime, case: &Case, look: Look) -> bool {
 
 fn in_case(rt: &HostRuntime, case: &Case, look: Look) -> Result<bool, CacheError> {
     match look {
-        Look::Len | Look::ContainsKey | Look::Get | Look::EntryAt => in_directives(rt, case, look),
+        Look::Len | Look::ContainsKey | Look::Get | Look::EntryAt | Look::IsEmpty | Look::Iter => {
+            in_directives(rt, case, look)
+        }
         Look::SatisfiesWithoutRevalidation => in_answer(rt, case, look),
         Look::PolicyAt
         | Look::Replace
