@@ -114,14 +114,14 @@ fn second_of(text: &str) -> Option<u64>
     }
 }
 
-// The second since which the request asks for changes.
+// The second of If-Modified-Since.
 fn asked_since(request: &HeaderMap) -> Option<u64>
     ensures { result ≡ asked_since (headers_of request.now) }
 {
     second_of(only_date(request)?)
 }
 
-// The second of the last change that the stored response tells.
+// The second of the stored last change.
 fn last_change(stored: &HeaderMap) -> Option<u64>
     ensures { result ≡ last_change (headers_of stored.now) }
 {
