@@ -38,7 +38,7 @@ varied_row stored asked name = (differs_under stored asked name, varies_by name)
 abbrev pub is_get_or_head : List ℕ → Bool
 is_get_or_head method = bytes_eq method (codes "GET") || bytes_eq method (codes "HEAD")
 
--- what is told of two methods that aren't the same (RFC 9211, section 2.2)
+-- the reason of two methods that aren't the same (RFC 9211, section 2.2)
 abbrev pub method_reason : List ℕ → List ℕ → ReasonSeen
 method_reason stored asked =
     if is_get_or_head stored && is_get_or_head asked then other_of_get_and_head else other_method

@@ -52,7 +52,7 @@ impl CachePolicy {
     ///
     /// The reason is the first that applies, in the order of `Reason`: the target, Host, the method
     /// and the names of Vary, `no-cache`, Pragma, `max-age`, `min-fresh`, staleness. Another method
-    /// is reported for the stored target alone. It takes no memory.
+    /// is reported only for the stored target. It takes no memory.
     pub fn explain<Req: RequestLike>(&self, req: &Req, now: Timestamp) -> Explanation<'_>
         ensures value { explanation_seen result
             ≡ explanation self.now (Req.seen req.now) now.nanosecond }

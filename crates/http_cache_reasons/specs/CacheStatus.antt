@@ -52,7 +52,8 @@ time_left lifetime age =
     then Left ((lifetime - age) / 1_000_000_000)
     else Past ((age - lifetime + 999_999_999) / 1_000_000_000)
 
--- what is left of the response that is sent: before the origin is asked it is known for a hit alone
+-- what is left of the response that is sent, which before the origin is asked is known only for a
+-- hit (RFC 9211, section 2.4)
 abbrev pub left_for : CacheOutcome → ℕ → ℕ → Option TimeLeft
 left_for Hit lifetime age = Some (time_left lifetime age)
 left_for _ lifetime age = None

@@ -152,7 +152,7 @@ impl<'a> Explanation<'a> {
     /// Returns the member of Cache-Status for a cache of a name, as it is known before the origin is
     /// asked: `ExampleCache; hit; ttl=30`, or `ExampleCache; fwd=stale` (RFC 9211, section 2).
     ///
-    /// It has `ttl` for a hit alone, since `ttl` is of the response that carries the member. What a
+    /// It has `ttl` only for a hit, since `ttl` is of the response that carries the member. What a
     /// cache knows later is a `Member` of its own. The name is a token where it can be one, else a
     /// string; a byte that a string may not hold is `?`, and `ttl` is left out where it has more
     /// than 15 digits.
