@@ -97,7 +97,7 @@ impl TimeLeft {
     /// Returns what is left of a lifetime at an age: for a response that a cache has stored, its
     /// `freshness().lifetime` and its `age(now)` (RFC 9211, section 2.4).
     pub fn of(lifetime: Duration, age: Duration) -> TimeLeft
-        ensures { result ≡ time_left (as_nanos lifetime) (as_nanos age) }
+        ensures value { result ≡ time_left (as_nanos lifetime) (as_nanos age) }
     {
         let lifetime = lifetime.as_nanos();
         let age = age.as_nanos();
@@ -115,7 +115,7 @@ impl<'a> Explanation<'a> {
     /// Where the stored response matches and its lifetime is used up, that is `Forward::Stale`,
     /// whatever the request asks.
     pub fn outcome(&self) -> CacheOutcome
-        ensures { result ≡ outcome (explanation_seen self.now) }
+        ensures value { result ≡ outcome (explanation_seen self.now) }
     {
         let Some(reason) = self.reason else {
             return CacheOutcome::Hit;
@@ -126,7 +126,7 @@ impl<'a> Explanation<'a> {
 
     /// Returns what is left of the lifetime of the stored response (RFC 9211, section 2.4).
     pub fn time_left(&self) -> TimeLeft
-        ensures { result
+        ensures value { result
             ≡ time_left (explanation_seen self.now).freshness.1 (explanation_seen self.now).age }
     {
         TimeLeft::of(self.freshness.lifetime, self.age)

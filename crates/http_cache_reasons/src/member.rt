@@ -48,9 +48,9 @@ pub enum CacheOutcome {
 /// 2.4).
 #[derive(Clone, Copy, Debug, PartialEq, Eq)]
 pub enum TimeLeft {
-    /// The response is fresh for so many seconds.
+    /// So many seconds of the lifetime are left.
     Left(u128),
-    /// The response is stale for so many seconds.
+    /// The lifetime has been used up for so many seconds: at least 1.
     Past(u128),
 }
 
