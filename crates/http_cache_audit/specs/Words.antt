@@ -2,9 +2,9 @@
 use Rattle.std.specs.Prelude.{ℕ, ◌/◌, Bool, true, false, List, [], ◌∷◌, ◌++◌, codes, decimal, Option, Some, None}
 use Rattle.std.specs.Prelude.{if◌then◌else◌}
 use Rattle.http_cache_semantics.specs.Freshness.{Sourced}
-use Rattle.http_cache_semantics.specs.Reason.{ReasonSeen, other_method, other_target, other_host}
-use Rattle.http_cache_semantics.specs.Reason.{varies_by, asks_no_cache, asks_pragma, asks_max_age, asks_min_fresh}
-use Rattle.http_cache_semantics.specs.Reason.{is_stale}
+use Rattle.http_cache_semantics.specs.Reason.{ReasonSeen, other_target, other_host, other_of_get_and_head}
+use Rattle.http_cache_semantics.specs.Reason.{other_method, varies_by, asks_no_cache, asks_pragma, asks_max_age}
+use Rattle.http_cache_semantics.specs.Reason.{asks_min_fresh, is_stale}
 use Rattle.http_cache_semantics.specs.declared.explain.Obstacles.{Obstacles}
 use Rattle.http_cache_semantics.specs.declared.explain.LifetimeSource.{LifetimeSource}
 use Rattle.http_cache_semantics.specs.declared.explain.LifetimeSource.TheVariants as source
@@ -23,8 +23,9 @@ whole_seconds nanos = nanos / 1_000_000_000
 unfoldable pub verdict_word : Option ReasonSeen → List ℕ
 verdict_word None = codes "fresh"
 verdict_word (Some other_target) = codes "miss"
-verdict_word (Some other_method) = codes "miss-vary"
 verdict_word (Some other_host) = codes "miss-vary"
+verdict_word (Some other_of_get_and_head) = codes "miss-vary"
+verdict_word (Some other_method) = codes "miss-vary"
 verdict_word (Some (varies_by name)) = codes "miss-vary"
 verdict_word (Some asks_no_cache) = codes "validate"
 verdict_word (Some asks_pragma) = codes "validate"
@@ -85,8 +86,9 @@ lifetime_words f = codes "lifetime " ++ decimal (whole_seconds f.1) ++ codes " b
 unfoldable pub why_words : Option ReasonSeen → Sourced → Option (List ℕ)
 why_words None f = None
 why_words (Some other_target) f = None
-why_words (Some other_method) f = Some (codes "method")
 why_words (Some other_host) f = Some (codes "host")
+why_words (Some other_of_get_and_head) f = Some (codes "method")
+why_words (Some other_method) f = Some (codes "method")
 why_words (Some (varies_by name)) f = Some (codes "vary " ++ name)
 why_words (Some asks_no_cache) f = Some (codes "request no-cache")
 why_words (Some asks_pragma) f = Some (codes "request no-cache")
@@ -135,8 +137,9 @@ kept_in nothing_stored = None
 unfoldable pub is_miss : Option ReasonSeen → Bool
 is_miss None = false
 is_miss (Some other_target) = true
-is_miss (Some other_method) = false
 is_miss (Some other_host) = false
+is_miss (Some other_of_get_and_head) = false
+is_miss (Some other_method) = false
 is_miss (Some (varies_by name)) = false
 is_miss (Some asks_no_cache) = false
 is_miss (Some asks_pragma) = false

@@ -92,9 +92,10 @@ fn reason_of(cause: &Cause) -> Reason<'_>
     ensures { reason_seen result ≡ cause_seen cause.now }
 {
     match cause {
-        Cause::Method => Reason::Method,
         Cause::Target => Reason::Target,
         Cause::Host => Reason::Host,
+        Cause::OtherOfGetAndHead => Reason::OtherOfGetAndHead,
+        Cause::Method => Reason::Method,
         Cause::Vary(name) => Reason::Vary(name),
         Cause::NoCache => Reason::NoCache,
         Cause::Pragma => Reason::Pragma,

@@ -23,7 +23,8 @@ pub fn verdict_word(asked: &Asked) -> &'static str
     match &asked.cause {
         None => "fresh",
         Some(Cause::Target) => "miss",
-        Some(Cause::Method | Cause::Host | Cause::Vary(_)) => "miss-vary",
+        Some(Cause::Host | Cause::OtherOfGetAndHead | Cause::Method | Cause::Vary(_)) =>
+            "miss-vary",
         Some(
             Cause::NoCache
             | Cause::Pragma
@@ -129,8 +130,8 @@ fn why_by(alloc: Global, cause: &Cause, freshness: &Freshness) -> Result<Option<
 {
     match cause {
         Cause::Target => Ok(None),
-        Cause::Method => some_words(alloc, "method"),
         Cause::Host => some_words(alloc, "host"),
+        Cause::OtherOfGetAndHead | Cause::Method => some_words(alloc, "method"),
         Cause::Vary(name) => Ok(Some(format!(in alloc; "vary {name}")?)),
         Cause::NoCache | Cause::Pragma => some_words(alloc, "request no-cache"),
         Cause::MaxAge(_) | Cause::MinFresh(_) => {
@@ -159,7 +160,7 @@ pub(crate) fn is_mismatch(cause: &Cause) -> bool
 {
     matches!(
         cause,
-        Cause::Method | Cause::Target | Cause::Host | Cause::Vary(_)
+        Cause::Target | Cause::Host | Cause::OtherOfGetAndHead | Cause::Method | Cause::Vary(_)
     )
 }
 

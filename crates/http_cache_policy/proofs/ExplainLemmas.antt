@@ -2,8 +2,9 @@
 -- isn't the answer to the request.
 use Rattle.std.proofs.Common.{◌≡◌, ℕ, ℤ, ◌-◌, Bool, true, false, not, ◌&&◌, ◌||◌, nat_lt, nat_le, List, [], ◌∷◌, ◌++◌}
 use Rattle.std.proofs.Common.{map, codes, bytes_eq, Option, Some, None, is_some, is_none, option_map, unwrap_or, refl}
-use Rattle.std.proofs.Common.{cond, ◌*◌, sym, ap, ◌∙◌}
+use Rattle.std.proofs.Common.{cond, if◌then◌else◌, ◌*◌, sym, ap, ◌∙◌}
 use Rattle.std.proofs.Math.Bool.{and_assoc}
+use Rattle.std.proofs.lemmas.Bool.{and_from}
 use Rattle.std.specs.Option.{option_or, option_map_or}
 use Rattle.std.specs.List.{list_all, list_any, find}
 use Rattle.std.proofs.lemmas.List.Folds.{list_any-append}
@@ -16,13 +17,15 @@ use Rattle.http_cache_rules.specs.Storing.{is_storable}
 use Rattle.http_cache_rules.specs.Lifetimes.{lifetime}
 use Rattle.http_cache_rules.specs.Asks.{Asks, asks_of, asked_directives, number_under, is_young_enough}
 use Rattle.http_cache_rules.specs.Asks.{lasts_long_enough}
-use Rattle.http_cache_reasons.specs.Reason.{ReasonSeen, other_method, other_target, other_host, varies_by, is_mismatch}
+use Rattle.http_cache_reasons.specs.Reason.{ReasonSeen, other_target, other_host, other_of_get_and_head}
+use Rattle.http_cache_reasons.specs.Reason.{other_method, varies_by, is_mismatch}
 use Rattle.http_cache_rules.specs.Messages.{RequestSeen}
 use Rattle.http_cache_policy.specs.Exchange.{Exchange, stored_directives}
 use Rattle.http_cache_policy.specs.Age.{age_at}
 use Rattle.http_cache_policy.specs.Match.{varied_names, vary_matches, matches, request_matches}
 use Rattle.http_cache_policy.specs.Verdict.{satisfies, is_fresh_for}
-use Rattle.http_cache_policy.specs.Explain.{Row, differs_under, varied_row, mismatch_rows, asked_rows}
+use Rattle.http_cache_policy.specs.Explain.{Row, differs_under, varied_row, is_get_or_head, method_reason}
+use Rattle.http_cache_policy.specs.Explain.{mismatch_rows, asked_rows}
 use Rattle.http_cache_policy.specs.Explain.{stale_rows, reason}
 use Rattle.http_cache_policy.proofs.VaryLemmas.{agrees_on, list_all-agrees_on}
 
@@ -45,15 +48,15 @@ first_said-varied stored asked (name ∷ names) =
     by false rows later same = same
 
 -- the same behind the three rows in front
-pub mismatch-varied : (e : Exchange) (request : RequestSeen) → bytes_eq e.method request.method ≡ true
-    → request.is_same_target e.target ≡ true
+pub mismatch-varied : (e : Exchange) (request : RequestSeen) → request.is_same_target e.target ≡ true
     → same_value (first e.request_headers (codes "host")) (first request.headers (codes "host")) ≡ true
+    → bytes_eq e.method request.method ≡ true
     → first_said (mismatch_rows e request)
     ≡ option_map varies_by (find (differs_under e.request_headers request.headers) (varied_names e))
-mismatch-varied e request method target host =
+mismatch-varied e request target host method =
     let varied : List Row = map (varied_row e.request_headers request.headers) (varied_names e) in
-    (λ i. first_said ((not (method i), other_method) ∷ (not (target i), other_target) ∷ (not (host i), other_host)
-    ∷ varied))
+    (λ i. first_said ((not (target i), other_target) ∷ (not (host i), other_host)
+    ∷ (not (method i), method_reason e.method request.method) ∷ varied))
     ∙ first_said-varied e.request_headers request.headers (varied_names e)
 
 no_difference : (star same others : Bool)
@@ -77,16 +80,21 @@ all-varied stored asked (name ∷ names) = all-varied stored asked names
 
 -- ---- the rows by which the stored response isn't the answer
 
-regroup : (method target host varied : Bool)
-    → not (not method || (not target || (not host || varied))) ≡ (target && host && not varied && method)
+method-mismatches : (stored asked : List ℕ) → is_mismatch (method_reason stored asked) ≡ true
+method-mismatches stored asked = by (is_get_or_head stored && is_get_or_head asked)
+  where
+    by : (both : Bool) → is_mismatch (if both then other_of_get_and_head else other_method) ≡ true
+    by true = refl
+    by false = refl
+
+regroup : (target host method varied : Bool)
+    → not (not target || (not host || (not method || varied))) ≡ (target && host && not varied && method)
 regroup true true true true = refl
 regroup true true true false = refl
-regroup true true false varied = refl
-regroup true false host varied = refl
-regroup false true true true = refl
-regroup false true true false = refl
-regroup false true false varied = refl
-regroup false false host varied = refl
+regroup true true false true = refl
+regroup true true false false = refl
+regroup true false method varied = refl
+regroup false host method varied = refl
 
 none-mismatches : (e : Exchange) (request : RequestSeen)
     → not (list_any applies (mismatch_rows e request)) ≡ request_matches e request
@@ -95,7 +103,7 @@ none-mismatches e request =
     let stored = e.request_headers in
     let target = request.is_same_target e.target in
     let host = same_value (first stored (codes "host")) (first request.headers (codes "host")) in
-    regroup (bytes_eq e.method request.method) target host
+    regroup target host (bytes_eq e.method request.method)
     (list_any applies (map (varied_row stored request.headers) (varied_names e)))
     ∙ ap (λ b. target && host && b && bytes_eq e.method request.method)
     (none-varied stored request.headers (varied_names e)
@@ -207,7 +215,9 @@ reason-mismatch e request now =
     let stale = stale_rows e (asked_directives asks) (age_at e now) in
     ap (λ o. option_map_or is_mismatch o false) (reason-by_groups e request now)
     ∙ by (first_said mismatch) (first_said asked) (first_said stale)
-    (all-said is_mismatch mismatch (all-varied e.request_headers request.headers (varied_names e)))
+    (all-said is_mismatch mismatch
+    (and_from _ _ (method-mismatches e.method request.method)
+    (all-varied e.request_headers request.headers (varied_names e))))
     (none-kind is_mismatch asked refl) (none-kind is_mismatch stale refl)
     ∙ sym (not_none (first_said mismatch))
     ∙ ap not (none-said mismatch ∙ none-mismatches e request)

@@ -1,7 +1,7 @@
 -- Why a stored response isn't used for a request without validation: one table of reasons, of which
 -- the first that applies is told. It is used where none does.
 use Rattle.std.specs.Prelude.{ℕ, ℤ, ◌-◌, Bool, false, not, ◌&&◌, ◌||◌, nat_le, List, [], ◌∷◌, ◌++◌, map, codes, bytes_eq}
-use Rattle.std.specs.Prelude.{Option, option_map, unwrap_or}
+use Rattle.std.specs.Prelude.{Option, option_map, unwrap_or, if◌then◌else◌}
 use Rattle.http_cache_fields.specs.Text.{contains}
 use Rattle.http_cache_fields.specs.Headers.{Headers, first, first_under}
 use Rattle.http_cache_fields.specs.Directives.{Directive, has, same_value}
@@ -11,9 +11,9 @@ use Rattle.http_cache_rules.specs.Lifetimes.{lifetime}
 use Rattle.http_cache_rules.specs.Freshness.{freshness}
 use Rattle.http_cache_rules.specs.Asks.{Asks, asks_of, asked_directives, number_under, is_young_enough}
 use Rattle.http_cache_rules.specs.Asks.{lasts_long_enough, takes_stale}
-use Rattle.http_cache_reasons.specs.Reason.{ReasonSeen, other_method, other_target, other_host, varies_by}
-use Rattle.http_cache_reasons.specs.Reason.{asks_no_cache, asks_pragma, asks_max_age, asks_min_fresh, is_stale}
-use Rattle.http_cache_reasons.specs.Reason.{ExplanationSeen}
+use Rattle.http_cache_reasons.specs.Reason.{ReasonSeen, other_target, other_host, other_of_get_and_head}
+use Rattle.http_cache_reasons.specs.Reason.{other_method, varies_by, asks_no_cache, asks_pragma, asks_max_age}
+use Rattle.http_cache_reasons.specs.Reason.{asks_min_fresh, is_stale, ExplanationSeen}
 use Rattle.http_cache_reasons.specs.declared.reason.StaleReason.TheVariants.{NotAsked, NotStorable, MustRevalidate}
 use Rattle.http_cache_reasons.specs.declared.reason.StaleReason.TheVariants.{NoCache, TooStale}
 use Rattle.http_cache_rules.specs.Messages.{RequestSeen}
@@ -34,13 +34,23 @@ differs_under stored asked name =
 abbrev pub varied_row : Headers → Headers → List ℕ → Row
 varied_row stored asked name = (differs_under stored asked name, varies_by name)
 
--- the rows by which the stored response isn't the answer to a request (RFC 7234, section 4)
+-- a method of which a cache may answer the one by the other
+abbrev pub is_get_or_head : List ℕ → Bool
+is_get_or_head method = bytes_eq method (codes "GET") || bytes_eq method (codes "HEAD")
+
+-- the reason of two methods that aren't the same (RFC 9211, section 2.2)
+abbrev pub method_reason : List ℕ → List ℕ → ReasonSeen
+method_reason stored asked =
+    if is_get_or_head stored && is_get_or_head asked then other_of_get_and_head else other_method
+
+-- the rows by which the stored response isn't the answer to a request (RFC 7234, section 4): another
+-- target first, which Host is part of, and the method where both are the stored ones
 abbrev pub mismatch_rows : Exchange → RequestSeen → List Row
 mismatch_rows e request =
     let host = first e.request_headers (codes "host") in
-    (not (bytes_eq e.method request.method), other_method)
-    ∷ (not (request.is_same_target e.target), other_target)
+    (not (request.is_same_target e.target), other_target)
     ∷ (not (same_value host (first request.headers (codes "host"))), other_host)
+    ∷ (not (bytes_eq e.method request.method), method_reason e.method request.method)
     ∷ map (varied_row e.request_headers request.headers) (varied_names e)
 
 -- the number of a directive, or 0

@@ -13,14 +13,16 @@ ghost use Rattle.http_cache_policy.specs.Match.{request_matches};
 ghost use Rattle.http_cache_policy.specs.Verdict.{is_fresh_for};
 ghost use Rattle.http_cache_policy.specs.Explain.{mismatch_rows, asked_rows, stale_rows, seconds_under};
 ghost use Rattle.http_cache_policy.specs.Explain.{reason, explanation};
+ghost use Rattle.http_cache_policy.specs.Explain.{is_get_or_head, method_reason};
 
 use crate::before::verdict::nanos;
 use crate::policy::{CachePolicy, RequestLike};
-use http::HeaderMap;
 use http::header::{HOST, VARY};
+use http::{HeaderMap, Method};
 use http_cache_fields::headers::{has_same_first, has_same_first_under};
 use http_cache_fields::pieces::pieces_under;
 use http_cache_fields::pragma::pragma_forbids;
+pub use http_cache_reasons::member::{CacheOutcome, Forward, Member, TimeLeft};
 pub use http_cache_reasons::reason::{Explanation, Reason, StaleReason};
 use http_cache_rules::asks::{Asked, asked_by};
 pub use http_cache_rules::freshness::{Freshness, LifetimeSource};
@@ -45,9 +47,12 @@ impl CachePolicy {
         storability_of(self.parts(), self.request_no_store(), self.directives())
     }
 
-    /// Why the stored response isn't used for a request at a moment without validation, or that it
-    /// is. The first reason is told, in the order of `Reason`: the method, the target, Host and the
-    /// names of Vary, `no-cache`, Pragma, `max-age`, `min-fresh`, staleness. It takes no memory.
+    /// Returns why the stored response isn't used for a request at `now` without validation, or that
+    /// it is.
+    ///
+    /// The reason is the first that applies, in the order of `Reason`: the target, Host, the method
+    /// and the names of Vary, `no-cache`, Pragma, `max-age`, `min-fresh`, staleness. Another method
+    /// is reported only for the stored target. It takes no memory.
     pub fn explain<Req: RequestLike>(&self, req: &Req, now: Timestamp) -> Explanation<'_>
         ensures value { explanation_seen result
             ≡ explanation self.now (Req.seen req.now) now.nanosecond }
@@ -86,14 +91,14 @@ impl CachePolicy {
         ensures { option_map reason_seen result
             ≡ first_said (mismatch_rows self.now (Req.seen req.now)) }
     {
-        if *self.stored_method() != *req.method() {
-            return Some(Reason::Method);
-        }
         if !req.is_same_uri(self.stored_target()) {
             return Some(Reason::Target);
         }
         if !has_same_first(self.request_headers(), req.headers(), &HOST) {
             return Some(Reason::Host);
+        }
+        if *self.stored_method() != *req.method() {
+            return Some(other_method(self.stored_method(), req.method()));
         }
         let name = self.differing_name(req.headers())?;
         Some(Reason::Vary(name))
@@ -152,6 +157,24 @@ impl CachePolicy {
         }
         let most = exceeded_staleness(asked, age - lifetime)?;
         Some(StaleReason::TooStale(most))
+    }
+}
+
+// Whether a method is GET or HEAD.
+fn is_get_or_head(method: &Method) -> bool
+    ensures { result ≡ is_get_or_head method.now }
+{
+    *method == Method::GET || *method == Method::HEAD
+}
+
+// What is reported of two methods that aren't the same (RFC 9211, section 2.2).
+fn other_method(stored: &Method, asked: &Method) -> Reason<'static>
+    ensures { reason_seen result ≡ method_reason stored.now asked.now }
+{
+    if is_get_or_head(stored) && is_get_or_head(asked) {
+        Reason::OtherOfGetAndHead
+    } else {
+        Reason::Method
     }
 }
 

@@ -1,2 +1,2 @@
 -- The lemmas of this crate.
-pub mod CacheStatusLemmas
+pub mod MemberLemmas

@@ -1,49 +1,62 @@
--- The member of Cache-Status that tells an explanation (RFC 9211, section 2).
-use Rattle.std.specs.Prelude.{ℕ, ◌+◌, ◌-◌, ◌/◌, nat_le, List, [], ◌++◌, codes, decimal, Option, Some, None}
-use Rattle.std.specs.Prelude.{if◌then◌else◌}
-use Rattle.http_cache_reasons.specs.Reason.{ReasonSeen, other_method, other_target, other_host, varies_by}
-use Rattle.http_cache_reasons.specs.Reason.{asks_no_cache, asks_pragma, asks_max_age, asks_min_fresh, is_stale}
-use Rattle.http_cache_reasons.specs.Reason.{is_mismatch, ExplanationSeen}
-use Rattle.http_cache_reasons.specs.StructuredField.{string_item, name_item}
+-- The member of Cache-Status of an explanation, before the origin is asked (RFC 9211, section 2).
+use Rattle.std.specs.Prelude.{ℕ, ◌+◌, ◌-◌, ◌/◌, Bool, false, nat_le, List, ◌++◌, codes, decimal, Option, Some, None}
+use Rattle.std.specs.Prelude.{option_and_then, if◌then◌else◌}
+use Rattle.http_cache_reasons.specs.Reason.{ReasonSeen, other_target, other_host, other_of_get_and_head}
+use Rattle.http_cache_reasons.specs.Reason.{other_method, varies_by, asks_no_cache, asks_pragma, asks_max_age}
+use Rattle.http_cache_reasons.specs.Reason.{asks_min_fresh, is_stale, ExplanationSeen}
+use Rattle.http_cache_reasons.specs.Member.{MemberSeen, member_text}
+use Rattle.http_cache_reasons.specs.declared.member.Forward.{Forward}
+use Rattle.http_cache_reasons.specs.declared.member.Forward.TheVariants.{Method, UriMiss, VaryMiss, Miss, Request}
+use Rattle.http_cache_reasons.specs.declared.member.Forward.TheVariants.{Stale}
+use Rattle.http_cache_reasons.specs.declared.member.CacheOutcome.{CacheOutcome}
+use Rattle.http_cache_reasons.specs.declared.member.CacheOutcome.TheVariants.{Hit, Forwarded}
+use Rattle.http_cache_reasons.specs.declared.member.TimeLeft.{TimeLeft}
+use Rattle.http_cache_reasons.specs.declared.member.TimeLeft.TheVariants.{Left, Past}
 use Rattle.http_cache_reasons.specs.declared.reason.StaleReason.{StaleReason}
 use Rattle.http_cache_reasons.specs.declared.reason.StaleReason.TheVariants.{NotAsked, NotStorable, MustRevalidate}
 use Rattle.http_cache_reasons.specs.declared.reason.StaleReason.TheVariants.{NoCache, TooStale}
 
--- why a request is forwarded (RFC 9211, section 2.2)
-abbrev pub forward_word : ReasonSeen → List ℕ
-forward_word other_method = codes "method"
-forward_word other_target = codes "uri-miss"
-forward_word other_host = codes "vary-miss"
-forward_word (varies_by name) = codes "vary-miss"
-forward_word asks_no_cache = codes "request"
-forward_word asks_pragma = codes "request"
-forward_word (asks_max_age seconds) = codes "request"
-forward_word (asks_min_fresh seconds) = codes "request"
-forward_word (is_stale why) = codes "stale"
+-- why a matching response isn't used: it is stale where its lifetime is used up, whatever the
+-- request asks; only a fresh one isn't used because of the request (RFC 9211, section 2.2)
+abbrev pub forward_by : Bool → Forward
+forward_by is_used_up = if is_used_up then Stale else Request
 
--- that the stored response is used, or why it isn't
-abbrev pub outcome_parameter : Option ReasonSeen → List ℕ
-outcome_parameter None = codes "; hit"
-outcome_parameter (Some reason) = codes "; fwd=" ++ forward_word reason
+-- why a request is forwarded, by whether the lifetime is used up (RFC 9211, section 2.2); another
+-- Host is another target URI
+abbrev pub forward : Bool → ReasonSeen → Forward
+forward is_used_up other_target = UriMiss
+forward is_used_up other_host = UriMiss
+forward is_used_up other_of_get_and_head = Miss
+forward is_used_up other_method = Method
+forward is_used_up (varies_by name) = VaryMiss
+forward is_used_up asks_no_cache = forward_by is_used_up
+forward is_used_up asks_pragma = forward_by is_used_up
+forward is_used_up (asks_max_age seconds) = forward_by is_used_up
+forward is_used_up (asks_min_fresh seconds) = forward_by is_used_up
+forward is_used_up (is_stale why) = Stale
 
--- a number of seconds behind a text, unless it has more than 15 digits
-abbrev pub seconds_parameter : List ℕ → ℕ → List ℕ
-seconds_parameter front seconds =
-    if nat_le seconds 999_999_999_999_999 then front ++ decimal seconds else []
+-- a hit, or why the request is forwarded, at an age
+abbrev pub outcome_by : Option ReasonSeen → ℕ → ℕ → CacheOutcome
+outcome_by None lifetime age = Hit
+outcome_by (Some reason) lifetime age = Forwarded (forward (nat_le lifetime age) reason)
+
+-- what a cache does before the origin is asked
+abbrev pub outcome : ExplanationSeen → CacheOutcome
+outcome x = outcome_by x.reason x.freshness.1 x.age
 
 -- the whole seconds that are left of a lifetime at an age, both in nanoseconds, rounded down, so
--- that no more is told than is left: less than 0 once it is stale (RFC 9211, section 2.4)
-abbrev pub ttl_parameter : ℕ → ℕ → List ℕ
-ttl_parameter lifetime age =
+-- that no more is told than is left (RFC 9211, section 2.4)
+abbrev pub time_left : ℕ → ℕ → TimeLeft
+time_left lifetime age =
     if nat_le age lifetime
-    then seconds_parameter (codes "; ttl=") ((lifetime - age) / 1_000_000_000)
-    else seconds_parameter (codes "; ttl=-") ((age - lifetime + 999_999_999) / 1_000_000_000)
+    then Left ((lifetime - age) / 1_000_000_000)
+    else Past ((age - lifetime + 999_999_999) / 1_000_000_000)
 
--- it is told where the stored response is the answer to the request
-abbrev pub ttl_told : Option ReasonSeen → ℕ → ℕ → List ℕ
-ttl_told None lifetime age = ttl_parameter lifetime age
-ttl_told (Some reason) lifetime age =
-    if is_mismatch reason then [] else ttl_parameter lifetime age
+-- what is left of the response that is sent, which before the origin is asked is known only for a
+-- hit (RFC 9211, section 2.4)
+abbrev pub left_for : CacheOutcome → ℕ → ℕ → Option TimeLeft
+left_for Hit lifetime age = Some (time_left lifetime age)
+left_for _ lifetime age = None
 
 -- why max-stale doesn't let a stale response out
 abbrev pub stale_detail : StaleReason → Option (List ℕ)
@@ -53,11 +66,12 @@ stale_detail MustRevalidate = Some (codes "must-revalidate")
 stale_detail NoCache = Some (codes "no-cache")
 stale_detail (TooStale seconds) = Some (codes "max-stale=" ++ decimal seconds)
 
--- which header or directive a reason goes by
+-- which header or directive a reason goes by (RFC 9211, section 2.8)
 abbrev pub detail : ReasonSeen → Option (List ℕ)
-detail other_method = None
 detail other_target = None
 detail other_host = Some (codes "host")
+detail other_of_get_and_head = None
+detail other_method = None
 detail (varies_by name) = Some name
 detail asks_no_cache = Some (codes "no-cache")
 detail asks_pragma = Some (codes "pragma")
@@ -65,20 +79,21 @@ detail (asks_max_age seconds) = Some (codes "max-age=" ++ decimal seconds)
 detail (asks_min_fresh seconds) = Some (codes "min-fresh=" ++ decimal seconds)
 detail (is_stale why) = stale_detail why
 
--- it is told as a string (RFC 9211, section 2.8)
-abbrev pub detail_parameter : Option (List ℕ) → List ℕ
-detail_parameter None = []
-detail_parameter (Some text) = codes "; detail=" ++ string_item text
-
 -- which header or directive an explanation goes by
-abbrev pub detail_told : Option ReasonSeen → Option (List ℕ)
-detail_told None = None
-detail_told (Some reason) = detail reason
+abbrev pub detail_told : ExplanationSeen → Option (List ℕ)
+detail_told x = option_and_then detail x.reason
+
+-- what a cache of a name says before the origin is asked: nothing is received, and nothing stored
+abbrev pub member_of : List ℕ → ExplanationSeen → MemberSeen
+member_of cache x = record {
+  cache = cache;
+  outcome = outcome x;
+  forward_status = None;
+  stored = false;
+  left = left_for (outcome x) x.freshness.1 x.age;
+  detail = detail_told x;
+}
 
 -- the member of a cache's name
-unfoldable pub cache_status : List ℕ → ExplanationSeen → List ℕ
-cache_status cache x =
-    name_item cache
-    ++ outcome_parameter x.reason
-    ++ ttl_told x.reason x.freshness.1 x.age
-    ++ detail_parameter (detail_told x.reason)
+abbrev pub cache_status : List ℕ → ExplanationSeen → List ℕ
+cache_status cache x = member_text (member_of cache x)

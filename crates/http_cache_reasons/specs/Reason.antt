@@ -4,16 +4,18 @@ use Rattle.std.specs.Duration.{as_nanos}
 use Rattle.http_cache_rules.specs.Freshness.{Sourced, freshness_seen}
 use Rattle.http_cache_reasons.specs.declared.reason.StaleReason.{StaleReason}
 use Rattle.http_cache_reasons.specs.declared.reason.Reason.{Reason}
-use Rattle.http_cache_reasons.specs.declared.reason.Reason.TheVariants.{Method, Target, Host, Vary, NoCache, Pragma}
-use Rattle.http_cache_reasons.specs.declared.reason.Reason.TheVariants.{MaxAge, MinFresh, Stale}
+use Rattle.http_cache_reasons.specs.declared.reason.Reason.TheVariants.{Target, Host, OtherOfGetAndHead, Method, Vary}
+use Rattle.http_cache_reasons.specs.declared.reason.Reason.TheVariants.{NoCache, Pragma, MaxAge, MinFresh, Stale}
 use Rattle.http_cache_reasons.specs.declared.reason.Explanation.{Explanation}
 
--- another method, target or Host; another value under a name that the response varies by; what the
--- request asks, with its seconds; a stale response that isn't let out
+-- another target, Host or method, where GET and HEAD are told apart from the others; another value
+-- under a name that the response varies by; what the request asks, with its seconds; a stale
+-- response that isn't let out
 pub data ReasonSeen : Type 0 where
-  other_method : ReasonSeen
   other_target : ReasonSeen
   other_host : ReasonSeen
+  other_of_get_and_head : ReasonSeen
+  other_method : ReasonSeen
   varies_by : List ℕ → ReasonSeen
   asks_no_cache : ReasonSeen
   asks_pragma : ReasonSeen
@@ -23,9 +25,10 @@ pub data ReasonSeen : Type 0 where
 
 -- what is seen of a reason
 abbrev pub reason_seen : Reason → ReasonSeen
-reason_seen Method = other_method
 reason_seen Target = other_target
 reason_seen Host = other_host
+reason_seen OtherOfGetAndHead = other_of_get_and_head
+reason_seen Method = other_method
 reason_seen (Vary name) = varies_by name.now
 reason_seen NoCache = asks_no_cache
 reason_seen Pragma = asks_pragma
@@ -35,9 +38,10 @@ reason_seen (Stale why) = is_stale why
 
 -- the stored response isn't the answer to the request, fresh or not
 abbrev pub is_mismatch : ReasonSeen → Bool
-is_mismatch other_method = true
 is_mismatch other_target = true
 is_mismatch other_host = true
+is_mismatch other_of_get_and_head = true
+is_mismatch other_method = true
 is_mismatch (varies_by name) = true
 is_mismatch asks_no_cache = false
 is_mismatch asks_pragma = false

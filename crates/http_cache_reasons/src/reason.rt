@@ -7,12 +7,14 @@ use std::time::Duration;
 /// applies, in this order.
 #[derive(Clone, Copy, Debug, PartialEq, Eq)]
 pub enum Reason<'a> {
-    /// The request has another method.
-    Method,
-    /// It has another target.
+    /// The request has another target.
     Target,
     /// It has another Host, or one of the two requests has none.
     Host,
+    /// The method of one of the two requests is GET, and that of the other HEAD.
+    OtherOfGetAndHead,
+    /// It has another method.
+    Method,
     /// The response varies by this name, under which the request has another first value, or Vary
     /// says `*` (RFC 7234, section 4.1).
     Vary(&'a str),
@@ -49,7 +51,7 @@ pub enum StaleReason {
 /// Whether a stored response is used for a request without validation at a moment, and why not. Its
 /// text has the age in whole seconds and what the lifetime goes by, as
 /// `stale: age 12 s, max-age=10`.
-#[derive(Clone, Copy, Debug)]
+#[derive(Clone, Copy, Debug, PartialEq, Eq)]
 pub struct Explanation<'a> {
     /// Why it isn't used, or `None` for a hit.
     pub reason: Option<Reason<'a>>,
@@ -60,6 +62,11 @@ pub struct Explanation<'a> {
 }
 
 impl fmt::Display for StaleReason {
+    ghost use Rattle.std.specs.Prelude.{Some};
+    ghost use Rattle.http_cache_reasons.specs.ReasonText.{stale_text};
+
+    ghost output = { λ why. Some (stale_text why) };
+
     fn fmt<W: fmt::Write>(&self, f: &mut fmt::Formatter<W>) -> fmt::Result {
         match self {
             StaleReason::NotAsked => write!(f, "stale"),
@@ -72,11 +79,18 @@ impl fmt::Display for StaleReason {
 }
 
 impl fmt::Display for Reason<'_> {
+    ghost use Rattle.std.specs.Prelude.{Some};
+    ghost use Rattle.http_cache_reasons.specs.Reason.{reason_seen};
+    ghost use Rattle.http_cache_reasons.specs.ReasonText.{reason_text};
+
+    ghost output = { λ reason. Some (reason_text (reason_seen reason)) };
+
     fn fmt<W: fmt::Write>(&self, f: &mut fmt::Formatter<W>) -> fmt::Result {
         match self {
-            Reason::Method => write!(f, "other method"),
             Reason::Target => write!(f, "other target"),
             Reason::Host => write!(f, "other Host"),
+            Reason::OtherOfGetAndHead => write!(f, "other one of GET and HEAD"),
+            Reason::Method => write!(f, "other method"),
             Reason::Vary(name) => write!(f, "Vary {name}"),
             Reason::NoCache => write!(f, "request no-cache"),
             Reason::Pragma => write!(f, "request Pragma no-cache"),
@@ -88,6 +102,12 @@ impl fmt::Display for Reason<'_> {
 }
 
 impl fmt::Display for Explanation<'_> {
+    ghost use Rattle.std.specs.Prelude.{Some};
+    ghost use Rattle.http_cache_reasons.specs.Reason.{explanation_seen};
+    ghost use Rattle.http_cache_reasons.specs.ReasonText.{explanation_text};
+
+    ghost output = { λ x. Some (explanation_text (explanation_seen x)) };
+
     fn fmt<W: fmt::Write>(&self, f: &mut fmt::Formatter<W>) -> fmt::Result {
         let age = self.age.as_secs();
         let freshness = self.freshness;

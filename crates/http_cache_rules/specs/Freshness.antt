@@ -1,5 +1,5 @@
 -- How long a response stays fresh, and what decides that (RFC 7234, section 4.2.1).
-use Rattle.std.specs.Prelude.{ℕ, ℤ, max, int_le, Bool, not, ◌&&◌, List, [], ◌∷◌, ◌++◌, codes, is_some, Option, Some, None}
+use Rattle.std.specs.Prelude.{ℕ, ℤ, ◌-ℤ◌, max, nat_lt, int_le, Bool, not, ◌&&◌, List, [], ◌∷◌, ◌++◌, codes, is_some, Option, Some, None}
 use Rattle.std.specs.Prelude.{unwrap_or, if◌then◌else◌}
 use Rattle.std.specs.Duration.{as_nanos}
 use Rattle.http_cache_fields.specs.Headers.{first_text}
@@ -7,7 +7,7 @@ use Rattle.http_cache_fields.specs.Directives.{Directive, has, text_under}
 use Rattle.http_cache_rules.specs.Ratio.{Ratio}
 use Rattle.http_cache_rules.specs.Options.{Options}
 use Rattle.http_cache_rules.specs.Exchange.{Exchange, stored_directives}
-use Rattle.http_cache_rules.specs.Dates.{first_date, from_1970}
+use Rattle.http_cache_rules.specs.Dates.{first_date, elapsed_time, from_1970}
 use Rattle.http_cache_rules.specs.Storing.{is_storable}
 use Rattle.http_cache_rules.specs.Lifetimes.{seconds_in, has_own_cookies, varies_always, immutable_floor, server_date}
 use Rattle.http_cache_rules.specs.Lifetimes.{time_until, is_by, seconds_since, fraction_of}
@@ -49,16 +49,23 @@ seconds_sources e =
     ∷ (is_some age, (MaxAge, seconds_in age))
     ∷ []
 
--- Expires, by whether it is a date, and one that isn't past at a moment
-abbrev pub expires_source : Option ℤ → ℤ → LifetimeSource
-expires_source None from = UnreadableExpires
-expires_source (Some date) from = if int_le (from_1970 date) from then PastExpires else Expires
+-- what decides a lifetime: its source, or that the response is immutable where the floor is longer
+-- (RFC 8246, section 2)
+abbrev pub above_floor : ℕ → ℕ → LifetimeSource → LifetimeSource
+above_floor floor lifetime source = if nat_lt lifetime floor then Immutable else source
+
+-- Expires, by whether it is a date, and one that isn't past at a moment (RFC 7234, section 5.3)
+abbrev pub expires_source : Option ℤ → ℤ → ℕ → LifetimeSource
+expires_source None from floor = UnreadableExpires
+expires_source (Some date) from floor =
+    above_floor floor (elapsed_time (from_1970 date -ℤ from))
+    (if int_le (from_1970 date) from then PastExpires else Expires)
 
 -- the row by Last-Modified, seen from a moment
 abbrev pub modified_sources : Option ℤ → ℤ → ℕ → Ratio → List (Bool × Sourced)
 modified_sources modified from floor part =
-    (is_by modified from, (LastModified, max floor (fraction_of part (seconds_since modified from))))
-    ∷ []
+    let lifetime = fraction_of part (seconds_since modified from) in
+    (is_by modified from, (above_floor floor lifetime LastModified, max floor lifetime)) ∷ []
 
 -- the rows by Expires and by Last-Modified, seen from the server's date
 abbrev pub date_sources : Exchange → List (Bool × Sourced)
@@ -68,7 +75,7 @@ date_sources e =
     let expires = first_date e.response_headers (codes "expires") in
     let modified = first_date e.response_headers (codes "last-modified") in (
       is_some (first_text e.response_headers (codes "expires")),
-      (expires_source expires from, time_until expires from floor),
+      (expires_source expires from floor, time_until expires from floor),
     )
     ∷ modified_sources modified from floor e.options.heuristic
 

@@ -1,4 +1,7 @@
 //! How long a response stays fresh, and what decides that.
+ghost use Rattle.std.specs.Prelude.{◌≡◌};
+ghost use Rattle.http_cache_rules.specs.DisplayText.{source_words};
+
 use std::fmt;
 use std::time::Duration;
 
@@ -21,13 +24,14 @@ pub enum LifetimeSource {
     MaxAge,
     /// Its Expires, which is no date: zero (RFC 7234, section 5.3).
     UnreadableExpires,
-    /// Its Expires, which isn't after Date: zero, or the least lifetime where it is `immutable`.
+    /// Its Expires, which isn't after Date: zero.
     PastExpires,
     /// Its Expires, seen from Date (RFC 7234, section 5.3).
     Expires,
     /// A part of the time since Last-Modified (RFC 7234, section 4.2.2).
     LastModified,
-    /// Nothing says how long, but it is `immutable`: the least lifetime of such a response.
+    /// It is `immutable`: the least lifetime of such a response, where Expires or Last-Modified gives
+    /// less, or nothing says how long.
     Immutable,
     /// Nothing says how long: zero.
     Nothing,
@@ -35,7 +39,9 @@ pub enum LifetimeSource {
 
 impl LifetimeSource {
     // The words of the headers for it.
-    fn words(self) -> &'static str {
+    fn words(self) -> &'static str
+        ensures { result.now ≡ source_words self }
+    {
         match self {
             LifetimeSource::NotStorable => "not storable",
             LifetimeSource::NoCache => "no-cache",
@@ -56,7 +62,7 @@ impl LifetimeSource {
 
 /// How long a response stays fresh, and what decides that. Its text has the lifetime in whole
 /// seconds, where that isn't zero for want of anything else.
-#[derive(Clone, Copy, Debug)]
+#[derive(Clone, Copy, Debug, PartialEq, Eq)]
 pub struct Freshness {
     /// What decides it.
     pub source: LifetimeSource,
@@ -65,6 +71,12 @@ pub struct Freshness {
 }
 
 impl fmt::Display for Freshness {
+    ghost use Rattle.std.specs.Prelude.{Some};
+    ghost use Rattle.http_cache_rules.specs.Freshness.{freshness_seen};
+    ghost use Rattle.http_cache_rules.specs.DisplayText.{freshness_text};
+
+    ghost output = { λ freshness. Some (freshness_text (freshness_seen freshness)) };
+
     fn fmt<W: fmt::Write>(&self, f: &mut fmt::Formatter<W>) -> fmt::Result {
         let words = self.source.words();
         let seconds = self.lifetime.as_secs();

@@ -31,6 +31,11 @@ pub enum Permission {
 }
 
 impl fmt::Display for Permission {
+    ghost use Rattle.std.specs.Prelude.{Some};
+    ghost use Rattle.http_cache_rules.specs.DisplayText.{permission_text};
+
+    ghost output = { λ permission. Some (permission_text permission) };
+
     fn fmt<W: fmt::Write>(&self, f: &mut fmt::Formatter<W>) -> fmt::Result {
         let words = match self {
             Permission::Expires => "Expires",
@@ -65,7 +70,9 @@ pub struct Obstacles {
 }
 
 impl Obstacles {
+    ghost use Rattle.std.specs.Prelude.{map};
     ghost use Rattle.http_cache_rules.specs.Storability.{is_any};
+    ghost use Rattle.http_cache_rules.specs.DisplayText.{obstacle_rows};
 
     /// Whether one of them holds.
     pub fn is_any(&self) -> bool
@@ -81,7 +88,9 @@ impl Obstacles {
     }
 
     // Each with the words for it.
-    fn with_words(&self) -> [(bool, &'static str); 7] {
+    fn with_words(&self) -> [(bool, &'static str); 7]
+        ensures { map (λ row. (row.0, row.1.now)) result ≡ obstacle_rows self.now }
+    {
         [
             (self.request_no_store, "no-store of the request"),
             (self.method, "method"),
@@ -95,10 +104,16 @@ impl Obstacles {
 }
 
 impl fmt::Display for Obstacles {
+    ghost use Rattle.std.specs.Prelude.{Some};
+    ghost use Rattle.http_cache_rules.specs.DisplayText.{obstacles_text};
+
+    ghost output = { λ obstacles. Some (obstacles_text obstacles) };
+
     fn fmt<W: fmt::Write>(&self, f: &mut fmt::Formatter<W>) -> fmt::Result {
         let mut separator = "";
-        for (holds, words) in self.with_words() {
-            if holds {
+        for row in self.with_words() {
+            if row.0 {
+                let words = row.1;
                 write!(f, "{separator}{words}")?;
                 separator = ", ";
             }
@@ -117,6 +132,11 @@ pub enum Storability {
 }
 
 impl fmt::Display for Storability {
+    ghost use Rattle.std.specs.Prelude.{Some};
+    ghost use Rattle.http_cache_rules.specs.DisplayText.{storability_text};
+
+    ghost output = { λ storability. Some (storability_text storability) };
+
     fn fmt<W: fmt::Write>(&self, f: &mut fmt::Formatter<W>) -> fmt::Result {
         match self {
             Storability::Allowed(permission) => write!(f, "storable: {permission}"),

@@ -2,7 +2,7 @@
 use Rattle.std.proofs.Common.{◌≡◌, ◌⊎◌, inl, inr, ℕ, ℤ, ◌+◌, ◌&&◌, List, []}
 use Rattle.std.proofs.Common.{◌∷◌, Bool, true, false, true≢false, Option, Some, None}
 use Rattle.std.proofs.Common.{option_map, find, refl, sym, ap, subst, ◌∙◌, slice_get}
-use Rattle.std.proofs.Common.{not, is_some, is_none, position}
+use Rattle.std.proofs.Common.{not, is_some, is_none}
 use Rattle.std.specs.Prelude.{IsSomeAnd}
 use Rattle.std.specs.Option.{option_or}
 use Rattle.std.proofs.lemmas.Bool.{and_parts}
@@ -23,7 +23,7 @@ use Rattle.http_cache_semantics.specs.Variants.{fresh_place, matching_place, cho
 use Rattle.http_cache_semantics.specs.Variants.{IsAtPlace, IsChoice, IsPassedOver, one_further}
 use Rattle.http_cache_semantics.specs.Variants.{choice_of, matching, Kind, used, validated}
 use Rattle.http_cache_semantics.specs.Variants.{nothing, kind_of, exchange_chosen, IsSameChoice}
-use Rattle.http_cache_semantics.specs.Variants.{is_for_stored, told_place, target_missed, explanation_among}
+use Rattle.http_cache_semantics.specs.Variants.{target_place, told_place, target_missed, explanation_among}
 use Rattle.http_cache_semantics.specs.declared.variants.Choice.{Choice}
 use Rattle.http_cache_semantics.specs.declared.variants.Choice.TheVariants.{Fresh, Validate, Nothing}
 use Rattle.http_cache_semantics.proofs.PlaceLemmas.{at_place, position-passes}
@@ -306,7 +306,7 @@ told-hit request now es place e told at = by (fresh_place request now es) refl
   where
     by : (o : Option ℕ) → fresh_place request now es ≡ o → is_fresh_for e request now ≡ is_some o
     by (Some i) is =
-        let named = position (is_for_stored request) es in
+        let named = target_place request es in
         let same : Some i ≡ Some place =
         subst (λ (o : Option ℕ). option_or (option_or o (matching_place request es)) named ≡ Some place) is told in
         position-passes (λ e. is_fresh_for e request now) es place e (is ∙ same) at
@@ -321,7 +321,7 @@ told-mismatch request now es place e told at = by (chosen_place request now es) 
     by : (o : Option ℕ) → chosen_place request now es ≡ o → not (request_matches e request) ≡ is_none o
     by (Some i) is =
         let same : Some i ≡ Some place =
-        subst (λ (o : Option ℕ). option_or o (position (is_for_stored request) es) ≡ Some place) is told in
+        subst (λ (o : Option ℕ). option_or o (target_place request es) ≡ Some place) is told in
         ap not (chosen-matches request now es place e (is ∙ same) at)
     by None is = ap not (position-fails (λ e. request_matches e request) es place e (unchosen request now es is).1 at)
 
@@ -331,5 +331,5 @@ pub untold : (request : RequestSeen) (now : ℤ) (es : List Exchange) → told_p
     × (target_missed ≡ explanation_among es request now)
 unfolding explanation_among
 untold request now es none =
-    let chosen = (both_none (chosen_place request now es) (position (is_for_stored request) es) none).0 in
+    let chosen = (both_none (chosen_place request now es) (target_place request es) none).0 in
     ((unchosen request now es chosen).0, chosen, rw none refl)

@@ -125,11 +125,17 @@ pub record IsSameChoice
 abbrev pub is_for_stored : RequestSeen → Exchange → Bool
 is_for_stored request e = bytes_eq e.method request.method && request.is_same_target e.target
 
--- the place of the exchange that is told of: the chosen one, or else the first that is for the
--- request's method and target
+-- the place of the first exchange for the request's target: by its method if there is one, else by
+-- any method
+abbrev pub target_place : RequestSeen → List Exchange → Option ℕ
+target_place request es =
+    option_or (position (is_for_stored request) es)
+    (position (λ e. request.is_same_target e.target) es)
+
+-- the place of the exchange that is told of: the chosen one, or else the first for the request's
+-- target
 abbrev pub told_place : RequestSeen → ℤ → List Exchange → Option ℕ
-told_place request now es =
-    option_or (chosen_place request now es) (position (is_for_stored request) es)
+told_place request now es = option_or (chosen_place request now es) (target_place request es)
 
 -- that nothing is stored for the target: no age, and nothing that gives a lifetime
 abbrev pub target_missed : ExplanationSeen

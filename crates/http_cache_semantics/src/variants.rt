@@ -73,7 +73,8 @@ fn is_for_stored<Req: RequestLike>(policy: &CachePolicy, req: &Req) -> bool
 impl Variants {
     ghost use Rattle.http_cache_semantics.specs.Variants.{fresh_place, matching_place, chosen_place, IsChoice};
     ghost use Rattle.http_cache_semantics.specs.Variants.{IsOfChosen, IsOfFresh, IsOfValidate, IsPassedOver, choice_of};
-    ghost use Rattle.http_cache_semantics.specs.Variants.{matching, IsSameChoice, told_place, explanation_among};
+    ghost use Rattle.http_cache_semantics.specs.Variants.{matching, IsSameChoice, target_place, told_place};
+    ghost use Rattle.http_cache_semantics.specs.Variants.{explanation_among};
 
     /// No policies. It takes no memory; the allocator is kept for `add`.
     pub fn new(alloc: Global) -> Variants
@@ -240,7 +241,7 @@ impl Variants {
     }
 
     // The place of the first whose method and target are a request's.
-    fn place_for_target<Req: RequestLike>(&self, req: &Req) -> Option<usize>
+    fn place_for_stored<Req: RequestLike>(&self, req: &Req) -> Option<usize>
         ensures value { result ≡ position (is_for_stored (Req.seen req.now)) self.now }
         ensures within { IfSome result (λ place. place < length self.now) }
     {
@@ -249,21 +250,45 @@ impl Variants {
             .position(|policy| is_for_stored(policy, req))
     }
 
-    // The place of the chosen one, else of the first for the request's method and target.
+    // The place of the first whose target is a request's.
+    fn place_by_any_method<Req: RequestLike>(&self, req: &Req) -> Option<usize>
+        ensures value { result
+            ≡ position (λ e. (Req.seen req.now).is_same_target e.target) self.now }
+        ensures within { IfSome result (λ place. place < length self.now) }
+    {
+        self.policies
+            .iter()
+            .position(|policy| req.is_same_uri(policy.stored_target()))
+    }
+
+    // The place of the first for the request's target, by its method if there is one.
+    fn target_place<Req: RequestLike>(&self, req: &Req) -> Option<usize>
+        ensures value { result ≡ target_place (Req.seen req.now) self.now }
+        ensures within { IfSome result (λ place. place < length self.now) }
+    {
+        match self.place_for_stored(req) {
+            Some(place) => Some(place),
+            None => self.place_by_any_method(req),
+        }
+    }
+
+    // The place of the chosen one, else of the first for the request's target.
     fn told_place<Req: RequestLike>(&self, req: &Req, now: Timestamp) -> Option<usize>
         ensures value { result ≡ told_place (Req.seen req.now) now.nanosecond self.now }
         ensures within { IfSome result (λ place. place < length self.now) }
     {
         match self.chosen_place(req, now) {
             Some(place) => Some(place),
-            None => self.place_for_target(req),
+            None => self.target_place(req),
         }
     }
 
-    /// Why none of the stored responses is used for a request at a moment without validation, or
-    /// that one is. It tells of the policy that `choose` goes by; where that is none, of the first
-    /// for the request's method and target; and where there is none such, that the target is missed
-    /// (RFC 9211, section 2.2). It takes no memory.
+    /// Returns why none of the stored responses is used for a request at `now` without validation, or
+    /// that one is. It takes no memory.
+    ///
+    /// It reports on the policy that `choose` goes by; where that is none, on the first one for the
+    /// request's target, by its method if there is one, else by any method; and where there is none
+    /// such, that the target is missed (RFC 9211, section 2.2).
     #[tactic(auto, unfolding(crate::specs::Variants::explanation_among))]
     pub fn explain<Req: RequestLike>(&self, req: &Req, now: Timestamp) -> Explanation<'_>
         ensures value { explanation_seen result

@@ -103,7 +103,9 @@ fn is_validated(verdict: &Verdict) -> bool
 {
     match &verdict.asked.cause {
         None => false,
-        Some(Cause::Method | Cause::Target | Cause::Host | Cause::Vary(_)) => false,
+        Some(
+            Cause::Target | Cause::Host | Cause::OtherOfGetAndHead | Cause::Method | Cause::Vary(_),
+        ) => false,
         Some(_) => true,
     }
 }
@@ -114,7 +116,9 @@ fn is_missed(verdict: &Verdict) -> bool
 {
     match &verdict.asked.cause {
         None => false,
-        Some(Cause::Method | Cause::Target | Cause::Host | Cause::Vary(_)) => true,
+        Some(
+            Cause::Target | Cause::Host | Cause::OtherOfGetAndHead | Cause::Method | Cause::Vary(_),
+        ) => true,
         Some(_) => false,
     }
 }

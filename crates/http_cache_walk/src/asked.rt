@@ -10,12 +10,14 @@ use std::time::Duration;
 /// Why a stored response wasn't used for a request without validation: a `Reason` that stands alone.
 #[derive(Debug, Drop)]
 pub enum Cause {
-    /// The request had another method.
-    Method,
     /// Nothing was stored under its method and target.
     Target,
     /// It had another Host.
     Host,
+    /// Its method was the other one of GET and HEAD.
+    OtherOfGetAndHead,
+    /// The request had another method.
+    Method,
     /// The stored response varied by this name (RFC 7234, section 4.1).
     Vary(String),
     /// The request said `no-cache`.
@@ -54,9 +56,10 @@ fn cause_of(alloc: Global, reason: Reason<'_>) -> Result<Cause, AllocError>
     ensures { IfOk result (λ cause. cause_seen cause ≡ reason_seen reason.entry) }
 {
     Ok(match reason {
-        Reason::Method => Cause::Method,
         Reason::Target => Cause::Target,
         Reason::Host => Cause::Host,
+        Reason::OtherOfGetAndHead => Cause::OtherOfGetAndHead,
+        Reason::Method => Cause::Method,
         Reason::Vary(name) => Cause::Vary(String::from_str(alloc, name)?),
         Reason::NoCache => Cause::NoCache,
         Reason::Pragma => Cause::Pragma,

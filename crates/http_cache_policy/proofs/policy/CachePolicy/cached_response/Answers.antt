@@ -1,5 +1,5 @@
 -- A fresh answer has the stored status, and its headers have the age and the date of the moment.
-use Rattle.std.proofs.Common.{◌≡◌, ◌/◌, ◌∷◌, [], ℕ, List, true, false, Option, is_some, decimal, codes, refl, sym, ap}
+use Rattle.std.proofs.Common.{◌≡◌, ◌/◌, ◌∷◌, [], ℕ, List, false, Option, is_some, decimal, codes, refl, sym, ap}
 use Rattle.std.proofs.Common.{subst, ◌∙◌, inl, inr, rules, IsErrOf, IfSome, true≢false}
 use Rattle.std.specs.FinMap as fin
 use Rattle.http_cache_fields.specs.declared.error.CacheError.TheVariants.{HeaderMapFull}

@@ -1,4 +1,4 @@
--- Where the method, the target and Host are the stored ones, the first name of Vary that differs is told.
+-- Where the target, Host and the method are the stored ones, the first name of Vary that differs is told.
 use Rattle.std.proofs.Common.{◌≡◌, true, codes, bytes_eq, None, option_map, option_copied, rules, sym, ap, ◌∙◌}
 use Rattle.std.specs.List.{find}
 use Rattle.http_cache_fields.specs.Headers.{first}
@@ -21,7 +21,7 @@ returns g c =
     ∙ ap (option_map varies_by)
     (c.differing_name.ensures
     ∙ ap (λ h. find (differs_under e.request_headers h) (varied_names e)) c.headers-2.ensures)
-    ∙ sym (mismatch-varied e request method target host)
+    ∙ sym (mismatch-varied e request target host method)
 
 pub returns-in_err-name : goal.returns-in_err-name
 returns-in_err-name g c =
@@ -37,4 +37,4 @@ returns-in_err-name g c =
     ∙ ap (option_map varies_by)
     (c.differing_name.ensures
     ∙ ap (λ h. find (differs_under e.request_headers h) (varied_names e)) c.headers-2.ensures)
-    ∙ sym (mismatch-varied e request method target host)
+    ∙ sym (mismatch-varied e request target host method)

@@ -1,17 +1,22 @@
 -- The member of Cache-Status is an item with its parameters.
-use Rattle.std.proofs.Common.{◌≡◌, ◌⊎◌, inl, inr, ℕ, ◌+◌, ◌-◌, ◌/◌, Bool, true, false, nat_le, List, [], ◌∷◌, ◌++◌}
-use Rattle.std.proofs.Common.{codes, map, decimal, Option, Some, None, if◌then◌else◌, append-nil, refl, sym, subst}
+use Rattle.std.proofs.Common.{◌≡◌, ◌⊎◌, inl, inr, ℕ, ◌≤◌, Bool, true, false, nat_le, List, [], ◌∷◌, ◌++◌}
+use Rattle.std.proofs.Common.{codes, map, decimal, Option, Some, None, if◌then◌else◌, append-nil, refl, sym, subst, arith}
+use Rattle.std.specs.Prelude.{IfSome}
 use Rattle.std.proofs.lemmas.Bool.{and_from, leb-true}
 use Rattle.std.specs.List.{list_all}
 use Rattle.http_header.specs.Token.{is_token_byte}
-use Rattle.http_cache_reasons.specs.Reason.{ReasonSeen, other_method, other_target, other_host, varies_by}
-use Rattle.http_cache_reasons.specs.Reason.{asks_no_cache, asks_pragma, asks_max_age, asks_min_fresh, is_stale}
-use Rattle.http_cache_reasons.specs.Reason.{is_mismatch, ExplanationSeen}
 use Rattle.http_cache_reasons.specs.StructuredField.{is_printable, printable, string_item, is_bare_token, name_item}
 use Rattle.http_cache_reasons.specs.StructuredField.{IsBareItem, is_string, is_token, is_integer, is_negative}
 use Rattle.http_cache_reasons.specs.StructuredField.{IsParameter, is_flag, has_value, IsItem, is_bare, with_parameter}
-use Rattle.http_cache_reasons.specs.CacheStatus.{forward_word, outcome_parameter, seconds_parameter, ttl_parameter}
-use Rattle.http_cache_reasons.specs.CacheStatus.{ttl_told, detail_parameter, detail_told, cache_status}
+use Rattle.http_cache_reasons.specs.Member.{forward_word, outcome_parameter, status_parameter, stored_parameter}
+use Rattle.http_cache_reasons.specs.Member.{seconds_parameter, ttl_parameter, detail_parameter, MemberSeen, member_text}
+use Rattle.http_cache_reasons.specs.declared.member.Forward.{Forward}
+use Rattle.http_cache_reasons.specs.declared.member.Forward.TheVariants.{Bypass, Method, UriMiss, VaryMiss, Miss}
+use Rattle.http_cache_reasons.specs.declared.member.Forward.TheVariants.{Request, Stale}
+use Rattle.http_cache_reasons.specs.declared.member.CacheOutcome.{CacheOutcome}
+use Rattle.http_cache_reasons.specs.declared.member.CacheOutcome.TheVariants.{Hit, Forwarded, Generated}
+use Rattle.http_cache_reasons.specs.declared.member.TimeLeft.{TimeLeft}
+use Rattle.http_cache_reasons.specs.declared.member.TimeLeft.TheVariants.{Left, Past}
 
 -- ---- bare items
 
@@ -37,27 +42,36 @@ name-is_item text = by (is_bare_token text) refl
     by true is = is_token text is
     by false is = string-is_item text
 
-word-is_token : (reason : ReasonSeen) → is_bare_token (forward_word reason) ≡ true
+word-is_token : (why : Forward) → is_bare_token (forward_word why) ≡ true
 unfolding is_token_byte
-word-is_token other_method = refl
-word-is_token other_target = refl
-word-is_token other_host = refl
-word-is_token (varies_by name) = refl
-word-is_token asks_no_cache = refl
-word-is_token asks_pragma = refl
-word-is_token (asks_max_age seconds) = refl
-word-is_token (asks_min_fresh seconds) = refl
-word-is_token (is_stale why) = refl
+word-is_token Bypass = refl
+word-is_token Method = refl
+word-is_token UriMiss = refl
+word-is_token VaryMiss = refl
+word-is_token Miss = refl
+word-is_token Request = refl
+word-is_token Stale = refl
 
--- ---- parameters, one of which may be left out
+-- ---- parameters, each of which may be left out
 
 abbrev MayBeParameter : List ℕ → Type 0
 MayBeParameter text = (text ≡ []) ⊎ IsParameter text
 
-outcome-is_parameter : (reason : Option ReasonSeen) → IsParameter (outcome_parameter reason)
-outcome-is_parameter None = is_flag (codes "hit") refl
-outcome-is_parameter (Some reason) =
-    has_value (codes "fwd") (forward_word reason) refl (is_token (forward_word reason) (word-is_token reason))
+outcome-may_be : (outcome : CacheOutcome) → MayBeParameter (outcome_parameter outcome)
+outcome-may_be Hit = inr (is_flag (codes "hit") refl)
+outcome-may_be (Forwarded why) =
+    inr (has_value (codes "fwd") (forward_word why) refl (is_token (forward_word why) (word-is_token why)))
+outcome-may_be Generated = inl refl
+
+status-may_be : (status : Option ℕ) → IfSome status (λ n. n ≤ 999) → MayBeParameter (status_parameter status)
+status-may_be None few = inl refl
+status-may_be (Some n) few =
+    let within : n ≤ 999_999_999_999_999 = omega (arith, few) in
+    inr (has_value (codes "fwd-status") (decimal n) refl (is_integer n within))
+
+stored-may_be : (stored : Bool) → MayBeParameter (stored_parameter stored)
+stored-may_be true = inr (is_flag (codes "stored") refl)
+stored-may_be false = inl refl
 
 left-may_be : (n : ℕ) → MayBeParameter (seconds_parameter (codes "; ttl=") n)
 left-may_be n = by (nat_le n 999_999_999_999_999) refl
@@ -77,23 +91,10 @@ past-may_be n = by (nat_le n 999_999_999_999_999) refl
         (is_negative n (leb-true n 999_999_999_999_999 few)))
     by false few = inl refl
 
-ttl-may_be : (lifetime age : ℕ) → MayBeParameter (ttl_parameter lifetime age)
-ttl-may_be lifetime age = by (nat_le age lifetime)
-  where
-    by : (t : Bool)
-        → MayBeParameter
-        (if t then seconds_parameter (codes "; ttl=") ((lifetime - age) / 1_000_000_000)
-        else seconds_parameter (codes "; ttl=-") ((age - lifetime + 999_999_999) / 1_000_000_000))
-    by true = left-may_be ((lifetime - age) / 1_000_000_000)
-    by false = past-may_be ((age - lifetime + 999_999_999) / 1_000_000_000)
-
-told-may_be : (reason : Option ReasonSeen) (lifetime age : ℕ) → MayBeParameter (ttl_told reason lifetime age)
-told-may_be None lifetime age = ttl-may_be lifetime age
-told-may_be (Some reason) lifetime age = by (is_mismatch reason)
-  where
-    by : (t : Bool) → MayBeParameter (if t then [] else ttl_parameter lifetime age)
-    by true = inl refl
-    by false = ttl-may_be lifetime age
+ttl-may_be : (left : Option TimeLeft) → MayBeParameter (ttl_parameter left)
+ttl-may_be None = inl refl
+ttl-may_be (Some (Left seconds)) = left-may_be seconds
+ttl-may_be (Some (Past seconds)) = past-may_be seconds
 
 detail-may_be : (told : Option (List ℕ)) → MayBeParameter (detail_parameter told)
 detail-may_be None = inl refl
@@ -106,11 +107,10 @@ item-with front part is (inl none) =
     subst (λ (p : List ℕ). IsItem (front ++ p)) (sym none) (subst IsItem (sym (append-nil front)) is)
 item-with front part is (inr more) = with_parameter front part is more
 
-pub cache_status-is_item : (cache : List ℕ) (x : ExplanationSeen) → IsItem (cache_status cache x)
-unfolding cache_status
-cache_status-is_item cache x =
-    let named = is_bare (name_item cache) (name-is_item cache) in
-    let outcome = with_parameter (name_item cache) (outcome_parameter x.reason) named (outcome-is_parameter x.reason) in
-    item-with _ _
-    (item-with _ _ outcome (told-may_be x.reason x.freshness.1 x.age))
-    (detail-may_be (detail_told x.reason))
+pub member-is_item : (x : MemberSeen) → IfSome x.forward_status (λ n. n ≤ 999) → IsItem (member_text x)
+unfolding member_text
+member-is_item x few =
+    let outcome = item-with _ _ (is_bare (name_item x.cache) (name-is_item x.cache)) (outcome-may_be x.outcome) in
+    let status = item-with _ _ outcome (status-may_be x.forward_status few) in
+    let stored = item-with _ _ status (stored-may_be x.stored) in
+    item-with _ _ (item-with _ _ stored (ttl-may_be x.left)) (detail-may_be x.detail)
