@@ -49,10 +49,14 @@ pub enum Call {
     Append,
     /// `cache_status`, with a name and a detail that are strings.
     CacheStatus,
+    /// `detail` of an explanation.
+    Detail,
+    /// `text` of a member that says all that a cache learns.
+    Member,
 }
 
 /// Each call once.
-pub const CALLS: [Call; 28] = [
+pub const CALLS: [Call; 30] = [
     Call::New,
     Call::NewOptions,
     Call::TryClone,
@@ -81,4 +85,6 @@ pub const CALLS: [Call; 28] = [
     Call::Update,
     Call::Append,
     Call::CacheStatus,
+    Call::Detail,
+    Call::Member,
 ];

@@ -7,12 +7,13 @@ use crate::answers::{
 };
 use crate::call::Call;
 use cache_script::{Script, Step, UnreadScript, script_from_bytes};
-use http::HeaderMap;
 use http::header::{HeaderValue, VIA};
+use http::{HeaderMap, StatusCode};
 use http_cache_semantics::chain::{chain, replay};
 use http_cache_semantics::directives::{
     CacheControl, GetHeaderStr, format_cache_control, parse_cache_control,
 };
+use http_cache_semantics::explain::{CacheOutcome, Explanation, Forward, Member, TimeLeft};
 use http_cache_semantics::forwarding::{
     append, forwarded_headers, joined_headers, updated_headers,
 };
@@ -198,6 +199,31 @@ fn is_choice(call: Call, choice: &Choice) -> bool {
     }
 }
 
+// Whether an explanation that goes by Accept says so.
+fn is_told(alloc: Global, explanation: &Explanation<'_>, call: Call) -> Result<bool, CacheError> {
+    match call {
+        Call::Detail => Ok(explanation.detail(alloc)?.as_deref() == Some("Accept")),
+        _ => {
+            let member = explanation.cache_status(alloc, "example cache")?;
+            Ok(member.as_str() == "\"example cache\"; fwd=vary-miss; detail=\"Accept\"")
+        }
+    }
+}
+
+// Whether a member says all that a cache learns of a request.
+fn is_member(alloc: Global) -> Result<bool, CacheError> {
+    let member = Member {
+        cache: "a",
+        outcome: CacheOutcome::Forwarded(Forward::Stale),
+        forward_status: Some(StatusCode::NOT_MODIFIED),
+        stored: true,
+        left: Some(TimeLeft::Left(60)),
+        detail: Some("max-age=5"),
+    };
+    let text = member.text(alloc)?;
+    Ok(text.as_str() == "a; fwd=stale; fwd-status=304; stored; ttl=60; detail=\"max-age=5\"")
+}
+
 // Whether a policy that isn't added comes back as it was.
 fn is_added(variants: &mut Variants, policy: CachePolicy) -> Result<bool, CacheError> {
     match variants.add(policy) {
@@ -328,16 +354,15 @@ impl Case {
             Call::Join => self.is_joined(alloc),
             Call::Update => self.is_updated(alloc),
             Call::Append => is_appended(alloc),
-            Call::CacheStatus => self.explains(alloc),
+            Call::CacheStatus | Call::Detail => self.explains(alloc, call),
+            Call::Member => is_member(alloc),
         }
     }
 
-    fn explains(&self, alloc: Global) -> Result<bool, CacheError> {
+    fn explains(&self, alloc: Global, call: Call) -> Result<bool, CacheError> {
         match self.script.steps.get(6) {
             Some(Step::Ask { request, moment }) => {
-                let explanation = self.policy.explain(request, *moment);
-                let member = explanation.cache_status(alloc, "example cache")?;
-                Ok(member.as_str() == "\"example cache\"; fwd=vary-miss; detail=\"Accept\"")
+                is_told(alloc, &self.policy.explain(request, *moment), call)
             }
             _ => Err(CacheError::Malformed),
         }

@@ -2,7 +2,9 @@
 use crate::case::{Case, after, choice_at, form, variants};
 use cache_script::{Script, Step};
 use http_cache_semantics::directives::{CacheControl, GetHeaderStr, get_all_comma};
-use http_cache_semantics::explain::{LifetimeSource, Permission, Storability};
+use http_cache_semantics::explain::{
+    CacheOutcome, Forward, LifetimeSource, Permission, Storability, TimeLeft,
+};
 use http_cache_semantics::forwarding::{http_date, print_date, read_date};
 use http_cache_semantics::policy::Fraction;
 use http_cache_semantics::stored::{moment_from_value, options_from_value};
@@ -34,6 +36,10 @@ pub enum Look {
     FreshAt,
     /// The same.
     Explain,
+    /// `outcome` of both explanations.
+    Outcome,
+    /// `time_left` of the first.
+    TimeLeft,
     /// Of a request that is to be validated, where no use of a stale response is allowed.
     StaleUse,
     /// Of a request whose If-None-Match has another tag.
@@ -79,7 +85,7 @@ pub enum Look {
 }
 
 /// Each of these calls once.
-pub const LOOKS: [Look; 45] = [
+pub const LOOKS: [Look; 47] = [
     Look::IsStorable,
     Look::Age,
     Look::TimeToLive,
@@ -94,6 +100,8 @@ pub const LOOKS: [Look; 45] = [
     Look::MatchesRequest,
     Look::FreshAt,
     Look::Explain,
+    Look::Outcome,
+    Look::TimeLeft,
     Look::StaleUse,
     Look::IsNotModifiedFor,
     Look::SatisfiesWithoutRevalidation,
@@ -167,6 +175,32 @@ fn told_at(case: &Case, place: usize, look: Look) -> Option<bool> {
             _ => case.policy().matches_request(request),
         }),
         _ => None,
+    }
+}
+
+// Whether the explanations of two steps say a hit with 4 whole seconds left, and a miss by Vary.
+fn is_right_of_explained(case: &Case, look: Look) -> bool {
+    match (case.script().steps.get(0), case.script().steps.get(6)) {
+        (
+            Some(
+                Step::Ask {
+                    request: one,
+                    moment,
+                },
+            ),
+            Some(Step::Ask { request: other, .. }),
+        ) => {
+            let hit = case.policy().explain(one, *moment);
+            let miss = case.policy().explain(other, *moment);
+            match look {
+                Look::TimeLeft => hit.time_left() == TimeLeft::Left(4),
+                _ => {
+                    hit.outcome() == CacheOutcome::Hit
+                        && miss.outcome() == CacheOutcome::Forwarded(Forward::VaryMiss)
+                }
+            }
+        }
+        _ => false,
     }
 }
 
@@ -319,6 +353,7 @@ fn is_right_of_exchange(alloc: Global, case: &Case, look: Look) -> bool {
         | Look::StoredStatus
         | Look::StoredHeaders
         | Look::StoredResponseTime => { is_right_of_stored(case, look) }
+        Look::Outcome | Look::TimeLeft => is_right_of_explained(case, look),
         Look::MatchesRequest | Look::FreshAt | Look::Explain => {
             told_at(case, 0, look) == Some(true) && told_at(case, 6, look) == Some(false)
         }
