@@ -1,5 +1,5 @@
 -- One field line for each name.
-use Rattle.std.proofs.Common.{◌≡◌, ◌∙◌, ℕ, Bool, true, false, not, ◌||◌, List, [], ◌∷◌, ◌++◌, codes, bytes_eq}
+use Rattle.std.proofs.Common.{◌≡◌, ◌∙◌, ℕ, Bool, true, false, List, [], ◌∷◌, ◌++◌, codes, bytes_eq}
 use Rattle.std.proofs.Common.{◌<◌, map, filter, subst, slice_get, is_some, ◌-◌, length, length-drop, arith, Option, Some, None, option_map, unwrap_or, cond, refl, sym, ap, inl, inr}
 use Rattle.std.specs.FinMap as fin
 use Rattle.std.specs.List.{list_all, flat_map, slice_split, onto_first}
@@ -9,7 +9,6 @@ use Rattle.std.proofs.lemmas.Bool.{cases_Bool}
 use Rattle.std.proofs.lemmas.List.Folds.{list_all-append}
 use Rattle.http_header.specs.Token.{is_visible_or_blank}
 use Rattle.std.proofs.lemmas.List.{append-nil, append_assoc, map-append}
-use Rattle.std.proofs.lemmas.Grind.{flat_map-append}
 use Rattle.http_cache_fields.specs.Text.{is_text, is_comma, trim}
 use Rattle.http_cache_fields.specs.Directives.{directives, cache_control}
 use Rattle.std.proofs.lemmas.Slice.Eq.{bytes_eq-Decides}

@@ -1,5 +1,5 @@
 -- The stored fields after a 304, new names too.
-use Rattle.std.proofs.Common.{◌≡◌, ◌∙◌, ℕ, Bool, true, false, List, [], ◌∷◌, ◌++◌, Option, Some, None, unwrap_or, bytes_eq, is_some, slice_get, length}
+use Rattle.std.proofs.Common.{◌≡◌, ◌∙◌, ℕ, true, false, List, [], ◌∷◌, ◌++◌, Option, Some, None, unwrap_or, bytes_eq, is_some, slice_get, length}
 use Rattle.std.proofs.Common.{refl, sym, ap, subst, inl, inr, arith, append-nil, length-append}
 use Rattle.std.specs.Option.{option_or}
 use Rattle.std.specs.FinMap as fin

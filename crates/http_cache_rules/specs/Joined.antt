@@ -1,5 +1,5 @@
 -- One field line for each name (RFC 9110, section 5.3).
-use Rattle.std.specs.Prelude.{ℕ, Bool, ◌||◌, not, List, [], ◌∷◌, ◌++◌, codes, bytes_eq, if◌then◌else◌, take}
+use Rattle.std.specs.Prelude.{ℕ, Bool, ◌||◌, not, List, [], ◌∷◌, ◌++◌, codes, bytes_eq, if◌then◌else◌}
 use Rattle.std.specs.List.{list_all, list_any, flat_map}
 use Rattle.http_cache_fields.specs.Text.{is_text}
 use Rattle.http_cache_fields.specs.Headers.{Headers, values}

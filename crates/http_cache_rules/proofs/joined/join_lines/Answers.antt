@@ -5,9 +5,9 @@ use Rattle.std.specs.List.{list_all}
 use Rattle.http_header.specs.FieldValue.{IsFieldValue}
 use Rattle.http_header.specs.HeaderMap.{get_all}
 use Rattle.http_cache_fields.specs.Text.{is_text}
-use Rattle.http_cache_fields.specs.Headers.{headers_of, bytes_of, contains_key, set}
+use Rattle.http_cache_fields.specs.Headers.{headers_of, bytes_of, set}
 use Rattle.http_cache_fields.proofs.HeadersLemmas.{values-headers_of}
-use Rattle.http_cache_rules.specs.Joined.{is_singleton, joined_text, joined_values, stays_apart}
+use Rattle.http_cache_rules.specs.Joined.{joined_text, joined_values}
 use Rattle.http_cache_rules.proofs.JoinedLemmas.{changes-none, changes-one, joined_values-joined, joined_text-is_value}
 use Rattle.http_cache_rules.proofs.SweepLemmas.{absent-from_holds, changes-absent}
 use Rattle.http_cache_rules.proofs.joined.join_lines.Goals.{then-eq-via-then-eq, then-eq-via-else-eq+then-not-contains_key}

@@ -1,6 +1,6 @@
 -- A line that isn't text ends the loop; without one the whole line is written.
-use Rattle.std.proofs.Common.{◌≡◌, ◌∙◌, ℕ, Bool, true, false, ◌&&◌, List, [], ◌∷◌, ◌++◌, codes, string_bytes, if◌then◌else◌}
-use Rattle.std.proofs.Common.{true≢false, Option, Some, None, refl, sym, ap, append-nil}
+use Rattle.std.proofs.Common.{◌≡◌, ◌∙◌, ℕ, false, ◌&&◌, List, [], ◌++◌, codes, string_bytes, if◌then◌else◌}
+use Rattle.std.proofs.Common.{true≢false, Some, None, refl, sym, ap, append-nil}
 use lib.Utf8.{encode}
 use Rattle.std.specs.List.{list_all}
 use Rattle.http_cache_fields.specs.Text.{is_text}

@@ -1,12 +1,11 @@
 -- A singleton is left its first line, and an absent name stays absent.
-use Rattle.std.proofs.Common.{◌≡◌, ◌∙◌, ℕ, List, [], ◌∷◌, Some, true, is_some, slice_get, option_map, sym, ap, cond}
-use Rattle.std.specs.FinMap as fin
+use Rattle.std.proofs.Common.{◌≡◌, ◌∙◌, Some, is_some, slice_get, option_map, sym, ap}
 use Rattle.std.specs.Option.{option_copied}
 use Rattle.http_header.specs.HeaderMap.{get_all}
-use Rattle.http_cache_fields.specs.Headers.{headers_of, bytes_of, contains_key, first, set}
+use Rattle.http_cache_fields.specs.Headers.{headers_of, bytes_of, first, set}
 use Rattle.http_cache_fields.proofs.HeadersLemmas.{contains_key-headers_of, first-headers_of, values-headers_of}
 use Rattle.http_cache_rules.proofs.JoinedLemmas.{changes-one, joined_values-singleton}
-use Rattle.http_cache_rules.specs.Joined.{is_singleton, joined_values}
+use Rattle.http_cache_rules.specs.Joined.{joined_values}
 use Rattle.http_cache_rules.proofs.SweepLemmas.{absent-from_holds, changes-absent}
 use Rattle.http_cache_rules.proofs.joined.retain_first.Goals as goal
 

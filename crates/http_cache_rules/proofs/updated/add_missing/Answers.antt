@@ -1,5 +1,5 @@
 -- Stored values go under a name that isn't there, one after another.
-use Rattle.std.proofs.Common.{◌≡◌, ◌∙◌, ℕ, List, [], ◌∷◌, ◌++◌, unwrap_or, Some, None, IsErrOf, rules, refl, sym, ap, append_assoc, append-nil}
+use Rattle.std.proofs.Common.{◌≡◌, ◌∙◌, ℕ, List, [], ◌∷◌, ◌++◌, unwrap_or, IsErrOf, rules, refl, sym, ap, append_assoc, append-nil}
 use Rattle.std.specs.FinMap as fin
 use Rattle.http_header.specs.HeaderMap.{get_all}
 use Rattle.http_cache_fields.specs.Headers.{Headers, headers_of, bytes_of, values, with_further_value, RefusesValue}

@@ -1,8 +1,8 @@
 -- A sweep over the stored names adds each that is missing.
-use Rattle.std.proofs.Common.{IsErrOf, rules, ◌≡◌, ◌∷◌, ℕ, List, sym, subst, ap, ◌∙◌}
+use Rattle.std.proofs.Common.{IsErrOf, rules, ◌≡◌, ℕ, List, sym, subst, ◌∙◌}
 use Rattle.http_header.specs.HeaderMap.{keys}
 use Rattle.http_cache_fields.specs.Headers.{Headers, headers_of}
-use Rattle.http_cache_rules.specs.Updated.{updating_fields, StopsAt}
+use Rattle.http_cache_rules.specs.Updated.{updating_fields}
 use Rattle.http_cache_fields.specs.declared.error.CacheError.TheVariants.{HeaderMapFull}
 use Rattle.http_cache_rules.proofs.SweepLemmas.{IsSwept}
 use Rattle.http_cache_rules.proofs.UpdatedLemmas.{adds, adds-start, no_room}
