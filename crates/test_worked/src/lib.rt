@@ -4,19 +4,13 @@
 #[cfg(test)]
 mod chains;
 #[cfg(test)]
-mod conditions;
-#[cfg(test)]
 mod errors;
 #[cfg(test)]
 mod explanations;
 #[cfg(test)]
-mod forwarding;
-#[cfg(test)]
 mod own_messages;
 #[cfg(test)]
 mod parse_cache_control;
-#[cfg(test)]
-mod stale_uses;
 #[cfg(test)]
 mod stored_form;
 #[cfg(test)]

@@ -1,0 +1,34 @@
+//! How answers are written.
+use http::HeaderMap;
+use http_cache_semantics::CacheError;
+use std::alloc::Global;
+use std::fmt::Write;
+use std::test::Fail;
+
+/// Yes or no.
+pub fn word(holds: bool) -> &'static str {
+    if holds { "yes" } else { "no" }
+}
+
+/// Lines of headers in their order, with `?` for a value that isn't text.
+pub fn lines(alloc: Global, headers: &HeaderMap) -> Result<String, Fail> {
+    let mut text = String::new(alloc);
+    let mut separator = "";
+    for (name, value) in headers.iter() {
+        let value = value.to_str().unwrap_or("?");
+        write!(text, "{separator}{}: {value}", name.as_str())?;
+        separator = " ~ ";
+    }
+    Ok(text)
+}
+
+/// The lines of headers, or why there are none.
+pub fn lines_or_error(
+    alloc: Global,
+    headers: Result<HeaderMap, CacheError>,
+) -> Result<String, Fail> {
+    match headers {
+        Ok(headers) => lines(alloc, &headers),
+        Err(e) => Ok(format!(in alloc; "{e}")?),
+    }
+}
