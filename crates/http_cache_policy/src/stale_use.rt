@@ -74,6 +74,7 @@ impl CachePolicy {
     /// `must-revalidate`. In a shared cache it says neither `proxy-revalidate` nor `s-maxage` either,
     /// and sets no cookie unless it says `public` or `immutable`. The age is below the lifetime and
     /// the seconds of `stale-while-revalidate` or `stale-if-error`, where that is a number.
+    /// `while_revalidate` also needs that the request's own `max-age` and `min-fresh` are met.
     pub fn stale_use<Req: RequestLike>(&self, req: &Req, now: Timestamp) -> StaleUse
         ensures value { result ≡ stale_use self.now (Req.seen req.now) now.nanosecond }
         ensures not_while_fresh { is_fresh_for self.now (Req.seen req.now) now.nanosecond ≡ true
