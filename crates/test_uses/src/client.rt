@@ -18,22 +18,22 @@ use test_cases::fixtures::{after, field, request, response};
 fn steps() -> &'static str {
     r#"0|A: a|200|Cache-Control: max-age=10 ~ ETag: "1" ~ Vary: A|one|200 one|C; fwd=uri-miss|as it is
        5|A: a|500||no|200 one|C; hit; ttl=5|nothing
-       15|A: a|304|ETag: "1" ~ Cache-Control: max-age=10|no|200 one|C; fwd=stale; ttl=-5|"1"
+       15|A: a|304|ETag: "1" ~ Cache-Control: max-age=10|no|200 one|C; fwd=stale|"1"
        20|A: a|500||no|200 one|C; hit; ttl=5|nothing
        20|A: b|200|Cache-Control: max-age=100 ~ ETag: "2" ~ Vary: A|two|200 two|C; fwd=vary-miss; detail="A"|as it is
        21|A: b|500||no|200 two|C; hit; ttl=99|nothing
        22|A: a|500||no|200 one|C; hit; ttl=3|nothing
-       40|A: a|200|Cache-Control: max-age=10 ~ ETag: "3" ~ Vary: A|three|200 three|C; fwd=stale; ttl=-15|"1"
+       40|A: a|200|Cache-Control: max-age=10 ~ ETag: "3" ~ Vary: A|three|200 three|C; fwd=stale|"1"
        41|A: a|500||no|200 three|C; hit; ttl=9|nothing
        41|A: b|500||no|200 two|C; hit; ttl=79|nothing
-       60|A: a|200|Cache-Control: no-store ~ Vary: A|four|200 four|C; fwd=stale; ttl=-10|"3"
+       60|A: a|200|Cache-Control: no-store ~ Vary: A|four|200 four|C; fwd=stale|"3"
        61|A: a|200|Cache-Control: no-store ~ Vary: A|five|200 five|C; fwd=vary-miss; detail="A"|as it is
        62|A: b|500||no|200 two|C; hit; ttl=58|nothing
        200|A: b|none||no|no response||"2"
-       200|A: b|304|ETag: "2"|no|200 two|C; fwd=stale; ttl=-80|"2"
-       201|A: b ~ Cache-Control: no-cache|304|ETag: "2"|no|200 two|C; fwd=request; ttl=99; detail="no-cache"|"2"
+       200|A: b|304|ETag: "2"|no|200 two|C; fwd=stale|"2"
+       201|A: b ~ Cache-Control: no-cache|304|ETag: "2"|no|200 two|C; fwd=request; detail="no-cache"|"2"
        202|A: b|200|Cache-Control: max-age=9|six|200 two|C; hit; ttl=99|nothing
-       400|A: b|200|Cache-Control: max-age=9 ~ Cache-Status: O; hit|six|200 six|O; hit, C; fwd=stale; ttl=-99|"2"
+       400|A: b|200|Cache-Control: max-age=9 ~ Cache-Status: O; hit|six|200 six|O; hit, C; fwd=stale|"2"
        401|A: c|500||no|200 six|O; hit, C; hit; ttl=8|nothing"#
 }
 

@@ -6,7 +6,7 @@ use std::alloc::{AllocError, Global};
 use std::fmt::Write;
 use std::process::Abort;
 use std::test::Fail;
-use test_cases::fixtures::{after, field, request, response};
+use test_cases::fixtures::{after, field, request, response, with_further};
 
 // What is done in turn: a policy is added for a request with its headers and those of its response,
 // the policy at a place is taken out, or a request with headers asks so many seconds after the
@@ -149,5 +149,54 @@ fn choices_among_variants(rt: HostRuntime) -> Result<(), Fail> {
     for step in steps().lines() {
         take_step(&rt, rt.alloc(), &mut variants, step)?;
     }
+    Ok(())
+}
+
+// The choice among the policies for a request, or in which words it is refused.
+fn choice_or_refusal(
+    alloc: Global,
+    variants: &Variants,
+    asking: &request::Parts,
+    nanos: i64,
+) -> Result<String, Fail> {
+    let mut told = String::new(alloc);
+    match variants.choose(alloc, asking, after(nanos)?) {
+        Ok(choice) => add_choice(&mut told, &choice)?,
+        Err(e) => write!(told, "{e}")?,
+    }
+    Ok(told)
+}
+
+// The same for a GET without headers, where there is one policy of a response with headers.
+fn choice_of_one(alloc: Global, lines: &str, nanos: i64) -> Result<String, Fail> {
+    let mut variants = Variants::new(alloc);
+    put(&mut variants, policy(alloc, "", lines)?)?;
+    choice_or_refusal(alloc, &variants, &request(alloc, "GET", "")?, nanos)
+}
+
+// A header map has room for 24576 names, and an answer has Age and Date too.
+#[test]
+fn choices_from_full_maps(rt: HostRuntime) -> Result<(), Fail> {
+    let lines = with_further(rt.alloc(), "Cache-Control: max-age=10", 24573)?;
+    assert_eq!(rt;
+        choice_of_one(rt.alloc(), &lines, 0)?.as_str(),
+        "fresh 0 age 0"
+    );
+    let lines = with_further(rt.alloc(), "Cache-Control: max-age=10", 24574)?;
+    assert_eq!(rt;
+        choice_of_one(rt.alloc(), &lines, 0)?.as_str(),
+        "header map full"
+    );
+    Ok(())
+}
+
+// The Date of an answer is printable from 1900 on, which is 3913056000 seconds before the start.
+#[test]
+fn choices_before_1900(rt: HostRuntime) -> Result<(), Fail> {
+    let lines = "Cache-Control: max-age=10";
+    let told = choice_of_one(rt.alloc(), lines, -3_913_056_000_000_000_000)?;
+    assert_eq!(rt; told.as_str(), "fresh 0 age 0");
+    let told = choice_of_one(rt.alloc(), lines, -3_913_056_000_000_000_001)?;
+    assert_eq!(rt; told.as_str(), "date not printable");
     Ok(())
 }
