@@ -1,5 +1,5 @@
 -- Joined lines have the pieces, the first lines of singletons and the directives that they had.
-use Rattle.std.proofs.Common.{ℕ, List, ap, ◌∙◌}
+use Rattle.std.proofs.Common.{ap, ◌∙◌}
 use Rattle.http_cache_fields.specs.Headers.{Headers, headers_of, first}
 use Rattle.http_cache_fields.specs.Pieces.{pieces_under}
 use Rattle.http_cache_fields.specs.Directives.{cache_control}

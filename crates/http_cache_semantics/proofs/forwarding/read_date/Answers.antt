@@ -1,5 +1,5 @@
 -- A value that is text is read as a date; another is none.
-use Rattle.std.proofs.Common.{◌≡◌, ◌∙◌, Some, None, option_map, option_and_then, refl, sym, ap, true, cond}
+use Rattle.std.proofs.Common.{◌≡◌, ◌∙◌, Some, None, option_map, option_and_then, refl, sym, ap, cond}
 use Rattle.http_cache_fields.specs.Text.{text_of}
 use Rattle.http_cache_rules.specs.Dates.{when, second_start}
 use Rattle.http_cache_fields.proofs.FieldLemmas.{is_visible_text-yes}
