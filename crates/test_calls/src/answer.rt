@@ -1,13 +1,22 @@
 //! What a call of a line returns.
+use crate::member::member;
 use crate::policy::{
     is_confirmed_by, is_not_modified_for, response_at, stale_use, stored_directives,
 };
-use crate::shown::lines_or_error;
+use crate::shown::{directives, lines_or_error};
+use http_cache_semantics::directives::parse_cache_control;
 use http_cache_semantics::forwarding::{http_date, joined_headers, read_date, updated_headers};
 use std::alloc::Global;
 use std::str;
 use std::test::Fail;
 use test_cases::fixtures::{after, field, headers};
+
+// The directives of the Cache-Control lines of headers, one by one.
+fn listed(alloc: Global, case: &str) -> Result<String, Fail> {
+    let headers = headers(alloc, field(case, 1)?)?;
+    let read = parse_cache_control(alloc, headers.get_all("cache-control"))?;
+    directives(alloc, &read)
+}
 
 fn joined(alloc: Global, case: &str) -> Result<String, Fail> {
     let headers = headers(alloc, field(case, 1)?)?;
@@ -46,6 +55,8 @@ pub fn answer_to(alloc: Global, case: &str) -> Result<String, Fail> {
         "is_confirmed_by" => is_confirmed_by(alloc, case)?,
         "response_at" => return response_at(alloc, case),
         "stored_directives" => return stored_directives(alloc, case),
+        "member" => return member(alloc, case),
+        "directives" => return listed(alloc, case),
         "joined_headers" => return joined(alloc, case),
         "updated_headers" => return updated(alloc, case),
         "http_date" => return dated(alloc, case),

@@ -1,6 +1,7 @@
 //! How answers are written.
 use http::HeaderMap;
 use http_cache_semantics::CacheError;
+use http_cache_semantics::directives::CacheControl;
 use std::alloc::Global;
 use std::fmt::Write;
 use std::test::Fail;
@@ -31,4 +32,19 @@ pub fn lines_or_error(
         Ok(headers) => lines(alloc, &headers),
         Err(e) => Ok(format!(in alloc; "{e}")?),
     }
+}
+
+/// Directives in their order, each with its value if it has one, or `empty`.
+pub fn directives(alloc: Global, read: &CacheControl) -> Result<String, Fail> {
+    if read.is_empty() {
+        return Ok(String::from_str(alloc, "empty")?);
+    }
+    let mut text = String::new(alloc);
+    for (name, value) in read.iter() {
+        match value {
+            Some(value) => write!(text, "[{name}][{value}]")?,
+            None => write!(text, "[{name}]")?,
+        }
+    }
+    Ok(text)
 }
