@@ -14,11 +14,13 @@ pub fn word(holds: bool) -> &'static str {
 /// Lines of headers in their order, with `?` for a value that isn't text.
 pub fn lines(alloc: Global, headers: &HeaderMap) -> Result<String, Fail> {
     let mut text = String::new(alloc);
-    let mut separator = "";
     for (name, value) in headers.iter() {
-        let value = value.to_str().unwrap_or("?");
-        write!(text, "{separator}{}: {value}", name.as_str())?;
-        separator = " ~ ";
+        if !text.as_str().is_empty() {
+            text.push_str(" ~ ")?;
+        }
+        text.push_str(name.as_str())?;
+        text.push_str(": ")?;
+        text.push_str(value.to_str().unwrap_or("?"))?;
     }
     Ok(text)
 }
