@@ -113,8 +113,14 @@ impl CachePolicy {
             && !self.forbids_stale()
     }
 
-    // Whether the response says that it isn't used stale.
-    fn forbids_stale(&self) -> bool
+    /// Returns whether the stored response says that it isn't used stale, whatever the request asks
+    /// (RFC 9111, section 4.2.4): `must-revalidate` or `no-cache`, and in a shared cache
+    /// `proxy-revalidate`, `s-maxage`, or Set-Cookie without `public` or `immutable`.
+    ///
+    /// A request's `max-stale` is met all the same by `before_request`, as in the Rust crate, except
+    /// where the response says `must-revalidate` or `no-cache`. A shared cache that follows RFC 9111
+    /// asks this too.
+    pub fn forbids_stale(&self) -> bool
         ensures { result ≡ forbids_stale self.now }
     {
         let said = self.directives();

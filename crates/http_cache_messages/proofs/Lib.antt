@@ -1,0 +1,2 @@
+-- Lemmas of messages.
+mod OutgoingLemmas

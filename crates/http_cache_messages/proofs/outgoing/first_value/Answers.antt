@@ -1,0 +1,12 @@
+-- What `get` shows is the first value.
+use Rattle.std.proofs.Common.{◌≡◌, ap, sym, ◌∙◌, option_map, option_copied}
+use Rattle.http_cache_semantics.specs.Headers.{headers_of}
+use Rattle.http_cache_semantics.proofs.HeadersLemmas.{first-headers_of}
+use Rattle.http_cache_messages.proofs.OutgoingLemmas.{bytes-copied}
+use Rattle.http_cache_messages.proofs.outgoing.first_value.Goals as goal
+
+pub returns : goal.returns
+returns c =
+    bytes-copied c.get.result
+    ∙ ap (option_map (λ v. v.bytes)) c.get.ensures.value
+    ∙ sym (first-headers_of c.args.map.now c.args.name)

@@ -1,0 +1,10 @@
+-- While names are taken away, the headers are without those so far.
+use Rattle.std.proofs.Common.{◌≡◌, map, take}
+use Rattle.http_cache_semantics.specs.Headers.{headers_of}
+use Rattle.http_cache_semantics.specs.Forwarding.{without_named}
+use Rattle.http_cache_messages.proofs.outgoing.remove_all.Given as goal
+
+abbrev pub invariant-loop-name : goal.invariant-loop-name
+invariant-loop-name l =
+    headers_of l.headers
+    ≡ without_named (map (λ name. name.now) (take l.name-index l.names)) (headers_of l.fn.headers)

@@ -1,0 +1,30 @@
+-- A request as stored responses are asked by it.
+use Rattle.std.specs.Prelude.{ℕ, Bool, ◌&&◌, ◌||◌, List, codes, bytes_eq, is_empty}
+use Rattle.std.specs.Option.{option_map_or}
+use Rattle.http.specs.Request.{head_of, body_of}
+use Rattle.http.specs.declared.request.Request.{Request}
+use Rattle.http_uri.specs.Uri.{uri_eq}
+use Rattle.http_cache_semantics.specs.Headers.{Headers, headers_of}
+use Rattle.http_cache_semantics.specs.Messages.{RequestSeen}
+use Rattle.http_cache_messages.specs.declared.asking.Incoming.{Incoming}
+
+-- the method is GET or HEAD
+abbrev pub is_get_or_head : List ℕ → Bool
+is_get_or_head method = bytes_eq method (codes "GET") || bytes_eq method (codes "HEAD")
+
+-- a GET or HEAD without a body (RFC 9111, sections 2 and 4)
+abbrev pub is_looked_up : Request (List ℕ) → Bool
+is_looked_up request = is_get_or_head (head_of request).method && bytes_eq (body_of request) []
+
+-- the fields with the lines of each joined, if a field has several, else as received
+abbrev pub headers_seen : Incoming → Headers
+headers_seen i = option_map_or headers_of i.joined (headers_of (head_of i.request.now).headers)
+
+-- the request, by some method
+abbrev pub asking_seen : Incoming → List ℕ → RequestSeen
+asking_seen i method = record {
+  target = (head_of i.request.now).uri;
+  is_same_target = uri_eq (head_of i.request.now).uri;
+  method = method;
+  headers = headers_seen i;
+}

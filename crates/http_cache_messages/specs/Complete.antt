@@ -1,0 +1,20 @@
+-- Whether a response was received whole (RFC 9110, section 8.6, and RFC 9111, section 3.3).
+use Rattle.std.specs.Prelude.{ℕ, Bool, false, ◌||◌, ◌==◌, List, codes, bytes_eq, option_map, unwrap_or}
+use Rattle.std.specs.List.{list_all}
+use Rattle.http_cache_semantics.specs.Headers.{Headers, contains_key}
+use Rattle.http_cache_semantics.specs.Number.{number}
+use Rattle.http_cache_semantics.specs.Pieces.{pieces_under}
+
+-- the text is the number of a length
+abbrev pub is_length : ℕ → List ℕ → Bool
+is_length length text = unwrap_or (option_map (λ n. n == length) (number text)) false
+
+-- each Content-Length is the length of the body, where it speaks of this body: not in a response to
+-- HEAD, of status 204 or 304, or with Transfer-Encoding
+abbrev pub is_complete : List ℕ → ℕ → Headers → ℕ → Bool
+is_complete method status headers length =
+    bytes_eq method (codes "HEAD")
+    || status == 204
+    || status == 304
+    || contains_key headers (codes "transfer-encoding")
+    || list_all (is_length length) (pieces_under headers (codes "content-length"))

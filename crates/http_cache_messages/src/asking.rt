@@ -1,0 +1,148 @@
+//! A request as stored responses are asked by it.
+//!
+//! It relies on the joined field lines of the library, and knows nothing of a shelf.
+ghost use Rattle.std.specs.Prelude.{◌≡◌, ◌↔◌, ◌||◌, IsTrue, IfOk, codes, bytes_eq};
+ghost use Rattle.http.specs.Request.{head_of};
+ghost use Rattle.http_cache_fields.specs.Directives.{cache_control, has};
+ghost use Rattle.http_cache_fields.specs.Headers.{headers_of};
+ghost use Rattle.http_cache_messages.specs.Asking.{is_get_or_head, is_looked_up, headers_seen};
+
+use crate::memory::or_out_of_memory;
+use bytes::Bytes;
+use http::{HeaderMap, Method, Request, Uri};
+use http_cache_fields::reading::says;
+use http_cache_semantics::forwarding::joined_headers;
+use http_cache_semantics::{CacheError, RequestLike};
+use std::alloc::{AllocError, Global};
+
+/// A request of a client, with the lines of each field joined if a field has several, so that all of
+/// them count for Vary (RFC 9111, section 4.1).
+#[derive(Drop)]
+pub struct Incoming<'a> {
+    request: &'a Request<Bytes>,
+    joined: Option<HeaderMap>,
+}
+
+/// A request by another method: a HEAD asks a response that is stored for GET as if it were a GET.
+#[derive(Clone, Copy)]
+pub struct Asking<'a> {
+    incoming: &'a Incoming<'a>,
+    method: &'a Method,
+}
+
+fn is_get_or_head(method: &Method) -> bool
+    ensures { result ≡ is_get_or_head method.now }
+{
+    *method == Method::GET || *method == Method::HEAD
+}
+
+/// Returns whether a request is answered from what is stored, and its response stored: a GET or HEAD
+/// without a body (RFC 9111, sections 2 and 4).
+pub fn is_looked_up(request: &Request<Bytes>) -> bool
+    ensures { result ≡ is_looked_up request.now }
+{
+    is_get_or_head(request.method()) && request.body().is_empty()
+}
+
+impl<'a> Incoming<'a> {
+    /// Returns the request with joined field lines.
+    ///
+    /// # Errors
+    ///
+    /// `AllocError` if there is no memory for the joined lines.
+    pub fn new(alloc: Global, request: &'a Request<Bytes>) -> Result<Incoming<'a>, AllocError>
+        ensures { IfOk result (λ incoming. incoming.request.now ≡ request.now) }
+    {
+        let headers = request.headers();
+        if headers.len() == headers.keys_len() {
+            return Ok(Incoming {
+                request,
+                joined: None,
+            });
+        }
+        let joined = or_out_of_memory(joined_headers(alloc, headers))?;
+        Ok(Incoming {
+            request,
+            joined: Some(joined),
+        })
+    }
+
+    /// Returns the request as received.
+    pub fn request(&self) -> &'a Request<Bytes>
+        ensures { result.now ≡ self.now.request.now }
+    {
+        self.request
+    }
+
+    /// Returns the fields with joined lines.
+    pub fn headers(&self) -> &HeaderMap
+        ensures { headers_of result.now ≡ headers_seen self.now }
+    {
+        match &self.joined {
+            Some(joined) => joined,
+            None => self.request.headers(),
+        }
+    }
+
+    /// Returns whether the method is HEAD.
+    pub fn is_head(&self) -> bool
+        ensures { result ≡ bytes_eq (head_of self.now.request.now).method (codes "HEAD") }
+    {
+        *self.request.method() == Method::HEAD
+    }
+
+    /// Returns whether only a stored response is asked for (RFC 9111, section 5.2.1.7).
+    pub fn is_only_if_cached(&self) -> bool
+        ensures { result ≡ has (cache_control (headers_seen self.now)) (codes "only-if-cached") }
+    {
+        says(self.headers(), "only-if-cached")
+    }
+
+    /// Returns the request by its own method.
+    pub fn as_received(&self) -> Asking<'_> {
+        self.by(self.request.method())
+    }
+
+    /// Returns the request as it asks a response that is stored for a method: a HEAD by that method,
+    /// any other request by its own.
+    pub fn asking<'b>(&'b self, stored: &'b Method) -> Asking<'b> {
+        if self.is_head() && is_get_or_head(stored) {
+            self.by(stored)
+        } else {
+            self.as_received()
+        }
+    }
+
+    fn by<'b>(&'b self, method: &'b Method) -> Asking<'b> {
+        Asking {
+            incoming: self,
+            method,
+        }
+    }
+}
+
+impl RequestLike for Asking<'_> {
+    ghost use Rattle.http_cache_messages.specs.Asking.{asking_seen};
+
+    ghost seen = { λ a. asking_seen a.incoming.now a.method.now };
+
+    fn uri(&self, _alloc: Global) -> Result<Uri, CacheError> {
+        self.incoming
+            .request
+            .uri()
+            .clone()
+            .map_err(|_| CacheError::Memory)
+    }
+
+    fn is_same_uri(&self, other: &Uri) -> bool {
+        self.incoming.request.uri() == other
+    }
+
+    fn method(&self) -> &Method {
+        self.method
+    }
+
+    fn headers(&self) -> &HeaderMap {
+        self.incoming.headers()
+    }
+}

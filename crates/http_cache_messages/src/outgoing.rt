@@ -1,0 +1,106 @@
+//! The request that validates a stored response (RFC 9111, section 4.3.1).
+ghost use Rattle.std.specs.Prelude.{◌≡◌, ◌⊎◌, map, option_map, codes, IfOk, IfErr, OnOk};
+ghost use Rattle.http.specs.Request.{head_of};
+ghost use Rattle.http_cache_semantics.specs.Forwarding.{without_named};
+ghost use Rattle.http_cache_semantics.specs.Headers.{headers_of, first};
+ghost use Rattle.http_cache_messages.specs.Outgoing.{set_if_some, with_validators, validating, IsClean};
+
+use bytes::Bytes;
+use http::header::{ETAG, IF_MODIFIED_SINCE, IF_NONE_MATCH, LAST_MODIFIED};
+use http::{HeaderMap, HeaderName, HeaderValue, Request, Version, request};
+use http_cache_fields::headers::{insert, remove};
+use http_cache_semantics::forwarding::forwarded_headers;
+use http_cache_semantics::{CacheError, CachePolicy};
+use std::alloc::Global;
+
+// Fields of a body that isn't sent, of a part of the response, and of the client's own conditions.
+const REMOVED: [&str; 10] = [
+    "content-encoding",
+    "content-length",
+    "content-type",
+    "expect",
+    "if-match",
+    "if-modified-since",
+    "if-none-match",
+    "if-range",
+    "if-unmodified-since",
+    "range",
+];
+
+// Removes the fields of these names.
+fn remove_all(headers: &mut HeaderMap, names: &[&str])
+    ensures { headers_of headers.new
+        ≡ without_named (map (λ name. name.now) names.now) (headers_of headers.old) }
+{
+    for name in names {
+        remove(headers, *name);
+    }
+}
+
+// Puts a value in place of those under a name, if there is one.
+fn set_if_some(
+    headers: &mut HeaderMap,
+    name: HeaderName,
+    value: Option<&HeaderValue>,
+) -> Result<(), CacheError>
+    ensures { OnOk result (headers_of headers.new
+        ≡ set_if_some (headers_of headers.old) name (option_map (λ v. v.now.bytes) value.entry)) }
+{
+    match value {
+        Some(value) => insert(headers, name, value.clone()?),
+        None => Ok(()),
+    }
+}
+
+// The first value under a name.
+fn first_value(map: &HeaderMap, name: HeaderName) -> Option<&HeaderValue>
+    ensures { option_map (λ v. v.now.bytes) result ≡ first (headers_of map.now) name }
+{
+    map.get(name)
+}
+
+// Adds the stored validators as conditions.
+fn add_validators(headers: &mut HeaderMap, stored: &HeaderMap) -> Result<(), CacheError>
+    ensures { OnOk result (headers_of headers.new
+        ≡ with_validators (headers_of stored.now) (headers_of headers.old)) }
+{
+    set_if_some(headers, IF_NONE_MATCH, first_value(stored, ETAG))?;
+    set_if_some(
+        headers,
+        IF_MODIFIED_SINCE,
+        first_value(stored, LAST_MODIFIED),
+    )?;
+    Ok(())
+}
+
+/// Returns the request that asks the origin server whether a stored response is still valid (RFC 9111,
+/// section 4.3.1).
+///
+/// It is the client's own request without its conditions, without Range, without fields of a body or
+/// of one connection, and with the stored validators: If-None-Match is the stored ETag, and
+/// If-Modified-Since the stored Last-Modified.
+///
+/// # Errors
+///
+/// `HeaderMapFull` if there is no room for the validators, and `Memory` if there is not enough memory.
+#[tactic(auto, unfolding(crate::specs::Outgoing::validating))]
+pub fn validation_request(
+    alloc: Global,
+    request: &Request<Bytes>,
+    policy: &CachePolicy,
+) -> Result<request::Parts, CacheError>
+    ensures value { IfOk result (λ parts. headers_of parts.headers
+        ≡ validating policy.now.response_headers (headers_of (head_of request.now).headers)) }
+    ensures clean { IfOk result (λ parts.
+        IsClean policy.now.response_headers (headers_of parts.headers)) }
+{
+    let mut headers = forwarded_headers(alloc, request.headers())?;
+    remove_all(&mut headers, &REMOVED);
+    add_validators(&mut headers, policy.stored_headers())?;
+    Ok(request::Parts {
+        method: request.method().clone()?,
+        uri: request.uri().clone()?,
+        version: Version::HTTP_11,
+        headers,
+    })
+}

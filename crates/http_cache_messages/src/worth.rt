@@ -1,0 +1,58 @@
+//! Whether a response is worth storing, and a stored one worth keeping.
+ghost use Rattle.std.specs.Prelude.{◌≡◌, true};
+ghost use Rattle.http_cache_fields.specs.Headers.{headers_of};
+ghost use Rattle.http_cache_semantics.specs.Storing.{is_storable};
+ghost use Rattle.http_cache_messages.specs.Worth.{has_validator, varies_by_all, can_be_used_again};
+
+use crate::quoted::is_misread;
+use http::header::{ETAG, LAST_MODIFIED, VARY};
+use http::{HeaderMap, StatusCode};
+use http_cache_fields::headers::contains_key;
+use http_cache_fields::pieces::pieces_under;
+use http_cache_semantics::CachePolicy;
+use jiff::Timestamp;
+
+/// Returns whether a stored response can be validated: it has ETag or Last-Modified (RFC 9111,
+/// section 4.3.1).
+pub fn has_validator(stored: &HeaderMap) -> bool
+    ensures { result ≡ has_validator (headers_of stored.now) }
+{
+    contains_key(stored, ETAG) || contains_key(stored, LAST_MODIFIED)
+}
+
+// Whether a response varies by more than its requests say (RFC 9111, section 4.1).
+fn varies_by_all(stored: &HeaderMap) -> bool
+    ensures { result ≡ varies_by_all (headers_of stored.now) }
+{
+    pieces_under(stored, VARY).any(|name| name == "*")
+}
+
+/// Returns whether a stored response can answer some request at `now` or later: it is fresh, can be
+/// validated, or doesn't forbid to be used stale; and Vary doesn't say `*` (RFC 9111, sections 4.1 and
+/// 4.2.4). It allocates nothing.
+#[tactic(auto, unfolding(crate::specs::Worth::can_be_used_again))]
+pub fn can_be_used_again(policy: &CachePolicy, now: Timestamp) -> bool
+    ensures { result ≡ can_be_used_again policy.now now.nanosecond }
+{
+    let stored = policy.stored_headers();
+    !varies_by_all(stored)
+        && (!policy.is_stale(now) || has_validator(stored) || !policy.forbids_stale())
+}
+
+/// Returns whether a response is worth storing at `now`: it may be stored, is neither a part of another
+/// nor an answer to a condition, is read as it was meant, and can be used again (RFC 9111, sections 3
+/// and 3.3). It allocates nothing.
+pub fn is_worth_storing(policy: &CachePolicy, now: Timestamp) -> bool
+    ensures storable { result ≡ true → is_storable policy.now ≡ true }
+    ensures used { result ≡ true → can_be_used_again policy.now now.nanosecond ≡ true }
+{
+    let status = policy.stored_status();
+    if status.is_informational()
+        || status == StatusCode::PARTIAL_CONTENT
+        || status == StatusCode::NOT_MODIFIED
+        || is_misread(policy.stored_headers())
+    {
+        return false;
+    }
+    policy.is_storable() && can_be_used_again(policy, now)
+}
