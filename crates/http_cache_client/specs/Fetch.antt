@@ -54,7 +54,13 @@ module _ {O : Type 0} (sent : Sends O) (before after : O) (request : Request (Li
   abbrev pub HasSentTwiceAtMost : Type 0
   HasSentTwiceAtMost = (after ≡ before) ⊎ ((outcome : Outcome) × HasSent outcome)
 
-  -- there is no response only if the last request that was sent had none
-  abbrev pub HasNoResponse : {E : Type 0} → FetchError E → Type 0
-  HasNoResponse Memory = ⊤
-  HasNoResponse (Origin _) = HasSent None
+  -- it was sent the client's own request, and a 304 was received for it
+  abbrev pub HasSentFor304 : Type 0
+  HasSentFor304 =
+      (between : O) × (response : Response (List ℕ)) × (received : ℤ)
+      × (sent between request (Some (response, received)) after × ((head_of response).status ≡ 304))
+
+-- there is no response only for a reason
+abbrev pub HasNoResponse : {E : Type 0} → Type 0 → FetchError E → Type 0
+HasNoResponse reason Memory = ⊤
+HasNoResponse reason (Origin _) = reason

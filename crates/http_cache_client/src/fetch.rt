@@ -1,4 +1,13 @@
 //! Answers requests by asking an origin at most twice.
+ghost use Rattle.std.specs.Prelude.{◌≡◌, ◌⊎◌, true, false, None, IfOk, IfErr, OnErr};
+ghost use Rattle.http.specs.Response.{head_of, body_of};
+ghost use Rattle.http_cache_messages.specs.Asking.{is_looked_up};
+ghost use Rattle.http_cache_shelf.specs.Shelf.{KeepsAll};
+ghost use Rattle.http_cache_client.specs.Ask.{IsCleanValidation};
+ghost use Rattle.http_cache_client.specs.Receive.{IsElsewhere, HasCondition};
+ghost use Rattle.http_cache_client.specs.Fetch.{Outcome, HasSentOwn, HasSentValidation, HasSentBoth, HasSent};
+ghost use Rattle.http_cache_client.specs.Fetch.{HasSentTwiceAtMost, HasSentFor304, HasNoResponse};
+
 use crate::body::Body;
 use crate::client::Client;
 use crate::origin::{FetchError, Origin};
@@ -9,17 +18,23 @@ use http_cache_shelf::Shelf;
 use jiff::Timestamp;
 use std::alloc::Global;
 
-// A response whose body is here, as `fetch` gives none that is elsewhere.
-fn with_bytes(response: Response<Body>) -> Response<Bytes> {
+// A response whose body is here.
+fn with_bytes(response: Response<Body>) -> Response<Bytes>
+    requires { ¬ (IsElsewhere (body_of response)) }
+    ensures { (head_of result).status ≡ (head_of response).status }
+{
     let (head, body) = response.into_parts();
     match body {
         Body::Here(bytes) => Response::from_parts(head, bytes),
-        Body::Elsewhere(_) => Response::from_parts(head, Bytes::new()),
+        Body::Elsewhere(_) => unreachable!(),
     }
 }
 
 // A response as the client takes it.
-fn with_body(response: Response<Bytes>) -> Response<Body> {
+fn with_body(response: Response<Bytes>) -> Response<Body>
+    ensures here { ¬ (IsElsewhere (body_of result)) }
+    ensures status { (head_of result).status ≡ (head_of response).status }
+{
     let (head, bytes) = response.into_parts();
     Response::from_parts(head, Body::Here(bytes))
 }
@@ -33,7 +48,12 @@ impl<S: Shelf + Drop> Client<S> {
         request: &Request<Bytes>,
         cause: E,
         now: Timestamp,
-    ) -> Result<Response<Bytes>, FetchError<E>> {
+    ) -> Result<Response<Bytes>, FetchError<E>>
+        ensures kept { KeepsAll (S.stored self.old.shelf) (S.next_id self.old.shelf)
+            (S.stored self.new.shelf) (S.next_id self.new.shelf) }
+        ensures conditional { IfOk result (λ answer. (head_of answer).status ≡ 304
+            → HasCondition request.now) }
+    {
         match self.without_response(alloc, &mut token, request, now) {
             Ok(Some(answer)) => Ok(answer),
             Ok(None) => Err(FetchError::Origin(cause)),
@@ -52,6 +72,14 @@ impl<S: Shelf + Drop> Client<S> {
     ) -> Result<Response<Bytes>, FetchError<O::Error>>
     where
         O::Error: Drop,
+        ensures sent { (outcome : Outcome)
+            × HasSentOwn O.sent origin.old origin.new request.now outcome }
+        ensures no_response { IfErr result
+            (HasNoResponse (HasSentOwn O.sent origin.old origin.new request.now None)) }
+        ensures conditional { IfOk result (λ answer. (head_of answer).status ≡ 304
+            → HasCondition request.now ⊎ HasSentFor304 O.sent origin.old origin.new request.now) }
+        ensures kept { OnErr result (KeepsAll (S.stored self.old.shelf) (S.next_id self.old.shelf)
+            (S.stored self.new.shelf) (S.next_id self.new.shelf)) }
     {
         match origin.send(request) {
             Ok((response, received)) => {
@@ -76,6 +104,18 @@ impl<S: Shelf + Drop> Client<S> {
     ) -> Result<Response<Bytes>, FetchError<O::Error>>
     where
         O::Error: Drop,
+        requires { IsCleanValidation token }
+        ensures sent { (outcome : Outcome)
+            × (HasSentValidation O.sent origin.old origin.new request.now outcome
+            ⊎ HasSentBoth O.sent origin.old origin.new request.now outcome) }
+        ensures no_response { IfErr result
+            (HasNoResponse (HasSent O.sent origin.old origin.new request.now None)) }
+        ensures conditional { IfOk result (λ answer. (head_of answer).status ≡ 304
+            → HasCondition request.now ⊎ HasSentFor304 O.sent origin.old origin.new request.now) }
+        ensures kept { OnErr result (KeepsAll (S.stored self.old.shelf) (S.next_id self.old.shelf)
+            (S.stored self.new.shelf) (S.next_id self.new.shelf)
+            ⊎ ((outcome : Outcome)
+            × HasSentBoth O.sent origin.old origin.new request.now outcome)) }
     {
         let asking = Request::from_parts(token.take_request(alloc), Bytes::new());
         let (response, received) = match origin.send(&asking) {
@@ -100,8 +140,9 @@ impl<S: Shelf + Drop> Client<S> {
     ///
     /// # Errors
     ///
-    /// `Origin` if the origin was asked and gave no response, and no stored response may be used in its
-    /// place. `Memory` if there is not enough memory. After either what is stored is as it was.
+    /// `Origin` if the last request that was sent had no response, and no stored response may be used in
+    /// its place. `Memory` if there is not enough memory. After either what is stored is as it was,
+    /// except that a response which a 304 didn't confirm is removed before the second request.
     pub fn fetch<O: Origin>(
         &mut self,
         alloc: Global,
@@ -111,6 +152,17 @@ impl<S: Shelf + Drop> Client<S> {
     ) -> Result<Response<Bytes>, FetchError<O::Error>>
     where
         O::Error: Drop,
+        ensures twice { HasSentTwiceAtMost O.sent origin.old origin.new request.now }
+        ensures safe { is_looked_up request.now ≡ false → (outcome : Outcome)
+            × HasSentOwn O.sent origin.old origin.new request.now outcome }
+        ensures no_response { IfErr result
+            (HasNoResponse (HasSent O.sent origin.old origin.new request.now None)) }
+        ensures conditional { IfOk result (λ answer. (head_of answer).status ≡ 304
+            → HasCondition request.now ⊎ HasSentFor304 O.sent origin.old origin.new request.now) }
+        ensures kept { OnErr result (KeepsAll (S.stored self.old.shelf) (S.next_id self.old.shelf)
+            (S.stored self.new.shelf) (S.next_id self.new.shelf)
+            ⊎ ((outcome : Outcome)
+            × HasSentBoth O.sent origin.old origin.new request.now outcome)) }
     {
         match self.ask(alloc, request, now)? {
             Decision::Answer(answer) => Ok(answer),

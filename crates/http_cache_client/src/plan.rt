@@ -213,7 +213,7 @@ fn unfit(cause: CacheError) -> Result<Plan, AllocError>
 /// What becomes of a response to a request that is looked up: it is stored if it was received whole and
 /// may be stored (RFC 9111, sections 3 and 3.3), in place of what is stored and matches the request,
 /// which is removed even where the new response isn't stored.
-pub(crate) fn plan(
+pub(crate) fn plan_of(
     alloc: Global,
     target: Target,
     stored: &[StoredResponse],

@@ -12,7 +12,7 @@ use crate::body::Body;
 use crate::client::{Client, Settled};
 use crate::freshen::{freshened, of_id, renewed};
 use crate::invalidate::invalidated;
-use crate::plan::{Arrived, Change, Plan, plan};
+use crate::plan::{Arrived, Change, Plan, plan_of};
 use crate::reply::{Reply, not_modified};
 use crate::report::{answer_of, forwarded, line_of, replace_line, set_line};
 use crate::tokens::{Forwarded, Received, Times, Validation, Why};
@@ -331,7 +331,7 @@ impl<S: Shelf + Drop> Client<S> {
         if let Some(change) = freshened(alloc, &target, stored, arrived, &self.options)? {
             return Ok(Plan::of(change));
         }
-        plan(alloc, target, stored, arrived, &self.options)
+        plan_of(alloc, target, stored, arrived, &self.options)
     }
 
     // The answer by a response to a request that is looked up, which is stored if it may be.
