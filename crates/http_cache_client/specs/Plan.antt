@@ -21,6 +21,11 @@ Stores (Renew _ _ _ _) = ⊥
 Stores (Remove _ _) = ⊥
 Stores (RemoveTargets _) = ⊥
 
+-- the caller keeps the body
+abbrev pub IsElsewhere : Body → Type 0
+IsElsewhere (Here _) = ⊥
+IsElsewhere (Elsewhere _) = ⊤
+
 -- the body is here, and is the whole of the response (RFC 9111, section 3.3)
 abbrev pub IsWholeBody : Request (List ℕ) → Parts → Body → Type 0
 IsWholeBody request head (Here bytes) =

@@ -1,23 +1,17 @@
 -- What a client does with the outcome of a request that was sent.
-use Rattle.std.specs.Prelude.{◌≡◌, ◌⊎◌, true, ⊤, ℕ, List, Option, IfSome}
+use Rattle.std.specs.Prelude.{◌≡◌, ◌==◌, ◌||◌, true, false, ⊤, ℕ, Bool, List, Option, IfSome}
 use Rattle.http.specs.Request.{head_of as head_of_request}
 use Rattle.http.specs.Response.{head_of, body_of}
 use Rattle.http.specs.declared.request.Request.{Request}
 use Rattle.http.specs.declared.response.Response.{Response}
 use Rattle.http_cache_messages.specs.Asking.{is_looked_up}
 use Rattle.http_cache_semantics.specs.Conditions.{is_conditional}
-use Rattle.http_cache_semantics.specs.Headers.{Headers, headers_of}
-use Rattle.http_cache_client.specs.Plan.{IsWholeBody}
+use Rattle.http_cache_semantics.specs.Headers.{headers_of}
+use Rattle.http_cache_client.specs.Plan.{Stores, IsElsewhere, IsWholeBody}
 use Rattle.http_cache_client.specs.declared.body.Body.{Body}
-use Rattle.http_cache_client.specs.declared.body.Body.TheVariants.{Here, Elsewhere}
 use Rattle.http_cache_client.specs.declared.receive.Renewal.{Renewal}
 use Rattle.http_cache_client.specs.declared.tokens.Received.{Received}
 use Rattle.http_cache_client.specs.declared.tokens.Received.TheVariants.{Answer, Again}
-
--- the caller keeps the body
-abbrev pub IsElsewhere : Body → Type 0
-IsElsewhere (Here _) = ⊥
-IsElsewhere (Elsewhere _) = ⊤
 
 -- the body is here, and is the whole of the response (RFC 9111, section 3.3)
 abbrev pub IsWholeResponse : Request (List ℕ) → Response Body → Type 0
@@ -32,12 +26,14 @@ MayBeStored request response =
 abbrev pub HasCondition : Request (List ℕ) → Type 0
 HasCondition request = is_conditional (headers_of (head_of_request request).headers) ≡ true
 
--- a stored response that was confirmed answers with a 304 only a request with a condition
-abbrev pub IsConditionalRenewal : Headers → Option Renewal → Type 0
-IsConditionalRenewal request renewal =
-    IfSome renewal (λ r. r.reply.head.status ≡ 304 → is_conditional request ≡ true)
+-- a stored response that was confirmed answers with a 304 only a request with a condition, and nothing
+-- new is stored for it
+abbrev pub IsRenewalFor : Request (List ℕ) → Option Renewal → Type 0
+IsRenewalFor request renewal =
+    IfSome renewal (λ r. (r.reply.head.status ≡ 304 → HasCondition request)
+    × ¬ (Stores r.plan.change) × (r.plan.is_known ≡ false))
 
--- so does the answer after a validation
+-- the answer after a validation is a 304 only to a request with a condition
 abbrev pub IsConditionalReceipt : Request (List ℕ) → Received → Type 0
 IsConditionalReceipt request (Answer answer) = (head_of answer).status ≡ 304 → HasCondition request
 IsConditionalReceipt request (Again _) = ⊤
@@ -51,3 +47,12 @@ KeepsBodyPlace response (Again _) = ⊤
 abbrev pub IsAfterA304 : Response Body → Received → Type 0
 IsAfterA304 response (Answer _) = ⊤
 IsAfterA304 response (Again _) = (head_of response).status ≡ 304
+
+-- the body of the answer is here
+abbrev pub HasBodyHere : Received → Type 0
+HasBodyHere (Answer answer) = ¬ (IsElsewhere (body_of answer))
+HasBodyHere (Again _) = ⊤
+
+-- the origin server failed, so that a stale response may be used (RFC 5861, section 4)
+abbrev pub is_failure : ℕ → Bool
+is_failure status = status == 500 || status == 502 || status == 503 || status == 504

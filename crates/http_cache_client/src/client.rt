@@ -121,6 +121,9 @@ impl<S: Shelf + Drop> Client<S> {
         ensures kept { OnErr result (KeepsAll (S.stored self.old.shelf) (S.next_id self.old.shelf)
             (S.stored self.new.shelf) (S.next_id self.new.shelf)) }
         ensures stored { Stores change ⊎ (S.next_id self.new.shelf ≡ S.next_id self.old.shelf) }
+        ensures unchanged { change ≡ Change.Nothing
+            → KeepsAll (S.stored self.old.shelf) (S.next_id self.old.shelf)
+            (S.stored self.new.shelf) (S.next_id self.new.shelf) }
     {
         match change {
             Change::Nothing => Ok(Settled::NotStored),
@@ -170,6 +173,9 @@ impl<S: Shelf + Drop> Client<S> {
         ensures kept { OnErr result (KeepsAll (S.stored self.old.shelf) (S.next_id self.old.shelf)
             (S.stored self.new.shelf) (S.next_id self.new.shelf)) }
         ensures stored { Stores change ⊎ (S.next_id self.new.shelf ≡ S.next_id self.old.shelf) }
+        ensures unchanged { change ≡ Change.Nothing
+            → KeepsAll (S.stored self.old.shelf) (S.next_id self.old.shelf)
+            (S.stored self.new.shelf) (S.next_id self.new.shelf) }
     {
         match self.make(change) {
             Ok(settled) => Ok(settled),

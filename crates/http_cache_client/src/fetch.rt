@@ -4,7 +4,8 @@ ghost use Rattle.http.specs.Response.{head_of, body_of};
 ghost use Rattle.http_cache_messages.specs.Asking.{is_looked_up};
 ghost use Rattle.http_cache_shelf.specs.Shelf.{KeepsAll};
 ghost use Rattle.http_cache_client.specs.Ask.{IsCleanValidation};
-ghost use Rattle.http_cache_client.specs.Receive.{IsElsewhere, HasCondition};
+ghost use Rattle.http_cache_client.specs.Plan.{IsElsewhere};
+ghost use Rattle.http_cache_client.specs.Receive.{HasCondition};
 ghost use Rattle.http_cache_client.specs.Fetch.{Outcome, HasSentOwn, HasSentValidation, HasSentBoth, HasSent};
 ghost use Rattle.http_cache_client.specs.Fetch.{HasSentTwiceAtMost, HasSentFor304, HasNoResponse};
 

@@ -2,10 +2,8 @@
 //!
 //! All here is decided over what was read of the shelf, and the shelf is changed by one step at the
 //! end. After a policy is made nothing here can fail, so that a policy is dropped at few places.
-ghost use Rattle.std.specs.Prelude.{◌≡◌, true, IfOk};
-ghost use Rattle.http.specs.Request.{head_of};
-ghost use Rattle.http_cache_fields.specs.Headers.{headers_of};
-ghost use Rattle.http_cache_client.specs.Plan.{Stores, IsWhole, PutsWhole};
+ghost use Rattle.std.specs.Prelude.{◌≡◌, true, false, IsSome, IfOk};
+ghost use Rattle.http_cache_client.specs.Plan.{Stores, IsElsewhere, IsWhole, IsKnownPlan};
 
 use crate::body::Body;
 use crate::reply::left_of;
@@ -66,13 +64,14 @@ pub(crate) struct Arrived<'a> {
     pub body: &'a Body,
     /// The stored response that it replaces.
     pub id: Option<ResponseId>,
-    pub times: Times,
+    pub times: &'a Times,
 }
 
 impl Plan {
     /// A change that stores nothing of what was received.
     pub(crate) fn of(change: Change) -> Plan
-        ensures { result.change ≡ change }
+        ensures change { result.change ≡ change }
+        ensures known { result.is_known ≡ false }
     {
         Plan {
             change,
@@ -85,7 +84,8 @@ impl Plan {
 
     /// Nothing is changed, for a reason or for none.
     pub(crate) fn nothing(detail: Option<&'static str>) -> Plan
-        ensures { result.change ≡ Change.Nothing }
+        ensures change { result.change ≡ Change.Nothing }
+        ensures known { result.is_known ≡ false }
     {
         Plan {
             change: Change::Nothing,
@@ -140,7 +140,9 @@ fn plan_for(
     body: Option<Bytes>,
     arrived: &Arrived<'_>,
 ) -> Plan
-    ensures { Stores result.change → IsWhole arrived.now }
+    requires { IsSome body → IsWhole arrived.now }
+    ensures whole { Stores result.change → IsWhole arrived.now }
+    ensures known { IsKnownPlan arrived.now result }
 {
     let now = arrived.times.received;
     let is_known = policy.is_not_modified_for(arrived.incoming.request());
@@ -176,7 +178,9 @@ fn plan_for(
 }
 
 // A copy of the body, where it is here.
-fn copy_of_body(body: &Body) -> Result<Option<Bytes>, AllocError> {
+fn copy_of_body(body: &Body) -> Result<Option<Bytes>, AllocError>
+    ensures { IfOk result (λ copy. IsSome copy → ¬ (IsElsewhere body.now)) }
+{
     match body {
         Body::Here(bytes) => Ok(Some(bytes.clone()?)),
         Body::Elsewhere(_) => Ok(None),
@@ -185,7 +189,7 @@ fn copy_of_body(body: &Body) -> Result<Option<Bytes>, AllocError> {
 
 // Whether a response was received whole, as far as its body is here.
 fn is_whole(arrived: &Arrived<'_>) -> bool
-    ensures { result ≡ true → IsWhole arrived.now }
+    ensures { result ≡ true → ¬ (IsElsewhere arrived.now.body.now) → IsWhole arrived.now }
 {
     match arrived.body {
         Body::Here(bytes) => is_complete(
@@ -200,7 +204,8 @@ fn is_whole(arrived: &Arrived<'_>) -> bool
 
 // Why no policy is made of a response.
 fn unfit(cause: CacheError) -> Result<Plan, AllocError>
-    ensures { IfOk result (λ plan. plan.change ≡ Change.Nothing) }
+    ensures change { IfOk result (λ plan. plan.change ≡ Change.Nothing) }
+    ensures known { IfOk result (λ plan. plan.is_known ≡ false) }
 {
     match cause {
         CacheError::Memory => Err(AllocError),
@@ -220,7 +225,8 @@ pub(crate) fn plan_of(
     arrived: &Arrived<'_>,
     options: &CacheOptions,
 ) -> Result<Plan, AllocError>
-    ensures { IfOk result (λ plan. Stores plan.change → IsWhole arrived.now) }
+    ensures whole { IfOk result (λ plan. Stores plan.change → IsWhole arrived.now) }
+    ensures known { IfOk result (IsKnownPlan arrived.now) }
 {
     let status = arrived.head.status;
     if status == StatusCode::NOT_MODIFIED || status == StatusCode::PARTIAL_CONTENT {

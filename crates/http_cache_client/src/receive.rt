@@ -1,12 +1,11 @@
 //! What is done with the outcome of a request that was sent.
-ghost use Rattle.std.specs.Prelude.{◌≡◌, ◌⊎◌, true, None, IfOk, IfSome, OnErr};
-ghost use Rattle.http.specs.Request.{head_of as head_of_request};
+ghost use Rattle.std.specs.Prelude.{◌≡◌, ◌≢◌, ◌⊎◌, true, false, None, IfOk, IfSome, OnErr};
 ghost use Rattle.http.specs.Response.{head_of, body_of};
-ghost use Rattle.http_cache_fields.specs.Headers.{headers_of};
 ghost use Rattle.http_cache_shelf.specs.Shelf.{KeepsAll};
-ghost use Rattle.http_cache_client.specs.Plan.{Stores, IsWhole, IsKnownPlan};
-ghost use Rattle.http_cache_client.specs.Receive.{IsElsewhere, IsWholeResponse, MayBeStored, HasCondition};
-ghost use Rattle.http_cache_client.specs.Receive.{IsConditionalRenewal, IsConditionalReceipt, KeepsBodyPlace, IsAfterA304};
+ghost use Rattle.http_cache_client.specs.Plan.{Stores, IsElsewhere, IsWhole, IsKnownPlan};
+ghost use Rattle.http_cache_client.specs.Receive.{IsWholeResponse, MayBeStored, HasCondition, is_failure};
+ghost use Rattle.http_cache_client.specs.Receive.{IsRenewalFor, IsConditionalReceipt, KeepsBodyPlace};
+ghost use Rattle.http_cache_client.specs.Receive.{HasBodyHere, IsAfterA304};
 
 use crate::body::Body;
 use crate::client::{Client, Settled};
@@ -30,7 +29,9 @@ use std::alloc::{AllocError, Global};
 use std::mem;
 
 // Whether the origin server failed, so that a stale response may be used (RFC 5861, section 4).
-fn is_failure(status: StatusCode) -> bool {
+fn is_failure(status: StatusCode) -> bool
+    ensures { result ≡ is_failure status }
+{
     matches!(status.as_u16(), 500 | 502 | 503 | 504)
 }
 
@@ -133,7 +134,8 @@ fn renewal_plan(
     policy: CachePolicy,
     now: Timestamp,
 ) -> Plan
-    ensures { ¬ (Stores result.change) }
+    ensures stored { ¬ (Stores result.change) }
+    ensures known { result.is_known ≡ false }
 {
     if is_worth_storing(&policy, now) {
         let superseded = Vec::new(alloc);
@@ -161,7 +163,7 @@ fn renewal_by(
     policy: CachePolicy,
     arrived: &Arrived<'_>,
 ) -> Result<Option<Renewal>, AllocError>
-    ensures { IfOk result (IsConditionalRenewal (headers_of (head_of_request arrived.now.incoming.now.request.now).headers)) }
+    ensures { IfOk result (IsRenewalFor arrived.now.incoming.now.request.now) }
 {
     let now = arrived.times.received;
     match Reply::of_policy(alloc, id, &policy, arrived.incoming, now) {
@@ -190,7 +192,7 @@ fn renewal_of(
     arrived: &Arrived<'_>,
     options: &CacheOptions,
 ) -> Result<Option<Renewal>, AllocError>
-    ensures { IfOk result (IsConditionalRenewal (headers_of (head_of_request arrived.now.incoming.now.request.now).headers)) }
+    ensures { IfOk result (IsRenewalFor arrived.now.incoming.now.request.now) }
 {
     let Some(one) = of_id(stored, id) else {
         return Ok(None);
@@ -227,6 +229,9 @@ impl<S: Shelf + Drop> Client<S> {
         ensures kept { OnErr result (KeepsAll (S.stored self.old.shelf) (S.next_id self.old.shelf)
             (S.stored self.new.shelf) (S.next_id self.new.shelf)) }
         ensures stored { Stores plan.change ⊎ (S.next_id self.new.shelf ≡ S.next_id self.old.shelf) }
+        ensures unchanged { plan.change ≡ Change.Nothing
+            → KeepsAll (S.stored self.old.shelf) (S.next_id self.old.shelf)
+            (S.stored self.new.shelf) (S.next_id self.new.shelf) }
         ensures status { IfOk result (λ sent. (head_of sent).status ≡ (head_of answer).status) }
         ensures body { IfOk result (λ sent. body_of sent ≡ body_of answer) }
     {
@@ -257,6 +262,9 @@ impl<S: Shelf + Drop> Client<S> {
         ensures kept { OnErr result (KeepsAll (S.stored self.old.shelf) (S.next_id self.old.shelf)
             (S.stored self.new.shelf) (S.next_id self.new.shelf)) }
         ensures stored { Stores plan.change ⊎ (S.next_id self.new.shelf ≡ S.next_id self.old.shelf) }
+        ensures unchanged { plan.change ≡ Change.Nothing
+            → KeepsAll (S.stored self.old.shelf) (S.next_id self.old.shelf)
+            (S.stored self.new.shelf) (S.next_id self.new.shelf) }
         ensures status { IfOk result (λ sent. (head_of sent).status ≡ 304
             → (plan.is_known ≡ true) ⊎ ((head_of response).status ≡ 304)) }
         ensures body { IfOk result (λ sent. IsElsewhere (body_of sent) → IsElsewhere (body_of response)) }
@@ -342,7 +350,7 @@ impl<S: Shelf + Drop> Client<S> {
         pending: &Pending<'_>,
         incoming: &Incoming<'_>,
         response: Response<Body>,
-        times: Times,
+        times: &Times,
     ) -> Result<Response<Body>, AllocError>
         ensures kept { OnErr result (KeepsAll (S.stored self.old.shelf) (S.next_id self.old.shelf)
             (S.stored self.new.shelf) (S.next_id self.new.shelf)) }
@@ -377,12 +385,15 @@ impl<S: Shelf + Drop> Client<S> {
         pending: &Pending<'_>,
         incoming: &Incoming<'_>,
         response: Response<Body>,
-        times: Times,
+        times: &Times,
     ) -> Result<Response<Body>, AllocError>
         ensures kept { OnErr result (KeepsAll (S.stored self.old.shelf) (S.next_id self.old.shelf)
             (S.stored self.new.shelf) (S.next_id self.new.shelf)) }
         ensures complete { IsWholeResponse incoming.now.request.now response
             ⊎ (S.next_id self.new.shelf ≡ S.next_id self.old.shelf) }
+        ensures failure { is_failure (head_of response).status ≡ true → pending.now.id ≢ None
+            → KeepsAll (S.stored self.old.shelf) (S.next_id self.old.shelf)
+            (S.stored self.new.shelf) (S.next_id self.new.shelf) }
         ensures status { IfOk result (λ sent. (head_of sent).status ≡ 304
             → HasCondition incoming.now.request.now
             ⊎ ((head_of response).status ≡ 304)) }
@@ -444,6 +455,10 @@ impl<S: Shelf + Drop> Client<S> {
         ensures lost { IfOk result (λ answer. answer ≡ None
             → KeepsAll (S.stored self.old.shelf) (S.next_id self.old.shelf)
             (S.stored self.new.shelf) (S.next_id self.new.shelf)) }
+        ensures stored { S.next_id self.new.shelf ≡ S.next_id self.old.shelf }
+        ensures status { IfOk result (λ answer. IfSome answer (λ sent. (head_of sent).status ≡ 304
+            → renewal.reply.head.status ≡ 304)) }
+        ensures here { IfOk result (λ answer. IfSome answer (λ sent. ¬ (IsElsewhere (body_of sent)))) }
     {
         let Renewal { mut reply, mut plan } = renewal;
         match self.body_of(alloc, target, &mut reply) {
@@ -474,10 +489,14 @@ impl<S: Shelf + Drop> Client<S> {
         validation: &mut Validation,
         incoming: &Incoming<'_>,
         response: Response<Body>,
-        times: Times,
+        times: &Times,
     ) -> Result<Received, AllocError>
         ensures kept { OnErr result (KeepsAll (S.stored self.old.shelf) (S.next_id self.old.shelf)
             (S.stored self.new.shelf) (S.next_id self.new.shelf)) }
+        ensures stored { S.next_id self.new.shelf ≡ S.next_id self.old.shelf }
+        ensures conditional { IfOk result (IsConditionalReceipt incoming.now.request.now) }
+        ensures here { IfOk result HasBodyHere }
+        ensures unspent { OnErr result (validation.new.id ≡ validation.old.id) }
     {
         let request = incoming.request();
         let target = Target::of(alloc, request.uri(), request.headers())?;
@@ -533,6 +552,9 @@ impl<S: Shelf + Drop> Client<S> {
             (S.stored self.new.shelf) (S.next_id self.new.shelf)) }
         ensures complete { IsWholeResponse request.now response
             ⊎ (S.next_id self.new.shelf ≡ S.next_id self.old.shelf) }
+        ensures failure { is_failure (head_of response).status ≡ true → validation.old.id ≢ None
+            → KeepsAll (S.stored self.old.shelf) (S.next_id self.old.shelf)
+            (S.stored self.new.shelf) (S.next_id self.new.shelf) }
         ensures conditional { IfOk result (IsConditionalReceipt request.now) }
         ensures whose_body { IfOk result (KeepsBodyPlace response) }
         ensures again { IfOk result (IsAfterA304 response) }
@@ -540,7 +562,7 @@ impl<S: Shelf + Drop> Client<S> {
     {
         let incoming = Incoming::new(alloc, request)?;
         if response.status() == StatusCode::NOT_MODIFIED {
-            return self.validated(alloc, validation, &incoming, response, times);
+            return self.validated(alloc, validation, &incoming, response, &times);
         }
         let response = dated(alloc, response, times.received)?;
         let pending = Pending {
@@ -549,7 +571,7 @@ impl<S: Shelf + Drop> Client<S> {
             is_past_shelf: false,
             is_own: false,
         };
-        let answer = self.taken(alloc, &pending, &incoming, response, times)?;
+        let answer = self.taken(alloc, &pending, &incoming, response, &times)?;
         validation.id = None;
         Ok(Received::Answer(answer))
     }
@@ -578,6 +600,9 @@ impl<S: Shelf + Drop> Client<S> {
             (S.stored self.new.shelf) (S.next_id self.new.shelf)) }
         ensures complete { MayBeStored request.now response
             ⊎ (S.next_id self.new.shelf ≡ S.next_id self.old.shelf) }
+        ensures failure { is_failure (head_of response).status ≡ true → token.old.id ≢ None
+            → KeepsAll (S.stored self.old.shelf) (S.next_id self.old.shelf)
+            (S.stored self.new.shelf) (S.next_id self.new.shelf) }
         ensures conditional { IfOk result (λ answer. (head_of answer).status ≡ 304
             → HasCondition request.now ⊎ ((head_of response).status ≡ 304)) }
         ensures whose_body { IfOk result (λ answer. IsElsewhere (body_of answer)
@@ -595,7 +620,7 @@ impl<S: Shelf + Drop> Client<S> {
             is_past_shelf: token.is_past_shelf,
             is_own: true,
         };
-        let answer = self.taken(alloc, &pending, &incoming, response, times)?;
+        let answer = self.taken(alloc, &pending, &incoming, response, &times)?;
         token.id = None;
         Ok(answer)
     }
