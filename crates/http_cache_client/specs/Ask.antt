@@ -1,9 +1,12 @@
 -- What a client does with a request (RFC 9111, section 4).
-use Rattle.std.specs.Prelude.{◌≡◌, true, ⊤}
+use Rattle.std.specs.Prelude.{◌≡◌, ◌⊎◌, ℕ, List, true, ⊤, codes, Contains}
 use Rattle.http.specs.Response.{head_of}
 use Rattle.http_cache_messages.specs.Outgoing.{IsClean}
 use Rattle.http_cache_semantics.specs.Conditions.{is_conditional}
+use Rattle.http_cache_semantics.specs.Directives.{cache_control, has}
 use Rattle.http_cache_semantics.specs.Headers.{Headers, headers_of}
+use Rattle.http_cache_shelf.specs.Shelf.{StoredByTarget, StoredSeen}
+use Rattle.http_cache_shelf.specs.declared.shelf.StoredResponse.{StoredResponse}
 use Rattle.http_cache_client.specs.declared.ask.Verdict.{Verdict}
 use Rattle.http_cache_client.specs.declared.ask.Verdict.TheVariants as verdict
 use Rattle.http_cache_client.specs.declared.tokens.Decision.{Decision}
@@ -53,3 +56,52 @@ IsConditionalVerdict request (verdict.UseWhile reply _) =
 IsConditionalVerdict request (verdict.Validate _) = ⊤
 IsConditionalVerdict request (verdict.Forward _) = ⊤
 IsConditionalVerdict request verdict.NotCached = ⊤
+
+-- a stored response has the status, or a 304 stands for it
+pub record IsStoredStatus (stored : List StoredResponse) (status : ℕ) : Type 0 where
+  pub one : StoredResponse
+  pub among : Contains stored one
+  pub is : (status ≡ one.policy.status) ⊎ (status ≡ 304)
+
+-- the request says `only-if-cached` (RFC 9111, section 5.2.1.7)
+abbrev pub IsOnlyIfCached : Headers → Type 0
+IsOnlyIfCached request = has (cache_control request) (codes "only-if-cached") ≡ true
+
+-- an answer is of a stored response, or is the client's own to a request for a stored one only
+abbrev pub IsVerdictOf : List StoredResponse → Headers → Verdict → Type 0
+IsVerdictOf stored request (verdict.Use reply) = IsStoredStatus stored reply.head.status
+IsVerdictOf stored request (verdict.UseWhile reply _) = IsStoredStatus stored reply.head.status
+IsVerdictOf stored request (verdict.Validate _) = ⊤
+IsVerdictOf stored request (verdict.Forward _) = ⊤
+IsVerdictOf stored request verdict.NotCached = IsOnlyIfCached request
+
+-- a stored response has the status, or a 304 stands for it
+pub record HasStoredStatus (stored : StoredByTarget) (status : ℕ) : Type 0 where
+  pub text : List ℕ
+  pub one : StoredSeen
+  pub among : Contains (stored text) one
+  pub is : (status ≡ one.exchange.status) ⊎ (status ≡ 304)
+
+-- so it is of what is stored for some target
+abbrev pub IsVerdictIn : StoredByTarget → Headers → Verdict → Type 0
+IsVerdictIn stored request (verdict.Use reply) = HasStoredStatus stored reply.head.status
+IsVerdictIn stored request (verdict.UseWhile reply _) = HasStoredStatus stored reply.head.status
+IsVerdictIn stored request (verdict.Validate _) = ⊤
+IsVerdictIn stored request (verdict.Forward _) = ⊤
+IsVerdictIn stored request verdict.NotCached = IsOnlyIfCached request
+
+-- an answer is of a stored response, or is a 504 to a request for a stored one only
+abbrev pub IsAnswered : StoredByTarget → Headers → Decision → Type 0
+IsAnswered stored request (Answer answer) =
+    HasStoredStatus stored (head_of answer).status
+    ⊎ (IsOnlyIfCached request × ((head_of answer).status ≡ 504))
+IsAnswered stored request (Stale answer _) = HasStoredStatus stored (head_of answer).status
+IsAnswered stored request (Validate _) = ⊤
+IsAnswered stored request (Forward _) = ⊤
+
+-- an answer has the status, and each validation is clean
+abbrev pub IsDecisionOf : ℕ → Decision → Type 0
+IsDecisionOf status (Answer answer) = (head_of answer).status ≡ status
+IsDecisionOf status (Stale answer due) = ((head_of answer).status ≡ status) × IsCleanValidation due
+IsDecisionOf status (Validate validation) = IsCleanValidation validation
+IsDecisionOf status (Forward _) = ⊤

@@ -1,6 +1,7 @@
 -- What a caching client answers, sends and stores.
 pub mod Ask
 pub mod Fetch
+pub mod Judge
 pub mod Plan
 pub mod Receive
 pub mod Reply

@@ -1,5 +1,5 @@
 -- What is sent of a stored response.
-use Rattle.std.specs.Prelude.{◌≡◌, true, Option, IfSome}
+use Rattle.std.specs.Prelude.{◌≡◌, ◌⊎◌, ℕ, true, Option, IfSome}
 use Rattle.http_cache_semantics.specs.Conditions.{is_conditional}
 use Rattle.http_cache_semantics.specs.Headers.{Headers}
 use Rattle.http_cache_client.specs.declared.reply.Reply.{Reply}
@@ -8,3 +8,8 @@ use Rattle.http_cache_client.specs.declared.reply.Reply.{Reply}
 abbrev pub IsConditionalReply : Headers → Option Reply → Type 0
 IsConditionalReply request reply =
     IfSome reply (λ r. r.head.status ≡ 304 → is_conditional request ≡ true)
+
+-- it is of the stored response of an id, with the stored status or 304
+abbrev pub IsReplyOf : ℕ → ℕ → Option Reply → Type 0
+IsReplyOf id status reply =
+    IfSome reply (λ r. (r.id.0 ≡ id) × ((r.head.status ≡ status) ⊎ (r.head.status ≡ 304)))

@@ -1,11 +1,14 @@
 //! What is done with a request.
-ghost use Rattle.std.specs.Prelude.{◌≡◌, true, IfOk};
+ghost use Rattle.std.specs.Prelude.{◌≡◌, true, List, IfOk, Contains};
 ghost use Rattle.http.specs.Request.{head_of};
+ghost use Rattle.http.specs.Response.{head_of as head_of_response};
 ghost use Rattle.http_cache_fields.specs.Headers.{headers_of};
 ghost use Rattle.http_cache_messages.specs.Asking.{is_looked_up};
 ghost use Rattle.http_cache_shelf.specs.Shelf.{KeepsAll};
-ghost use Rattle.http_cache_client.specs.Ask.{IsOfStore, IsCleanDecision, IsConditionalDecision};
-ghost use Rattle.http_cache_client.specs.Ask.{IsCleanVerdict, IsConditionalVerdict, IsConditionalHead};
+ghost use Rattle.http_cache_shelf.specs.declared.shelf.StoredResponse.{StoredResponse};
+ghost use Rattle.http_cache_client.specs.Ask.{IsOfStore, IsCleanValidation, IsCleanDecision};
+ghost use Rattle.http_cache_client.specs.Ask.{IsConditionalDecision, IsCleanVerdict, IsConditionalVerdict};
+ghost use Rattle.http_cache_client.specs.Ask.{IsVerdictOf, IsVerdictIn, IsDecisionOf, IsAnswered};
 
 use crate::client::Client;
 use crate::judge::{Selected, select};
@@ -18,7 +21,7 @@ use http_cache_messages::asking::{Incoming, is_looked_up};
 use http_cache_messages::outgoing::validation_request;
 use http_cache_messages::worth::has_validator;
 use http_cache_semantics::CacheError;
-use http_cache_semantics::explain::{Forward, Member};
+use http_cache_semantics::explain::Forward;
 use http_cache_shelf::{Shelf, StoredResponse, Target};
 use jiff::Timestamp;
 use std::alloc::{AllocError, Global};
@@ -48,7 +51,10 @@ fn validation_of(
     said: Why,
 ) -> Result<Verdict, AllocError>
     ensures clean { IfOk result IsCleanVerdict }
-    ensures conditional { IfOk result (IsConditionalVerdict (headers_of (head_of incoming.now.request.now).headers)) }
+    ensures conditional { IfOk result
+        (IsConditionalVerdict (headers_of (head_of incoming.now.request.now).headers)) }
+    ensures answered { IfOk result (λ verdict. (all : List StoredResponse) → Contains all stored.now
+        → IsVerdictOf all (headers_of (head_of incoming.now.request.now).headers) verdict) }
 {
     if !has_validator(stored.policy.stored_headers()) {
         return Ok(forwarded(stored, said));
@@ -73,7 +79,10 @@ fn matching(
     now: Timestamp,
 ) -> Result<Verdict, AllocError>
     ensures clean { IfOk result IsCleanVerdict }
-    ensures conditional { IfOk result (IsConditionalVerdict (headers_of (head_of incoming.now.request.now).headers)) }
+    ensures conditional { IfOk result
+        (IsConditionalVerdict (headers_of (head_of incoming.now.request.now).headers)) }
+    ensures answered { IfOk result (λ verdict. (all : List StoredResponse) → Contains all stored.now
+        → IsVerdictOf all (headers_of (head_of incoming.now.request.now).headers) verdict) }
 {
     let verdict = validation_of(alloc, stored, incoming, why)?;
     let asking = incoming.asking(stored.policy.stored_method());
@@ -94,7 +103,10 @@ fn decide(
     now: Timestamp,
 ) -> Result<Verdict, AllocError>
     ensures clean { IfOk result IsCleanVerdict }
-    ensures conditional { IfOk result (IsConditionalVerdict (headers_of (head_of incoming.now.request.now).headers)) }
+    ensures conditional { IfOk result
+        (IsConditionalVerdict (headers_of (head_of incoming.now.request.now).headers)) }
+    ensures answered { IfOk result
+        (IsVerdictOf stored.now (headers_of (head_of incoming.now.request.now).headers)) }
 {
     match select(stored, incoming, now) {
         Selected::Fresh(one) => match Reply::of(alloc, one, incoming, now)? {
@@ -109,11 +121,18 @@ fn decide(
     }
 }
 
-// What is done where a request asks for a stored response only (RFC 9111, section 5.2.1.7).
-fn only_if_cached(verdict: Verdict) -> Verdict
-    ensures clean { IsCleanVerdict result }
-    ensures conditional { (asked : _) → IsConditionalVerdict asked verdict → IsConditionalVerdict asked result }
+// What is done if the request asks for a stored response only (RFC 9111, section 5.2.1.7).
+fn only_if_cached(verdict: Verdict, incoming: &Incoming<'_>) -> Verdict
+    ensures clean { IsCleanVerdict verdict → IsCleanVerdict result }
+    ensures conditional { IsConditionalVerdict (headers_of (head_of incoming.now.request.now).headers) verdict
+        → IsConditionalVerdict (headers_of (head_of incoming.now.request.now).headers) result }
+    ensures answered { (all : List StoredResponse)
+        → IsVerdictOf all (headers_of (head_of incoming.now.request.now).headers) verdict
+        → IsVerdictOf all (headers_of (head_of incoming.now.request.now).headers) result }
 {
+    if !incoming.is_only_if_cached() {
+        return verdict;
+    }
     match verdict {
         Verdict::Use(reply) => Verdict::Use(reply),
         other => {
@@ -141,18 +160,31 @@ fn past_shelf(alloc: Global) -> Result<Forwarded, AllocError> {
     })
 }
 
-// The head of a response that the client makes itself.
-fn gateway_timeout(alloc: Global) -> response::Parts
-    ensures { result.status ≡ 504 }
-{
-    response::Parts {
-        status: StatusCode::GATEWAY_TIMEOUT,
-        version: Version::HTTP_11,
-        headers: HeaderMap::new(alloc),
-    }
-}
-
 impl<S: Shelf + Drop> Client<S> {
+    // What is done with a request, by what the shelf has for its target.
+    fn verdict(
+        &mut self,
+        alloc: Global,
+        target: &Target,
+        incoming: &Incoming<'_>,
+        now: Timestamp,
+    ) -> Result<Verdict, AllocError>
+        ensures kept { KeepsAll (S.stored self.old.shelf) (S.next_id self.old.shelf)
+            (S.stored self.new.shelf) (S.next_id self.new.shelf) }
+        ensures clean { IfOk result IsCleanVerdict }
+        ensures conditional { IfOk result
+            (IsConditionalVerdict (headers_of (head_of incoming.now.request.now).headers)) }
+        ensures answered { IfOk result (IsVerdictIn (S.stored self.old.shelf)
+            (headers_of (head_of incoming.now.request.now).headers)) }
+    {
+        let verdict = if self.read(alloc, target)? {
+            decide(alloc, self.shelf.found(target), incoming, now)?
+        } else {
+            Verdict::Forward(past_shelf(alloc)?)
+        };
+        Ok(only_if_cached(verdict, incoming))
+    }
+
     // Answers with a stored response, or forwards the request if the shelf has lost its body.
     fn used(
         &mut self,
@@ -162,13 +194,14 @@ impl<S: Shelf + Drop> Client<S> {
     ) -> Result<Decision, AllocError>
         ensures kept { KeepsAll (S.stored self.old.shelf) (S.next_id self.old.shelf)
             (S.stored self.new.shelf) (S.next_id self.new.shelf) }
-        ensures clean { IfOk result IsCleanDecision }
+        ensures used { IfOk result (IsDecisionOf reply.head.status) }
     {
         let Some(body) = self.body_of(alloc, target, &mut reply)? else {
             return Ok(Decision::Forward(past_shelf(alloc)?));
         };
         let member = hit(self.name.as_str(), reply.left, None);
-        Ok(Decision::Answer(answer_of(alloc, reply.head, body, &member)?))
+        let answer = answer_of(alloc, reply.head, body, &member)?;
+        Ok(Decision::Answer(answer))
     }
 
     // Answers with a stale response that is validated meanwhile.
@@ -179,8 +212,10 @@ impl<S: Shelf + Drop> Client<S> {
         mut reply: Reply,
         due: Validation,
     ) -> Result<Decision, AllocError>
+        requires { IsCleanValidation due }
         ensures kept { KeepsAll (S.stored self.old.shelf) (S.next_id self.old.shelf)
             (S.stored self.new.shelf) (S.next_id self.new.shelf) }
+        ensures used { IfOk result (IsDecisionOf reply.head.status) }
     {
         let Some(body) = self.body_of(alloc, target, &mut reply)? else {
             return Ok(Decision::Validate(due));
@@ -194,6 +229,19 @@ impl<S: Shelf + Drop> Client<S> {
         Ok(Decision::Stale { answer, due })
     }
 
+    // The client's own answer to a request for a stored response only.
+    fn not_cached(&self, alloc: Global) -> Result<Response<Bytes>, AllocError>
+        ensures { IfOk result (λ answer. (head_of_response answer).status ≡ 504) }
+    {
+        let member = generated(self.name.as_str(), "only-if-cached");
+        let head = response::Parts {
+            status: StatusCode::GATEWAY_TIMEOUT,
+            version: Version::HTTP_11,
+            headers: HeaderMap::new(alloc),
+        };
+        answer_of(alloc, head, Bytes::new(), &member)
+    }
+
     // What is done with a request that is looked up.
     fn asked(
         &mut self,
@@ -203,27 +251,20 @@ impl<S: Shelf + Drop> Client<S> {
     ) -> Result<Decision, AllocError>
         ensures kept { KeepsAll (S.stored self.old.shelf) (S.next_id self.old.shelf)
             (S.stored self.new.shelf) (S.next_id self.new.shelf) }
+        ensures clean { IfOk result IsCleanDecision }
+        ensures conditional { IfOk result
+            (IsConditionalDecision (headers_of (head_of incoming.now.request.now).headers)) }
+        ensures answered { IfOk result (IsAnswered (S.stored self.old.shelf)
+            (headers_of (head_of incoming.now.request.now).headers)) }
     {
         let request = incoming.request();
         let target = Target::of(alloc, request.uri(), request.headers())?;
-        let mut verdict = if self.read(alloc, &target)? {
-            decide(alloc, self.shelf.found(&target), incoming, now)?
-        } else {
-            Verdict::Forward(past_shelf(alloc)?)
-        };
-        if incoming.is_only_if_cached() {
-            verdict = only_if_cached(verdict);
-        }
-        match verdict {
+        match self.verdict(alloc, &target, incoming, now)? {
             Verdict::Use(reply) => self.used(alloc, &target, reply),
             Verdict::UseWhile(reply, due) => self.used_while(alloc, &target, reply, due),
             Verdict::Validate(validation) => Ok(Decision::Validate(validation)),
             Verdict::Forward(forwarded) => Ok(Decision::Forward(forwarded)),
-            Verdict::NotCached => {
-                let member = generated(self.name.as_str(), "only-if-cached");
-                let head = gateway_timeout(alloc);
-                Ok(Decision::Answer(answer_of(alloc, head, Bytes::new(), &member)?))
-            }
+            Verdict::NotCached => Ok(Decision::Answer(self.not_cached(alloc)?)),
         }
     }
 
@@ -250,6 +291,8 @@ impl<S: Shelf + Drop> Client<S> {
         ensures clean { IfOk result IsCleanDecision }
         ensures conditional { IfOk result
             (IsConditionalDecision (headers_of (head_of request.now).headers)) }
+        ensures answered { IfOk result
+            (IsAnswered (S.stored self.old.shelf) (headers_of (head_of request.now).headers)) }
         ensures kept { KeepsAll (S.stored self.old.shelf) (S.next_id self.old.shelf)
             (S.stored self.new.shelf) (S.next_id self.new.shelf) }
     {

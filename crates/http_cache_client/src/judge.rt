@@ -1,5 +1,7 @@
 //! Which of the stored responses of a target answers a request.
-ghost use Rattle.std.specs.Prelude.{◌≡◌};
+ghost use Rattle.std.specs.Prelude.{List, Contains};
+ghost use Rattle.http_cache_shelf.specs.declared.shelf.StoredResponse.{StoredResponse};
+ghost use Rattle.http_cache_client.specs.Judge.{IsSelectedOf};
 
 use http_cache_messages::asking::Incoming;
 use http_cache_semantics::explain::{Explanation, Reason, StaleReason};
@@ -36,7 +38,10 @@ fn better<'a>(
     so_far: Selected<'a>,
     stored: &'a StoredResponse,
     said: Explanation<'a>,
-) -> Selected<'a> {
+) -> Selected<'a>
+    ensures { (all : List StoredResponse) → IsSelectedOf all so_far.entry
+        → Contains all stored.now → IsSelectedOf all result }
+{
     match (so_far, said.reason) {
         (_, None) => Selected::Fresh(stored),
         (Selected::Matching(..) | Selected::Fresh(_), _) => so_far,
@@ -72,7 +77,9 @@ pub(crate) fn select<'a>(
     stored: &'a [StoredResponse],
     incoming: &'a Incoming<'a>,
     now: Timestamp,
-) -> Selected<'a> {
+) -> Selected<'a>
+    ensures { IsSelectedOf stored.now result }
+{
     let mut selected = Selected::Nothing;
     for one in stored {
         selected = better(selected, one, explained(one, incoming, now));

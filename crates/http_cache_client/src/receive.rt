@@ -80,6 +80,16 @@ fn lines_of(
     })
 }
 
+// The value of Cache-Status for what a change came to, if it is another than that no response is stored.
+fn line_for(lines: Lines, settled: Settled, says_stored: bool) -> Option<HeaderValue> {
+    let Lines { stored, failed } = lines;
+    match settled {
+        Settled::Stored if says_stored => Some(stored),
+        Settled::Failed => Some(failed),
+        Settled::Stored | Settled::NotStored => None,
+    }
+}
+
 // A response that was received, as it is sent before it is known whether it is stored: as a 304 if it
 // makes the client's own condition false.
 fn prepared(
@@ -242,10 +252,8 @@ impl<S: Shelf + Drop> Client<S> {
         } = plan;
         let settled = self.commit(change)?;
         let (mut head, body) = answer.into_parts();
-        match settled {
-            Settled::Stored if says_stored => replace_line(&mut head.headers, lines.stored),
-            Settled::Failed => replace_line(&mut head.headers, lines.failed),
-            Settled::Stored | Settled::NotStored => {}
+        if let Some(line) = line_for(lines, settled, says_stored) {
+            replace_line(&mut head.headers, line);
         }
         Ok(Response::from_parts(head, body))
     }

@@ -3,7 +3,7 @@ ghost use Rattle.std.specs.Prelude.{◌≡◌, IfOk, true};
 ghost use Rattle.http.specs.Request.{head_of};
 ghost use Rattle.http_cache_fields.specs.Headers.{headers_of};
 ghost use Rattle.http_cache_semantics.specs.Conditions.{is_conditional};
-ghost use Rattle.http_cache_client.specs.Reply.{IsConditionalReply};
+ghost use Rattle.http_cache_client.specs.Reply.{IsConditionalReply, IsReplyOf};
 
 use bytes::Bytes;
 use http::header::{
@@ -94,7 +94,9 @@ impl Reply {
         incoming: &Incoming<'_>,
         now: Timestamp,
     ) -> Result<Option<Reply>, AllocError>
-        ensures { IfOk result (IsConditionalReply (headers_of (head_of incoming.now.request.now).headers)) }
+        ensures conditional { IfOk result
+            (IsConditionalReply (headers_of (head_of incoming.now.request.now).headers)) }
+        ensures stored { IfOk result (IsReplyOf id.0 policy.now.status) }
     {
         let head = match policy.response_at(alloc, now) {
             Ok(head) if head.status != StatusCode::NOT_MODIFIED => head,
@@ -123,7 +125,9 @@ impl Reply {
         incoming: &Incoming<'_>,
         now: Timestamp,
     ) -> Result<Option<Reply>, AllocError>
-        ensures { IfOk result (IsConditionalReply (headers_of (head_of incoming.now.request.now).headers)) }
+        ensures conditional { IfOk result
+            (IsConditionalReply (headers_of (head_of incoming.now.request.now).headers)) }
+        ensures stored { IfOk result (IsReplyOf stored.now.id.0 stored.now.policy.status) }
     {
         let Some(mut reply) = Reply::of_policy(alloc, stored.id, &stored.policy, incoming, now)?
         else {

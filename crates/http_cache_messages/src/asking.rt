@@ -93,9 +93,10 @@ impl<'a> Incoming<'a> {
 
     /// Returns whether only a stored response is asked for (RFC 9111, section 5.2.1.7).
     pub fn is_only_if_cached(&self) -> bool
-        ensures { result ≡ has (cache_control (headers_seen self.now)) (codes "only-if-cached") }
+        ensures { result ≡ has (cache_control (headers_of (head_of self.now.request.now).headers))
+            (codes "only-if-cached") }
     {
-        says(self.headers(), "only-if-cached")
+        says(self.request.headers(), "only-if-cached")
     }
 
     /// Returns the request by its own method.
