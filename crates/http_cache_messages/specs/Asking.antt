@@ -1,5 +1,5 @@
 -- A request as stored responses are asked by it.
-use Rattle.std.specs.Prelude.{ℕ, Bool, ◌&&◌, ◌||◌, List, codes, bytes_eq, is_empty}
+use Rattle.std.specs.Prelude.{ℕ, Bool, ◌&&◌, ◌||◌, ◌==◌, List, length, codes, bytes_eq}
 use Rattle.std.specs.Option.{option_map_or}
 use Rattle.http.specs.Request.{head_of, body_of}
 use Rattle.http.specs.declared.request.Request.{Request}
@@ -14,7 +14,7 @@ is_get_or_head method = bytes_eq method (codes "GET") || bytes_eq method (codes 
 
 -- a GET or HEAD without a body (RFC 9111, sections 2 and 4)
 abbrev pub is_looked_up : Request (List ℕ) → Bool
-is_looked_up request = is_get_or_head (head_of request).method && bytes_eq (body_of request) []
+is_looked_up request = is_get_or_head (head_of request).method && length (body_of request) == 0
 
 -- the fields with the lines of each joined, if a field has several, else as received
 abbrev pub headers_seen : Incoming → Headers

@@ -9,6 +9,11 @@ use Rattle.http_cache_semantics.specs.Pieces.{pieces_under}
 abbrev pub is_length : ℕ → List ℕ → Bool
 is_length length text = unwrap_or (option_map (λ n. n == length) (number text)) false
 
+-- each Content-Length is the number of a length
+abbrev pub has_length : ℕ → Headers → Bool
+has_length length headers =
+    list_all (is_length length) (pieces_under headers (codes "content-length"))
+
 -- each Content-Length is the length of the body, where it speaks of this body: not in a response to
 -- HEAD, of status 204 or 304, or with Transfer-Encoding
 abbrev pub is_complete : List ℕ → ℕ → Headers → ℕ → Bool
@@ -17,4 +22,4 @@ is_complete method status headers length =
     || status == 204
     || status == 304
     || contains_key headers (codes "transfer-encoding")
-    || list_all (is_length length) (pieces_under headers (codes "content-length"))
+    || has_length length headers

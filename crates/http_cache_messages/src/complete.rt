@@ -1,7 +1,7 @@
 //! Whether a response was received whole.
 ghost use Rattle.std.specs.Prelude.{◌≡◌};
 ghost use Rattle.http_cache_fields.specs.Headers.{headers_of};
-ghost use Rattle.http_cache_messages.specs.Complete.{is_length, is_complete};
+ghost use Rattle.http_cache_messages.specs.Complete.{is_length, has_length, is_complete};
 
 use http::header::{CONTENT_LENGTH, TRANSFER_ENCODING};
 use http::{HeaderMap, Method, StatusCode};
@@ -16,6 +16,13 @@ fn is_length(length: u64, text: &str) -> bool
     number(text) == Some(length)
 }
 
+// Whether each Content-Length is the number of a length.
+fn has_length(headers: &HeaderMap, length: u64) -> bool
+    ensures { result ≡ has_length length (headers_of headers.now) }
+{
+    pieces_under(headers, CONTENT_LENGTH).all(|piece| is_length(length, piece))
+}
+
 /// Returns whether a body of a length, in bytes, is the whole of a response: each Content-Length is
 /// that number (RFC 9110, section 8.6; RFC 9111, section 3.3).
 ///
@@ -28,5 +35,5 @@ pub fn is_complete(method: &Method, status: StatusCode, headers: &HeaderMap, len
         || status == StatusCode::NO_CONTENT
         || status == StatusCode::NOT_MODIFIED
         || contains_key(headers, TRANSFER_ENCODING)
-        || pieces_under(headers, CONTENT_LENGTH).all(|piece| is_length(length, piece))
+        || has_length(headers, length)
 }
