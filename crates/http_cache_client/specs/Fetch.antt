@@ -1,0 +1,66 @@
+-- What an origin is sent for a request (RFC 9111, section 4.3.3).
+use Rattle.std.specs.Prelude.{◌≡◌, ◌⊎◌, ⊤, ℕ, ℤ, List, [], Option, Some, None}
+use Rattle.http.specs.Request.{head_of as head_of_request, body_of}
+use Rattle.http.specs.Response.{head_of}
+use Rattle.http.specs.declared.request.Request.{Request}
+use Rattle.http.specs.declared.response.Response.{Response}
+use Rattle.http_cache_messages.specs.Outgoing.{IsClean}
+use Rattle.http_cache_semantics.specs.Headers.{Headers, headers_of}
+use Rattle.http_cache_client.specs.declared.origin.FetchError.{FetchError}
+use Rattle.http_cache_client.specs.declared.origin.FetchError.TheVariants.{Memory, Origin}
+
+-- what was received for a request, and when, or that nothing was
+abbrev pub Outcome : Type 0
+Outcome = Option (Response (List ℕ) × ℤ)
+
+-- what an origin was sent and what it sent, from one state to the next
+abbrev pub Sends : Type 0 → Type 1
+Sends O = O → Request (List ℕ) → Outcome → O → Type 0
+
+-- a request that validates a stored response: without a body, and with the stored validators as its
+-- only conditions
+pub record IsValidating (request : Request (List ℕ)) : Type 0 where
+  pub no_body : body_of request ≡ []
+  pub stored : Headers
+  pub clean : IsClean stored (headers_of (head_of_request request).headers)
+
+module _ {O : Type 0} (sent : Sends O) (before after : O) (request : Request (List ℕ)) where
+  -- the origin was sent the client's own request last, as it is
+  pub record HasSentOwn (outcome : Outcome) : Type 0 where
+    pub was_sent : sent before request outcome after
+
+  -- it was sent a validation
+  pub record HasSentValidation (outcome : Outcome) : Type 0 where
+    pub validation : Request (List ℕ)
+    pub validating : IsValidating validation
+    pub was_sent : sent before validation outcome after
+
+  -- it was sent a validation, which ended in a 304, and then the client's own request
+  pub record HasSentBoth (outcome : Outcome) : Type 0 where
+    pub validation : Request (List ℕ)
+    pub validating : IsValidating validation
+    pub response : Response (List ℕ)
+    pub not_modified : (head_of response).status ≡ 304
+    pub received : ℤ
+    pub between : O
+    pub was_validated : sent before validation (Some (response, received)) between
+    pub was_sent : sent between request outcome after
+
+  -- it was sent one request, or two, the second after a 304; with the outcome of the last
+  abbrev pub HasSent : Outcome → Type 0
+  HasSent outcome = HasSentOwn outcome ⊎ (HasSentValidation outcome ⊎ HasSentBoth outcome)
+
+  -- it was sent nothing, or that
+  abbrev pub HasSentTwiceAtMost : Type 0
+  HasSentTwiceAtMost = (after ≡ before) ⊎ ((outcome : Outcome) × HasSent outcome)
+
+  -- it was sent the client's own request, and a 304 was received for it
+  abbrev pub HasSentFor304 : Type 0
+  HasSentFor304 =
+      (between : O) × (response : Response (List ℕ)) × (received : ℤ)
+      × (sent between request (Some (response, received)) after × ((head_of response).status ≡ 304))
+
+-- there is no response only for a reason
+abbrev pub HasNoResponse : {E : Type 0} → Type 0 → FetchError E → Type 0
+HasNoResponse reason Memory = ⊤
+HasNoResponse reason (Origin _) = reason

@@ -1,0 +1,6 @@
+-- What a caching client answers, sends and stores.
+pub mod Ask
+pub mod Fetch
+pub mod Plan
+pub mod Receive
+pub mod Reply

@@ -1,0 +1,38 @@
+-- What becomes of a response that was received.
+use Rattle.std.specs.Prelude.{◌≡◌, true, ⊤, ℕ, List, length}
+use Rattle.http.specs.Request.{head_of}
+use Rattle.http.specs.declared.response.Parts.{Parts}
+use Rattle.http.specs.declared.request.Request.{Request}
+use Rattle.http_cache_messages.specs.Complete.{is_complete}
+use Rattle.http_cache_semantics.specs.Conditions.{is_conditional}
+use Rattle.http_cache_semantics.specs.Headers.{headers_of}
+use Rattle.http_cache_client.specs.declared.body.Body.{Body}
+use Rattle.http_cache_client.specs.declared.body.Body.TheVariants.{Here, Elsewhere}
+use Rattle.http_cache_client.specs.declared.plan.Arrived.{Arrived}
+use Rattle.http_cache_client.specs.declared.plan.Change.{Change}
+use Rattle.http_cache_client.specs.declared.plan.Change.TheVariants.{Nothing, Put, Renew, Remove, RemoveTargets}
+use Rattle.http_cache_client.specs.declared.plan.Plan.{Plan}
+
+-- the change stores a new response
+abbrev pub Stores : Change → Type 0
+Stores Nothing = ⊥
+Stores (Put _ _ _ _) = ⊤
+Stores (Renew _ _ _ _) = ⊥
+Stores (Remove _ _) = ⊥
+Stores (RemoveTargets _) = ⊥
+
+-- the body is here, and is the whole of the response (RFC 9111, section 3.3)
+abbrev pub IsWholeBody : Request (List ℕ) → Parts → Body → Type 0
+IsWholeBody request head (Here bytes) =
+    is_complete (head_of request).method head.status (headers_of head.headers) (length bytes) ≡ true
+IsWholeBody request head (Elsewhere _) = ⊥
+
+-- so it is of a response that was received
+abbrev pub IsWhole : Arrived → Type 0
+IsWhole a = IsWholeBody a.incoming.now.request.now a.head.now a.body.now
+
+-- a response makes a condition of the request false only if that has one
+abbrev pub IsKnownPlan : Arrived → Plan → Type 0
+IsKnownPlan a plan =
+    plan.is_known ≡ true
+    → is_conditional (headers_of (head_of a.incoming.now.request.now).headers) ≡ true

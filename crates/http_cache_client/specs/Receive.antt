@@ -1,0 +1,53 @@
+-- What a client does with the outcome of a request that was sent.
+use Rattle.std.specs.Prelude.{◌≡◌, ◌⊎◌, true, ⊤, ℕ, List, Option, IfSome}
+use Rattle.http.specs.Request.{head_of as head_of_request}
+use Rattle.http.specs.Response.{head_of, body_of}
+use Rattle.http.specs.declared.request.Request.{Request}
+use Rattle.http.specs.declared.response.Response.{Response}
+use Rattle.http_cache_messages.specs.Asking.{is_looked_up}
+use Rattle.http_cache_semantics.specs.Conditions.{is_conditional}
+use Rattle.http_cache_semantics.specs.Headers.{Headers, headers_of}
+use Rattle.http_cache_client.specs.Plan.{IsWholeBody}
+use Rattle.http_cache_client.specs.declared.body.Body.{Body}
+use Rattle.http_cache_client.specs.declared.body.Body.TheVariants.{Here, Elsewhere}
+use Rattle.http_cache_client.specs.declared.receive.Renewal.{Renewal}
+use Rattle.http_cache_client.specs.declared.tokens.Received.{Received}
+use Rattle.http_cache_client.specs.declared.tokens.Received.TheVariants.{Answer, Again}
+
+-- the caller keeps the body
+abbrev pub IsElsewhere : Body → Type 0
+IsElsewhere (Here _) = ⊥
+IsElsewhere (Elsewhere _) = ⊤
+
+-- the body is here, and is the whole of the response (RFC 9111, section 3.3)
+abbrev pub IsWholeResponse : Request (List ℕ) → Response Body → Type 0
+IsWholeResponse request response = IsWholeBody request (head_of response) (body_of response)
+
+-- the response to a GET or HEAD without a body was received whole
+abbrev pub MayBeStored : Request (List ℕ) → Response Body → Type 0
+MayBeStored request response =
+    (is_looked_up request ≡ true) × IsWholeResponse request response
+
+-- the request has a condition (RFC 9110, section 13.1)
+abbrev pub HasCondition : Request (List ℕ) → Type 0
+HasCondition request = is_conditional (headers_of (head_of_request request).headers) ≡ true
+
+-- a stored response that was confirmed answers with a 304 only a request with a condition
+abbrev pub IsConditionalRenewal : Headers → Option Renewal → Type 0
+IsConditionalRenewal request renewal =
+    IfSome renewal (λ r. r.reply.head.status ≡ 304 → is_conditional request ≡ true)
+
+-- so does the answer after a validation
+abbrev pub IsConditionalReceipt : Request (List ℕ) → Received → Type 0
+IsConditionalReceipt request (Answer answer) = (head_of answer).status ≡ 304 → HasCondition request
+IsConditionalReceipt request (Again _) = ⊤
+
+-- its body is elsewhere only if that of the received response is
+abbrev pub KeepsBodyPlace : Response Body → Received → Type 0
+KeepsBodyPlace response (Answer answer) = IsElsewhere (body_of answer) → IsElsewhere (body_of response)
+KeepsBodyPlace response (Again _) = ⊤
+
+-- the client's own request is sent only after a 304
+abbrev pub IsAfterA304 : Response Body → Received → Type 0
+IsAfterA304 response (Answer _) = ⊤
+IsAfterA304 response (Again _) = (head_of response).status ≡ 304

@@ -1,0 +1,180 @@
+//! A caching client: its shelf, its name and its options.
+ghost use Rattle.std.specs.Prelude.{◌≡◌, ◌⊎◌, true, IfOk, OnErr};
+ghost use Rattle.http_cache_shelf.specs.Shelf.{KeepsAll};
+ghost use Rattle.http_cache_shelf.specs.Target.{text_of};
+ghost use Rattle.http_cache_client.specs.Plan.{Stores};
+
+use crate::plan::Change;
+use crate::reply::Reply;
+use bytes::Bytes;
+use http_cache_semantics::CacheOptions;
+use http_cache_shelf::{Shelf, ShelfError, Target};
+use jiff::Timestamp;
+use std::alloc::{AllocError, Global};
+
+/// A caching client over a shelf of stored responses, with the name that it has in Cache-Status (RFC
+/// 9211).
+///
+/// It answers only GET and HEAD without a body from the shelf, and stores only their responses. Every
+/// other request is forwarded as it is, and an unsafe one removes what is stored for its target (RFC
+/// 9111, sections 2, 4 and 4.4). It stores no partial content (206) and collapses no requests.
+// It has no Model, since a function from texts to stored responses has no code.
+#[derive(Drop)]
+pub struct Client<S: Drop> {
+    pub(crate) name: String,
+    pub(crate) options: CacheOptions,
+    pub(crate) shelf: S,
+}
+
+/// What a change of the shelf came to.
+#[derive(Clone, Copy, Debug, PartialEq, Eq)]
+pub(crate) enum Settled {
+    /// A response is stored.
+    Stored,
+    /// None is.
+    NotStored,
+    /// The shelf failed, and has what it had.
+    Failed,
+}
+
+impl<S: Shelf + Drop> Client<S> {
+    /// Returns a client of a name over a shelf, for one user (`shared: false`) or for several.
+    pub fn new(shelf: S, options: CacheOptions, name: String) -> Client<S>
+        ensures { result.shelf ≡ shelf }
+    {
+        Client {
+            name,
+            options,
+            shelf,
+        }
+    }
+
+    /// Returns the shelf.
+    pub fn shelf(&self) -> &S
+        ensures { result.now ≡ self.now.shelf }
+    {
+        &self.shelf
+    }
+
+    /// Returns the shelf of a client that is done.
+    pub fn into_shelf(self) -> S
+        ensures { result ≡ self.shelf }
+    {
+        let Client { shelf, .. } = self;
+        shelf
+    }
+
+    /// Removes the stored responses that can't be used again at `now`, and returns how many: the stale
+    /// ones that can neither be validated nor served stale (RFC 9111, section 4.2.4).
+    ///
+    /// # Errors
+    ///
+    /// That of the shelf, which then has what it had.
+    pub fn sweep(&mut self, now: Timestamp) -> Result<usize, ShelfError>
+        ensures kept { OnErr result (KeepsAll (S.stored self.old.shelf) (S.next_id self.old.shelf)
+            (S.stored self.new.shelf) (S.next_id self.new.shelf)) }
+        ensures given_once { S.next_id self.new.shelf ≡ S.next_id self.old.shelf }
+    {
+        self.shelf.sweep(now)
+    }
+
+    // Reads what is stored for a target, and returns whether the shelf could.
+    pub(crate) fn read(&mut self, alloc: Global, target: &Target) -> Result<bool, AllocError>
+        ensures kept { KeepsAll (S.stored self.old.shelf) (S.next_id self.old.shelf)
+            (S.stored self.new.shelf) (S.next_id self.new.shelf) }
+        ensures read { IfOk result (λ is_read. is_read ≡ true
+            → S.is_read self.new.shelf (text_of target.now)) }
+    {
+        match self.shelf.look_up(alloc, target) {
+            Ok(()) => Ok(true),
+            Err(ShelfError::Memory) => Err(AllocError),
+            Err(ShelfError::Failed) => Ok(false),
+        }
+    }
+
+    // The body that is sent with a stored response, or None if the shelf has lost it.
+    pub(crate) fn body_of(
+        &mut self,
+        alloc: Global,
+        target: &Target,
+        reply: &mut Reply,
+    ) -> Result<Option<Bytes>, AllocError>
+        ensures kept { KeepsAll (S.stored self.old.shelf) (S.next_id self.old.shelf)
+            (S.stored self.new.shelf) (S.next_id self.new.shelf) }
+        ensures head { reply.new.head ≡ reply.old.head }
+    {
+        if !reply.needs_body {
+            return Ok(Some(Bytes::new()));
+        }
+        if let Some(body) = reply.body.take() {
+            return Ok(Some(body));
+        }
+        match self.shelf.body(alloc, target, reply.id) {
+            Ok(body) => Ok(body),
+            Err(ShelfError::Memory) => Err(AllocError),
+            Err(ShelfError::Failed) => Ok(None),
+        }
+    }
+
+    // Makes a change in one call of the shelf.
+    fn make(&mut self, change: Change) -> Result<Settled, ShelfError>
+        ensures kept { OnErr result (KeepsAll (S.stored self.old.shelf) (S.next_id self.old.shelf)
+            (S.stored self.new.shelf) (S.next_id self.new.shelf)) }
+        ensures stored { Stores change ⊎ (S.next_id self.new.shelf ≡ S.next_id self.old.shelf) }
+    {
+        match change {
+            Change::Nothing => Ok(Settled::NotStored),
+            Change::Put {
+                target,
+                superseded,
+                policy,
+                body,
+            } => {
+                let id = self
+                    .shelf
+                    .put(&target, superseded.as_slice(), policy, body)?;
+                Ok(if id.is_some() {
+                    Settled::Stored
+                } else {
+                    Settled::NotStored
+                })
+            }
+            Change::Renew {
+                target,
+                superseded,
+                id,
+                policy,
+            } => {
+                let is_there = self
+                    .shelf
+                    .renew(&target, superseded.as_slice(), id, policy)?;
+                Ok(if is_there {
+                    Settled::Stored
+                } else {
+                    Settled::NotStored
+                })
+            }
+            Change::Remove { target, ids } => {
+                self.shelf.remove(&target, ids.as_slice())?;
+                Ok(Settled::NotStored)
+            }
+            Change::RemoveTargets(targets) => {
+                self.shelf.remove_targets(targets.as_slice())?;
+                Ok(Settled::NotStored)
+            }
+        }
+    }
+
+    // Makes a change as the last step of a call; a shelf that failed has what it had.
+    pub(crate) fn commit(&mut self, change: Change) -> Result<Settled, AllocError>
+        ensures kept { OnErr result (KeepsAll (S.stored self.old.shelf) (S.next_id self.old.shelf)
+            (S.stored self.new.shelf) (S.next_id self.new.shelf)) }
+        ensures stored { Stores change ⊎ (S.next_id self.new.shelf ≡ S.next_id self.old.shelf) }
+    {
+        match self.make(change) {
+            Ok(settled) => Ok(settled),
+            Err(ShelfError::Memory) => Err(AllocError),
+            Err(ShelfError::Failed) => Ok(Settled::Failed),
+        }
+    }
+}

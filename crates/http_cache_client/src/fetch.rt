@@ -1,0 +1,174 @@
+//! Answers requests by asking an origin at most twice.
+ghost use Rattle.std.specs.Prelude.{◌≡◌, ◌⊎◌, true, false, None, IfOk, IfErr, OnErr};
+ghost use Rattle.http.specs.Response.{head_of, body_of};
+ghost use Rattle.http_cache_messages.specs.Asking.{is_looked_up};
+ghost use Rattle.http_cache_shelf.specs.Shelf.{KeepsAll};
+ghost use Rattle.http_cache_client.specs.Ask.{IsCleanValidation};
+ghost use Rattle.http_cache_client.specs.Receive.{IsElsewhere, HasCondition};
+ghost use Rattle.http_cache_client.specs.Fetch.{Outcome, HasSentOwn, HasSentValidation, HasSentBoth, HasSent};
+ghost use Rattle.http_cache_client.specs.Fetch.{HasSentTwiceAtMost, HasSentFor304, HasNoResponse};
+
+use crate::body::Body;
+use crate::client::Client;
+use crate::origin::{FetchError, Origin};
+use crate::tokens::{Decision, Forwarded, Received, Times, Validation};
+use bytes::Bytes;
+use http::{Request, Response};
+use http_cache_shelf::Shelf;
+use jiff::Timestamp;
+use std::alloc::Global;
+
+// A response whose body is here.
+fn with_bytes(response: Response<Body>) -> Response<Bytes>
+    requires { ¬ (IsElsewhere (body_of response)) }
+    ensures { (head_of result).status ≡ (head_of response).status }
+{
+    let (head, body) = response.into_parts();
+    match body {
+        Body::Here(bytes) => Response::from_parts(head, bytes),
+        Body::Elsewhere(_) => unreachable!(),
+    }
+}
+
+// A response as the client takes it.
+fn with_body(response: Response<Bytes>) -> Response<Body>
+    ensures here { ¬ (IsElsewhere (body_of result)) }
+    ensures status { (head_of result).status ≡ (head_of response).status }
+{
+    let (head, bytes) = response.into_parts();
+    Response::from_parts(head, Body::Here(bytes))
+}
+
+impl<S: Shelf + Drop> Client<S> {
+    // The origin gave no response to a request.
+    fn unanswered<E: Drop>(
+        &mut self,
+        alloc: Global,
+        mut token: Forwarded,
+        request: &Request<Bytes>,
+        cause: E,
+        now: Timestamp,
+    ) -> Result<Response<Bytes>, FetchError<E>>
+        ensures kept { KeepsAll (S.stored self.old.shelf) (S.next_id self.old.shelf)
+            (S.stored self.new.shelf) (S.next_id self.new.shelf) }
+        ensures conditional { IfOk result (λ answer. (head_of answer).status ≡ 304
+            → HasCondition request.now) }
+    {
+        match self.without_response(alloc, &mut token, request, now) {
+            Ok(Some(answer)) => Ok(answer),
+            Ok(None) => Err(FetchError::Origin(cause)),
+            Err(_) => Err(FetchError::Memory),
+        }
+    }
+
+    // The client's own request is sent.
+    fn forward<O: Origin>(
+        &mut self,
+        alloc: Global,
+        origin: &mut O,
+        request: &Request<Bytes>,
+        mut token: Forwarded,
+        sent: Timestamp,
+    ) -> Result<Response<Bytes>, FetchError<O::Error>>
+    where
+        O::Error: Drop,
+        ensures sent { (outcome : Outcome)
+            × HasSentOwn O.sent origin.old origin.new request.now outcome }
+        ensures no_response { IfErr result
+            (HasNoResponse (HasSentOwn O.sent origin.old origin.new request.now None)) }
+        ensures conditional { IfOk result (λ answer. (head_of answer).status ≡ 304
+            → HasCondition request.now ⊎ HasSentFor304 O.sent origin.old origin.new request.now) }
+        ensures kept { OnErr result (KeepsAll (S.stored self.old.shelf) (S.next_id self.old.shelf)
+            (S.stored self.new.shelf) (S.next_id self.new.shelf)) }
+    {
+        match origin.send(request) {
+            Ok((response, received)) => {
+                let times = Times { sent, received };
+                let response = with_body(response);
+                let answer = self.accept(alloc, &mut token, request, response, times)?;
+                Ok(with_bytes(answer))
+            }
+            Err(cause) => self.unanswered(alloc, token, request, cause, sent),
+        }
+    }
+
+    // The origin is asked whether a stored response is still valid, and after a 304 that isn't for it,
+    // the client's own request is sent.
+    fn validate<O: Origin>(
+        &mut self,
+        alloc: Global,
+        origin: &mut O,
+        request: &Request<Bytes>,
+        mut token: Validation,
+        sent: Timestamp,
+    ) -> Result<Response<Bytes>, FetchError<O::Error>>
+    where
+        O::Error: Drop,
+        requires { IsCleanValidation token }
+        ensures sent { (outcome : Outcome)
+            × (HasSentValidation O.sent origin.old origin.new request.now outcome
+            ⊎ HasSentBoth O.sent origin.old origin.new request.now outcome) }
+        ensures no_response { IfErr result
+            (HasNoResponse (HasSent O.sent origin.old origin.new request.now None)) }
+        ensures conditional { IfOk result (λ answer. (head_of answer).status ≡ 304
+            → HasCondition request.now ⊎ HasSentFor304 O.sent origin.old origin.new request.now) }
+        ensures kept { OnErr result (KeepsAll (S.stored self.old.shelf) (S.next_id self.old.shelf)
+            (S.stored self.new.shelf) (S.next_id self.new.shelf)
+            ⊎ ((outcome : Outcome)
+            × HasSentBoth O.sent origin.old origin.new request.now outcome)) }
+    {
+        let asking = Request::from_parts(token.take_request(alloc), Bytes::new());
+        let (response, received) = match origin.send(&asking) {
+            Ok(response) => response,
+            Err(cause) => {
+                return self.unanswered(alloc, token.into_forwarded(), request, cause, sent);
+            }
+        };
+        let times = Times { sent, received };
+        match self.receive(alloc, &mut token, request, with_body(response), times)? {
+            Received::Answer(answer) => Ok(with_bytes(answer)),
+            Received::Again(again) => self.forward(alloc, origin, request, again, received),
+        }
+    }
+
+    /// Returns the response to a request that was received at `now`: from the shelf if a stored
+    /// response may be used, else by way of the origin (RFC 9111, section 4).
+    ///
+    /// The origin is sent nothing or one request; or two, if the first validates a stored response and
+    /// ends in a 304 that isn't for it. Where a stale response could be used while it is validated,
+    /// `fetch` waits for the validation.
+    ///
+    /// # Errors
+    ///
+    /// `Origin` if the last request that was sent had no response, and no stored response may be used in
+    /// its place. `Memory` if there is not enough memory. After either what is stored is as it was,
+    /// except that a response which a 304 didn't confirm is removed before the second request.
+    pub fn fetch<O: Origin>(
+        &mut self,
+        alloc: Global,
+        origin: &mut O,
+        request: &Request<Bytes>,
+        now: Timestamp,
+    ) -> Result<Response<Bytes>, FetchError<O::Error>>
+    where
+        O::Error: Drop,
+        ensures twice { HasSentTwiceAtMost O.sent origin.old origin.new request.now }
+        ensures safe { is_looked_up request.now ≡ false → (outcome : Outcome)
+            × HasSentOwn O.sent origin.old origin.new request.now outcome }
+        ensures no_response { IfErr result
+            (HasNoResponse (HasSent O.sent origin.old origin.new request.now None)) }
+        ensures conditional { IfOk result (λ answer. (head_of answer).status ≡ 304
+            → HasCondition request.now ⊎ HasSentFor304 O.sent origin.old origin.new request.now) }
+        ensures kept { OnErr result (KeepsAll (S.stored self.old.shelf) (S.next_id self.old.shelf)
+            (S.stored self.new.shelf) (S.next_id self.new.shelf)
+            ⊎ ((outcome : Outcome)
+            × HasSentBoth O.sent origin.old origin.new request.now outcome)) }
+    {
+        match self.ask(alloc, request, now)? {
+            Decision::Answer(answer) => Ok(answer),
+            Decision::Stale { due, .. } => self.validate(alloc, origin, request, due, now),
+            Decision::Validate(token) => self.validate(alloc, origin, request, token, now),
+            Decision::Forward(token) => self.forward(alloc, origin, request, token, now),
+        }
+    }
+}

@@ -1,0 +1,155 @@
+//! Stored responses that a response confirms: a 304, or a response to HEAD.
+ghost use Rattle.std.specs.Prelude.{IfOk, IfSome};
+ghost use Rattle.http_cache_client.specs.Plan.{Stores};
+
+use crate::plan::{Arrived, Change};
+use http::header::{CONTENT_LENGTH, ETAG, LAST_MODIFIED};
+use http::{HeaderMap, HeaderName, Method, StatusCode, Version, response};
+use http_cache_messages::head::stored_head;
+use http_cache_semantics::forwarding::updated_headers;
+use http_cache_semantics::{CacheError, CacheOptions, CachePolicy};
+use http_cache_shelf::{ResponseId, StoredResponse, Target};
+use std::alloc::{AllocError, Global};
+
+/// The stored response of an id.
+pub(crate) fn of_id(stored: &[StoredResponse], id: ResponseId) -> Option<&StoredResponse> {
+    stored.iter().find(|one| one.id == id)
+}
+
+/// The policy of a stored response that was confirmed, of the time at which its validation was sent:
+/// with the fields that were received, new names too (RFC 9111, sections 3.2 and 4.3.4).
+pub(crate) fn renewed(
+    alloc: Global,
+    policy: &CachePolicy,
+    arrived: &Arrived<'_>,
+    options: &CacheOptions,
+) -> Result<CachePolicy, CacheError> {
+    let times = arrived.times;
+    let new = stored_head(alloc, &arrived.head.headers, times.sent, times.received)?;
+    let head = response::Parts {
+        status: policy.stored_status(),
+        version: Version::HTTP_11,
+        headers: updated_headers(alloc, policy.stored_headers(), &new)?,
+    };
+    let asking = arrived.incoming.asking(policy.stored_method());
+    CachePolicy::new_options(alloc, &asking, &head, times.sent, *options)
+}
+
+// What a response to HEAD says of a response that is stored for GET.
+#[derive(Clone, Copy, PartialEq, Eq)]
+enum Comparison {
+    Same,
+    Other,
+    Unknown,
+}
+
+fn compared_under(stored: &HeaderMap, received: &HeaderMap, name: HeaderName) -> Comparison {
+    match received.get(&name) {
+        None => Comparison::Unknown,
+        Some(value) if stored.get(&name) == Some(value) => Comparison::Same,
+        Some(_) => Comparison::Other,
+    }
+}
+
+// By the validators and the length that were received; a length alone confirms nothing (RFC 9111,
+// section 4.3.5).
+fn compared(stored: &HeaderMap, received: &HeaderMap) -> Comparison {
+    let tag = compared_under(stored, received, ETAG);
+    let date = compared_under(stored, received, LAST_MODIFIED);
+    let length = compared_under(stored, received, CONTENT_LENGTH);
+    if tag == Comparison::Other || date == Comparison::Other || length == Comparison::Other {
+        Comparison::Other
+    } else if tag == Comparison::Same || date == Comparison::Same {
+        Comparison::Same
+    } else {
+        Comparison::Unknown
+    }
+}
+
+// Which stored responses to GET a response to HEAD speaks of.
+#[derive(Drop)]
+struct OfHead {
+    // The newest that it confirms.
+    same: Option<ResponseId>,
+    // Those that differ from it, and older ones that it confirms.
+    outdated: Vec<ResponseId>,
+}
+
+// What a response to HEAD says of a stored response, if that is one to GET that matches.
+fn said_of(stored: &StoredResponse, arrived: &Arrived<'_>) -> Comparison {
+    let method = stored.policy.stored_method();
+    let asking = arrived.incoming.asking(method);
+    if *method != Method::GET || !stored.policy.matches_request(&asking) {
+        return Comparison::Unknown;
+    }
+    compared(stored.policy.stored_headers(), &arrived.head.headers)
+}
+
+fn of_head(
+    alloc: Global,
+    stored: &[StoredResponse],
+    arrived: &Arrived<'_>,
+) -> Result<OfHead, AllocError> {
+    let mut same = None;
+    let mut outdated = Vec::new(alloc);
+    for one in stored {
+        match said_of(one, arrived) {
+            Comparison::Unknown => {}
+            Comparison::Same if same.is_none() => same = Some(one.id),
+            Comparison::Same | Comparison::Other => outdated.push(one.id)?,
+        }
+    }
+    Ok(OfHead { same, outdated })
+}
+
+// The change by which a stored response is renewed.
+fn renewal(
+    alloc: Global,
+    target: Target,
+    stored: &StoredResponse,
+    superseded: Vec<ResponseId>,
+    arrived: &Arrived<'_>,
+    options: &CacheOptions,
+) -> Result<Change, AllocError>
+    ensures { IfOk result (λ change. ¬ (Stores change)) }
+{
+    match renewed(alloc, &stored.policy, arrived, options) {
+        Ok(policy) => Ok(Change::Renew {
+            target,
+            superseded,
+            id: stored.id,
+            policy,
+        }),
+        Err(CacheError::Memory) => Err(AllocError),
+        Err(_) => Ok(Change::Nothing),
+    }
+}
+
+/// What a response to HEAD changes of what is stored for GET: what it confirms is renewed, and what
+/// differs from it is removed (RFC 9111, section 4.3.5). None if it says nothing of any.
+pub(crate) fn freshened(
+    alloc: Global,
+    target: &Target,
+    stored: &[StoredResponse],
+    arrived: &Arrived<'_>,
+    options: &CacheOptions,
+) -> Result<Option<Change>, AllocError>
+    ensures { IfOk result (λ change. IfSome change (λ c. ¬ (Stores c))) }
+{
+    if !arrived.incoming.is_head() || arrived.head.status != StatusCode::OK {
+        return Ok(None);
+    }
+    let OfHead { same, outdated } = of_head(alloc, stored, arrived)?;
+    let target = target.try_clone()?;
+    if let Some(one) = same.and_then(|id| of_id(stored, id)) {
+        let change = renewal(alloc, target, one, outdated, arrived, options)?;
+        return Ok(Some(change));
+    }
+    if outdated.is_empty() {
+        return Ok(None);
+    }
+    Ok(Some(Change::Remove {
+        target,
+        ids: outdated,
+    }))
+}

@@ -1,0 +1,54 @@
+//! What the response to an unsafe request removes.
+ghost use Rattle.std.specs.Prelude.{IfOk};
+ghost use Rattle.http_cache_client.specs.Plan.{Stores};
+
+use crate::plan::Change;
+use bytes::Bytes;
+use http::header::{CONTENT_LOCATION, LOCATION};
+use http::{Request, StatusCode, response};
+use http_cache_fields::headers::first_text;
+use http_cache_shelf::Target;
+use std::alloc::{AllocError, Global};
+
+// Whether a response isn't an error (RFC 9111, section 4.4).
+fn is_no_error(status: StatusCode) -> bool {
+    status.is_success() || status.is_redirection()
+}
+
+// Adds the target that a reference names, if that has the request's origin.
+fn add_named(
+    alloc: Global,
+    targets: &mut Vec<Target>,
+    request: &Request<Bytes>,
+    reference: Option<&str>,
+) -> Result<(), AllocError> {
+    let Some(reference) = reference else {
+        return Ok(());
+    };
+    match Target::named(alloc, request.uri(), request.headers(), reference)? {
+        Some(named) => Ok(targets.push(named)?),
+        None => Ok(()),
+    }
+}
+
+/// What the response to a request that isn't looked up removes: what is stored for the target of an
+/// unsafe request, and for Location and Content-Location of the same origin, if the response isn't an
+/// error (RFC 9111, section 4.4).
+pub(crate) fn invalidated(
+    alloc: Global,
+    request: &Request<Bytes>,
+    head: &response::Parts,
+) -> Result<Change, AllocError>
+    ensures { IfOk result (λ change. ¬ (Stores change)) }
+{
+    if request.method().is_safe() || !is_no_error(head.status) {
+        return Ok(Change::Nothing);
+    }
+    let mut targets = Vec::new(alloc);
+    targets.push(Target::of(alloc, request.uri(), request.headers())?)?;
+    let location = first_text(&head.headers, LOCATION);
+    add_named(alloc, &mut targets, request, location)?;
+    let content_location = first_text(&head.headers, CONTENT_LOCATION);
+    add_named(alloc, &mut targets, request, content_location)?;
+    Ok(Change::RemoveTargets(targets))
+}

@@ -1,0 +1,84 @@
+//! Which of the stored responses of a target answers a request.
+ghost use Rattle.std.specs.Prelude.{◌≡◌};
+
+use http_cache_messages::asking::Incoming;
+use http_cache_semantics::explain::{Explanation, Reason, StaleReason};
+use http_cache_shelf::StoredResponse;
+use jiff::Timestamp;
+
+/// What is found among the stored responses.
+#[derive(Clone, Copy)]
+pub(crate) enum Selected<'a> {
+    /// One that may be used without validation.
+    Fresh(&'a StoredResponse),
+    /// One that answers the request once it is validated, and why it has to be.
+    Matching(&'a StoredResponse, Explanation<'a>),
+    /// None that does; of the newest one, why.
+    Other(Explanation<'a>),
+    /// None at all.
+    Nothing,
+}
+
+// Whether a stored response isn't for the request at all.
+fn is_mismatch(reason: Reason<'_>) -> bool {
+    matches!(
+        reason,
+        Reason::Target
+            | Reason::Host
+            | Reason::OtherOfGetAndHead
+            | Reason::Method
+            | Reason::Vary(_)
+    )
+}
+
+// What is found once one more is looked at.
+fn better<'a>(
+    so_far: Selected<'a>,
+    stored: &'a StoredResponse,
+    said: Explanation<'a>,
+) -> Selected<'a> {
+    match (so_far, said.reason) {
+        (_, None) => Selected::Fresh(stored),
+        (Selected::Matching(..) | Selected::Fresh(_), _) => so_far,
+        (_, Some(reason)) if !is_mismatch(reason) => Selected::Matching(stored, said),
+        (Selected::Nothing, _) => Selected::Other(said),
+        _ => so_far,
+    }
+}
+
+// Why a stored response isn't used for a request without validation. A stale one that forbids to be
+// used stale isn't, although the library lets `max-stale` pass s-maxage and proxy-revalidate (RFC 9111,
+// section 4.2.4). No detail is given for it: the response forbids it, not the request.
+fn explained<'a>(
+    stored: &'a StoredResponse,
+    incoming: &'a Incoming<'a>,
+    now: Timestamp,
+) -> Explanation<'a> {
+    let policy = &stored.policy;
+    let asking = incoming.asking(policy.stored_method());
+    let said = policy.explain(&asking, now);
+    if said.reason.is_none() && policy.is_stale(now) && policy.forbids_stale() {
+        return Explanation {
+            reason: Some(Reason::Stale(StaleReason::NotAsked)),
+            ..said
+        };
+    }
+    said
+}
+
+/// The newest stored response that may be used, else the newest that answers the request once it is
+/// validated, else none (RFC 9111, sections 4 and 4.1).
+pub(crate) fn select<'a>(
+    stored: &'a [StoredResponse],
+    incoming: &'a Incoming<'a>,
+    now: Timestamp,
+) -> Selected<'a> {
+    let mut selected = Selected::Nothing;
+    for one in stored {
+        selected = better(selected, one, explained(one, incoming, now));
+        if matches!(selected, Selected::Fresh(_)) {
+            return selected;
+        }
+    }
+    selected
+}

@@ -1,0 +1,62 @@
+//! Where responses come from.
+ghost use Rattle.std.specs.Prelude.{ℕ, ℤ, List, Option, Some, None, IfOk, OnErr};
+ghost use Rattle.http.specs.declared.request.Request.{Request};
+ghost use Rattle.http.specs.declared.response.Response.{Response};
+
+use bytes::Bytes;
+use http::{Request, Response};
+use jiff::Timestamp;
+use std::alloc::AllocError;
+use std::error::Error;
+use std::fmt;
+use std::fmt::Debug;
+
+/// Why a request has no response.
+#[derive(Debug, PartialEq, Eq, Drop)]
+pub enum FetchError<E> {
+    /// There is not enough memory. What is stored is unchanged.
+    Memory,
+    /// The origin server was asked and gave no response, and nothing stored may be used in its place.
+    Origin(E),
+}
+
+impl<E: fmt::Display> fmt::Display for FetchError<E> {
+    fn fmt<W: fmt::Write>(&self, f: &mut fmt::Formatter<W>) -> fmt::Result {
+        match self {
+            FetchError::Memory => write!(f, "out of memory"),
+            FetchError::Origin(cause) => write!(f, "no response: {cause}"),
+        }
+    }
+}
+
+impl<E: Debug + fmt::Display + Drop> Error for FetchError<E> {}
+
+impl<E> From<AllocError> for FetchError<E> {
+    ghost use Rattle.std.specs.Prelude.{◌≡◌};
+    ghost use Rattle.http_cache_client.specs.declared.origin.FetchError.TheVariants.{Memory};
+
+    ghost from_gives = { λ _ e. e ≡ Memory };
+
+    fn from(_e: AllocError) -> FetchError<E> {
+        FetchError::Memory
+    }
+}
+
+/// Sends requests: to the origin server, or to the next cache on the way there.
+pub trait Origin {
+    /// Why there is no response.
+    type Error;
+
+    // In the first state it was sent the request; the response was received at the time, or none was,
+    // and the second state is left.
+    ghost sent: { Self → Request (List ℕ) → Option (Response (List ℕ) × ℤ) → Self → Type 0 };
+
+    /// Sends a request, and returns its response and the time at which that was received.
+    fn send(
+        &mut self,
+        request: &Request<Bytes>,
+    ) -> Result<(Response<Bytes>, Timestamp), Self::Error>
+        ensures response { IfOk result (λ received. sent self.old request.now
+            (Some (received.0, received.1.nanosecond)) self.new) }
+        ensures no_response { OnErr result (sent self.old request.now None self.new) };
+}

@@ -1,0 +1,238 @@
+//! What is stored of a response that was received.
+//!
+//! All here is decided over what was read of the shelf, and the shelf is changed by one step at the
+//! end. After a policy is made nothing here can fail, so that a policy is dropped at few places.
+ghost use Rattle.std.specs.Prelude.{◌≡◌, true, IfOk};
+ghost use Rattle.http.specs.Request.{head_of};
+ghost use Rattle.http_cache_fields.specs.Headers.{headers_of};
+ghost use Rattle.http_cache_client.specs.Plan.{Stores, IsWhole, PutsWhole};
+
+use crate::body::Body;
+use crate::reply::left_of;
+use crate::tokens::Times;
+use bytes::Bytes;
+use http::{StatusCode, Version, response};
+use http_cache_messages::asking::Incoming;
+use http_cache_messages::complete::is_complete;
+use http_cache_messages::head::stored_head;
+use http_cache_messages::worth::is_worth_storing;
+use http_cache_semantics::explain::TimeLeft;
+use http_cache_semantics::{CacheError, CacheOptions, CachePolicy};
+use http_cache_shelf::{ResponseId, StoredResponse, Target};
+use std::alloc::{AllocError, Global};
+
+/// A change of the shelf.
+#[derive(Drop)]
+pub(crate) enum Change {
+    Nothing,
+    Put {
+        target: Target,
+        superseded: Vec<ResponseId>,
+        policy: CachePolicy,
+        body: Bytes,
+    },
+    Renew {
+        target: Target,
+        superseded: Vec<ResponseId>,
+        id: ResponseId,
+        policy: CachePolicy,
+    },
+    Remove {
+        target: Target,
+        ids: Vec<ResponseId>,
+    },
+    RemoveTargets(Vec<Target>),
+}
+
+/// What becomes of a response that was received.
+#[derive(Drop)]
+pub(crate) struct Plan {
+    pub change: Change,
+    /// What is left of the lifetime of the response that is stored.
+    pub left: Option<TimeLeft>,
+    /// Why it isn't stored, where that isn't said by its own fields.
+    pub detail: Option<&'static str>,
+    /// Whether Cache-Status says that the response is stored, if the shelf takes it.
+    pub says_stored: bool,
+    /// Whether it makes the client's own condition false.
+    pub is_known: bool,
+}
+
+/// A response that was received for a request.
+#[derive(Clone, Copy)]
+pub(crate) struct Arrived<'a> {
+    pub incoming: &'a Incoming<'a>,
+    pub head: &'a response::Parts,
+    pub body: &'a Body,
+    /// The stored response that it replaces.
+    pub id: Option<ResponseId>,
+    pub times: Times,
+}
+
+impl Plan {
+    /// A change that stores nothing of what was received.
+    pub(crate) fn of(change: Change) -> Plan
+        ensures { result.change ≡ change }
+    {
+        Plan {
+            change,
+            left: None,
+            detail: None,
+            says_stored: false,
+            is_known: false,
+        }
+    }
+
+    /// Nothing is changed, for a reason or for none.
+    pub(crate) fn nothing(detail: Option<&'static str>) -> Plan
+        ensures { result.change ≡ Change.Nothing }
+    {
+        Plan {
+            change: Change::Nothing,
+            left: None,
+            detail,
+            says_stored: false,
+            is_known: false,
+        }
+    }
+}
+
+// The stored responses to the same method that a request matches, and the one that it replaces.
+fn superseded(
+    alloc: Global,
+    stored: &[StoredResponse],
+    arrived: &Arrived<'_>,
+) -> Result<Vec<ResponseId>, AllocError> {
+    let asking = arrived.incoming.as_received();
+    let method = arrived.incoming.request().method();
+    let mut ids = Vec::new(alloc);
+    for one in stored {
+        let is_same_method = *one.policy.stored_method() == *method;
+        let is_replaced = arrived.id == Some(one.id);
+        if is_same_method && (is_replaced || one.policy.matches_request(&asking)) {
+            ids.push(one.id)?;
+        }
+    }
+    Ok(ids)
+}
+
+// The policy of a response, of the time at which its request was sent.
+fn policy_of(
+    alloc: Global,
+    arrived: &Arrived<'_>,
+    options: &CacheOptions,
+) -> Result<CachePolicy, CacheError> {
+    let times = arrived.times;
+    let head = response::Parts {
+        status: arrived.head.status,
+        version: Version::HTTP_11,
+        headers: stored_head(alloc, &arrived.head.headers, times.sent, times.received)?,
+    };
+    let asking = arrived.incoming.as_received();
+    CachePolicy::new_options(alloc, &asking, &head, times.sent, *options)
+}
+
+// What becomes of a response with a policy, where its body is at hand.
+fn plan_for(
+    target: Target,
+    superseded: Vec<ResponseId>,
+    policy: CachePolicy,
+    body: Option<Bytes>,
+    arrived: &Arrived<'_>,
+) -> Plan
+    ensures { Stores result.change → IsWhole arrived.now }
+{
+    let now = arrived.times.received;
+    let is_known = policy.is_not_modified_for(arrived.incoming.request());
+    let left = left_of(&policy, now);
+    match body {
+        Some(body) if is_worth_storing(&policy, now) => Plan {
+            change: Change::Put {
+                target,
+                superseded,
+                policy,
+                body,
+            },
+            left: Some(left),
+            detail: None,
+            says_stored: true,
+            is_known,
+        },
+        body => {
+            drop(body);
+            drop(policy);
+            Plan {
+                change: Change::Remove {
+                    target,
+                    ids: superseded,
+                },
+                left: None,
+                detail: None,
+                says_stored: false,
+                is_known,
+            }
+        }
+    }
+}
+
+// A copy of the body, where it is here.
+fn copy_of_body(body: &Body) -> Result<Option<Bytes>, AllocError> {
+    match body {
+        Body::Here(bytes) => Ok(Some(bytes.clone()?)),
+        Body::Elsewhere(_) => Ok(None),
+    }
+}
+
+// Whether a response was received whole, as far as its body is here.
+fn is_whole(arrived: &Arrived<'_>) -> bool
+    ensures { result ≡ true → IsWhole arrived.now }
+{
+    match arrived.body {
+        Body::Here(bytes) => is_complete(
+            arrived.incoming.request().method(),
+            arrived.head.status,
+            &arrived.head.headers,
+            bytes.len() as u64,
+        ),
+        Body::Elsewhere(_) => true,
+    }
+}
+
+// Why no policy is made of a response.
+fn unfit(cause: CacheError) -> Result<Plan, AllocError>
+    ensures { IfOk result (λ plan. plan.change ≡ Change.Nothing) }
+{
+    match cause {
+        CacheError::Memory => Err(AllocError),
+        CacheError::DateNotPrintable => Ok(Plan::nothing(Some("time before 1900"))),
+        CacheError::HeaderMapFull => Ok(Plan::nothing(Some("too many fields"))),
+        CacheError::Malformed => Ok(Plan::nothing(Some("field named by Connection"))),
+    }
+}
+
+/// What becomes of a response to a request that is looked up: it is stored if it was received whole and
+/// may be stored (RFC 9111, sections 3 and 3.3), in place of what is stored and matches the request,
+/// which is removed even where the new response isn't stored.
+pub(crate) fn plan_of(
+    alloc: Global,
+    target: Target,
+    stored: &[StoredResponse],
+    arrived: &Arrived<'_>,
+    options: &CacheOptions,
+) -> Result<Plan, AllocError>
+    ensures { IfOk result (λ plan. Stores plan.change → IsWhole arrived.now) }
+{
+    let status = arrived.head.status;
+    if status == StatusCode::NOT_MODIFIED || status == StatusCode::PARTIAL_CONTENT {
+        return Ok(Plan::nothing(None));
+    }
+    if !is_whole(arrived) {
+        return Ok(Plan::nothing(Some("incomplete")));
+    }
+    let superseded = superseded(alloc, stored, arrived)?;
+    let body = copy_of_body(arrived.body)?;
+    match policy_of(alloc, arrived, options) {
+        Ok(policy) => Ok(plan_for(target, superseded, policy, body, arrived)),
+        Err(cause) => unfit(cause),
+    }
+}

@@ -1,0 +1,655 @@
+//! What is done with the outcome of a request that was sent.
+ghost use Rattle.std.specs.Prelude.{◌≡◌, ◌⊎◌, true, None, IfOk, IfSome, OnErr};
+ghost use Rattle.http.specs.Request.{head_of as head_of_request};
+ghost use Rattle.http.specs.Response.{head_of, body_of};
+ghost use Rattle.http_cache_fields.specs.Headers.{headers_of};
+ghost use Rattle.http_cache_shelf.specs.Shelf.{KeepsAll};
+ghost use Rattle.http_cache_client.specs.Plan.{Stores, IsWhole, IsKnownPlan};
+ghost use Rattle.http_cache_client.specs.Receive.{IsElsewhere, IsWholeResponse, MayBeStored, HasCondition};
+ghost use Rattle.http_cache_client.specs.Receive.{IsConditionalRenewal, IsConditionalReceipt, KeepsBodyPlace, IsAfterA304};
+
+use crate::body::Body;
+use crate::client::{Client, Settled};
+use crate::freshen::{freshened, of_id, renewed};
+use crate::invalidate::invalidated;
+use crate::plan::{Arrived, Change, Plan, plan_of};
+use crate::reply::{Reply, not_modified};
+use crate::report::{answer_of, forwarded, line_of, replace_line, set_line};
+use crate::tokens::{Forwarded, Received, Times, Validation, Why};
+use bytes::Bytes;
+use http::{HeaderMap, HeaderValue, Request, Response, StatusCode};
+use http_cache_messages::asking::{Incoming, is_looked_up};
+use http_cache_messages::head::add_date;
+use http_cache_messages::memory::or_out_of_memory;
+use http_cache_messages::worth::is_worth_storing;
+use http_cache_semantics::explain::{Forward, Member};
+use http_cache_semantics::{CacheError, CacheOptions, CachePolicy};
+use http_cache_shelf::{ResponseId, Shelf, StoredResponse, Target};
+use jiff::Timestamp;
+use std::alloc::{AllocError, Global};
+use std::mem;
+
+// Whether the origin server failed, so that a stale response may be used (RFC 5861, section 4).
+fn is_failure(status: StatusCode) -> bool {
+    matches!(status.as_u16(), 500 | 502 | 503 | 504)
+}
+
+// What is sent of a stored response where the origin failed, if that is allowed (RFC 5861, section 4).
+fn stale_reply(
+    alloc: Global,
+    stored: &[StoredResponse],
+    id: ResponseId,
+    incoming: &Incoming<'_>,
+    now: Timestamp,
+) -> Result<Option<Reply>, AllocError> {
+    let Some(one) = of_id(stored, id) else {
+        return Ok(None);
+    };
+    let asking = incoming.asking(one.policy.stored_method());
+    if !one.policy.stale_use(&asking, now).if_error {
+        return Ok(None);
+    }
+    Reply::of(alloc, one, incoming, now)
+}
+
+// The values of Cache-Status for what a change may come to.
+#[derive(Drop)]
+struct Lines {
+    stored: HeaderValue,
+    failed: HeaderValue,
+}
+
+fn lines_of(
+    alloc: Global,
+    headers: &HeaderMap,
+    member: &Member<'_>,
+) -> Result<Lines, AllocError> {
+    let stored = Member {
+        stored: true,
+        ..*member
+    };
+    let failed = Member {
+        left: None,
+        detail: Some("shelf failed"),
+        ..*member
+    };
+    Ok(Lines {
+        stored: line_of(alloc, headers, &stored)?,
+        failed: line_of(alloc, headers, &failed)?,
+    })
+}
+
+// A response that was received, as it is sent before it is known whether it is stored: as a 304 if it
+// makes the client's own condition false.
+fn prepared(
+    alloc: Global,
+    response: Response<Body>,
+    member: &Member<'_>,
+    is_known: bool,
+) -> Result<(Response<Body>, Lines), AllocError>
+    ensures status { IfOk result (λ made. (head_of made.0).status ≡ 304
+        → (is_known ≡ true) ⊎ ((head_of response).status ≡ 304)) }
+    ensures body { IfOk result (λ made. IsElsewhere (body_of made.0) → IsElsewhere (body_of response)) }
+{
+    let (mut head, mut body) = response.into_parts();
+    if is_known {
+        head = not_modified(alloc, &head)?;
+        body = Body::Here(Bytes::new());
+    }
+    let line = line_of(alloc, &head.headers, member)?;
+    let lines = lines_of(alloc, &head.headers, member)?;
+    set_line(&mut head.headers, line)?;
+    Ok((Response::from_parts(head, body), lines))
+}
+
+// A response with the time of receipt as Date, if it has none.
+fn dated(
+    alloc: Global,
+    response: Response<Body>,
+    received: Timestamp,
+) -> Result<Response<Body>, AllocError>
+    ensures status { IfOk result (λ dated. (head_of dated).status ≡ (head_of response).status) }
+    ensures body { IfOk result (λ dated. body_of dated ≡ body_of response) }
+{
+    let (mut head, body) = response.into_parts();
+    or_out_of_memory(add_date(alloc, &mut head.headers, received))?;
+    Ok(Response::from_parts(head, body))
+}
+
+// What is sent of a stored response that a 304 confirmed, and what becomes of it.
+#[derive(Drop)]
+struct Renewal {
+    reply: Reply,
+    plan: Plan,
+}
+
+// A renewed policy takes the place of the stored one, which is removed if the renewed response may not
+// be stored.
+fn renewal_plan(
+    alloc: Global,
+    target: Target,
+    id: ResponseId,
+    ids: Vec<ResponseId>,
+    policy: CachePolicy,
+    now: Timestamp,
+) -> Plan
+    ensures { ¬ (Stores result.change) }
+{
+    if is_worth_storing(&policy, now) {
+        let superseded = Vec::new(alloc);
+        let change = Change::Renew {
+            target,
+            superseded,
+            id,
+            policy,
+        };
+        return Plan {
+            says_stored: true,
+            ..Plan::of(change)
+        };
+    }
+    drop(policy);
+    Plan::of(Change::Remove { target, ids })
+}
+
+// The renewal by a policy. A fallible step borrows the policy, so that it is dropped in one place.
+fn renewal_by(
+    alloc: Global,
+    target: Target,
+    id: ResponseId,
+    ids: Vec<ResponseId>,
+    policy: CachePolicy,
+    arrived: &Arrived<'_>,
+) -> Result<Option<Renewal>, AllocError>
+    ensures { IfOk result (IsConditionalRenewal (headers_of (head_of_request arrived.now.incoming.now.request.now).headers)) }
+{
+    let now = arrived.times.received;
+    match Reply::of_policy(alloc, id, &policy, arrived.incoming, now) {
+        Ok(Some(reply)) => Ok(Some(Renewal {
+            reply,
+            plan: renewal_plan(alloc, target, id, ids, policy, now),
+        })),
+        Ok(None) => {
+            drop(policy);
+            Ok(None)
+        }
+        Err(cause) => {
+            drop(policy);
+            Err(cause)
+        }
+    }
+}
+
+// The renewal of a stored response by a 304 (RFC 9111, section 4.3.4). None if that isn't for it, or
+// the stored response can't be renewed.
+fn renewal_of(
+    alloc: Global,
+    target: &Target,
+    stored: &[StoredResponse],
+    id: ResponseId,
+    arrived: &Arrived<'_>,
+    options: &CacheOptions,
+) -> Result<Option<Renewal>, AllocError>
+    ensures { IfOk result (IsConditionalRenewal (headers_of (head_of_request arrived.now.incoming.now.request.now).headers)) }
+{
+    let Some(one) = of_id(stored, id) else {
+        return Ok(None);
+    };
+    if !one.policy.is_confirmed_by(arrived.head) {
+        return Ok(None);
+    }
+    let target = target.try_clone()?;
+    let ids = vec![in alloc; id]?;
+    match renewed(alloc, &one.policy, arrived, options) {
+        Ok(policy) => renewal_by(alloc, target, id, ids, policy, arrived),
+        Err(CacheError::Memory) => Err(AllocError),
+        Err(_) => Ok(None),
+    }
+}
+
+// A request that was sent, and is the client's own or a validation.
+#[derive(Clone, Copy)]
+struct Pending<'a> {
+    id: Option<ResponseId>,
+    why: &'a Why,
+    is_past_shelf: bool,
+    is_own: bool,
+}
+
+impl<S: Shelf + Drop> Client<S> {
+    // Makes the change of a plan as the last step, and returns the answer that says what was done.
+    fn settle(
+        &mut self,
+        answer: Response<Body>,
+        lines: Lines,
+        plan: Plan,
+    ) -> Result<Response<Body>, AllocError>
+        ensures kept { OnErr result (KeepsAll (S.stored self.old.shelf) (S.next_id self.old.shelf)
+            (S.stored self.new.shelf) (S.next_id self.new.shelf)) }
+        ensures stored { Stores plan.change ⊎ (S.next_id self.new.shelf ≡ S.next_id self.old.shelf) }
+        ensures status { IfOk result (λ sent. (head_of sent).status ≡ (head_of answer).status) }
+        ensures body { IfOk result (λ sent. body_of sent ≡ body_of answer) }
+    {
+        let Plan {
+            change,
+            says_stored,
+            ..
+        } = plan;
+        let settled = self.commit(change)?;
+        let (mut head, body) = answer.into_parts();
+        match settled {
+            Settled::Stored if says_stored => replace_line(&mut head.headers, lines.stored),
+            Settled::Failed => replace_line(&mut head.headers, lines.failed),
+            Settled::Stored | Settled::NotStored => {}
+        }
+        Ok(Response::from_parts(head, body))
+    }
+
+    // The answer by a response that was received, with what becomes of it.
+    fn finish(
+        &mut self,
+        alloc: Global,
+        response: Response<Body>,
+        why: &Why,
+        status: StatusCode,
+        plan: Plan,
+    ) -> Result<Response<Body>, AllocError>
+        ensures kept { OnErr result (KeepsAll (S.stored self.old.shelf) (S.next_id self.old.shelf)
+            (S.stored self.new.shelf) (S.next_id self.new.shelf)) }
+        ensures stored { Stores plan.change ⊎ (S.next_id self.new.shelf ≡ S.next_id self.old.shelf) }
+        ensures status { IfOk result (λ sent. (head_of sent).status ≡ 304
+            → (plan.is_known ≡ true) ⊎ ((head_of response).status ≡ 304)) }
+        ensures body { IfOk result (λ sent. IsElsewhere (body_of sent) → IsElsewhere (body_of response)) }
+    {
+        let said = forwarded(self.name.as_str(), why, Some(status));
+        let member = Member {
+            left: plan.left,
+            detail: plan.detail.or(said.detail),
+            ..said
+        };
+        match prepared(alloc, response, &member, plan.is_known) {
+            Ok((answer, lines)) => self.settle(answer, lines, plan),
+            Err(cause) => {
+                drop(plan);
+                Err(cause)
+            }
+        }
+    }
+
+    // A stale response where the origin failed, if that is allowed.
+    fn stale_answer(
+        &mut self,
+        alloc: Global,
+        target: &Target,
+        pending: &Pending<'_>,
+        incoming: &Incoming<'_>,
+        status: Option<StatusCode>,
+        now: Timestamp,
+    ) -> Result<Option<Response<Bytes>>, AllocError>
+        ensures kept { KeepsAll (S.stored self.old.shelf) (S.next_id self.old.shelf)
+            (S.stored self.new.shelf) (S.next_id self.new.shelf) }
+        ensures conditional { IfOk result (λ answer. IfSome answer (λ sent. (head_of sent).status ≡ 304
+            → HasCondition incoming.now.request.now)) }
+    {
+        let Some(id) = pending.id else {
+            return Ok(None);
+        };
+        if !self.read(alloc, target)? {
+            return Ok(None);
+        }
+        let stored = self.shelf.found(target);
+        let Some(mut reply) = stale_reply(alloc, stored, id, incoming, now)? else {
+            return Ok(None);
+        };
+        let Some(body) = self.body_of(alloc, target, &mut reply)? else {
+            return Ok(None);
+        };
+        let member = Member {
+            left: Some(reply.left),
+            detail: Some("stale-if-error"),
+            ..forwarded(self.name.as_str(), pending.why, status)
+        };
+        Ok(Some(answer_of(alloc, reply.head, body, &member)?))
+    }
+
+    // What becomes of a response to a request that is looked up.
+    fn planned(
+        &mut self,
+        alloc: Global,
+        target: Target,
+        arrived: &Arrived<'_>,
+    ) -> Result<Plan, AllocError>
+        ensures kept { KeepsAll (S.stored self.old.shelf) (S.next_id self.old.shelf)
+            (S.stored self.new.shelf) (S.next_id self.new.shelf) }
+        ensures whole { IfOk result (λ plan. Stores plan.change → IsWhole arrived.now) }
+        ensures known { IfOk result (IsKnownPlan arrived.now) }
+    {
+        if !self.read(alloc, &target)? {
+            return Ok(Plan::nothing(Some("shelf failed")));
+        }
+        let stored = self.shelf.found(&target);
+        if let Some(change) = freshened(alloc, &target, stored, arrived, &self.options)? {
+            return Ok(Plan::of(change));
+        }
+        plan_of(alloc, target, stored, arrived, &self.options)
+    }
+
+    // The answer by a response to a request that is looked up, which is stored if it may be.
+    fn stored(
+        &mut self,
+        alloc: Global,
+        target: Target,
+        pending: &Pending<'_>,
+        incoming: &Incoming<'_>,
+        response: Response<Body>,
+        times: Times,
+    ) -> Result<Response<Body>, AllocError>
+        ensures kept { OnErr result (KeepsAll (S.stored self.old.shelf) (S.next_id self.old.shelf)
+            (S.stored self.new.shelf) (S.next_id self.new.shelf)) }
+        ensures complete { IsWholeResponse incoming.now.request.now response
+            ⊎ (S.next_id self.new.shelf ≡ S.next_id self.old.shelf) }
+        ensures status { IfOk result (λ sent. (head_of sent).status ≡ 304
+            → HasCondition incoming.now.request.now
+            ⊎ ((head_of response).status ≡ 304)) }
+        ensures body { IfOk result (λ sent. IsElsewhere (body_of sent) → IsElsewhere (body_of response)) }
+    {
+        let (head, body) = response.into_parts();
+        let arrived = Arrived {
+            incoming,
+            head: &head,
+            body: &body,
+            id: pending.id,
+            times,
+        };
+        let mut plan = self.planned(alloc, target, &arrived)?;
+        if pending.is_own {
+            plan.is_known = false;
+        }
+        let status = head.status;
+        self.finish(alloc, Response::from_parts(head, body), pending.why, status, plan)
+    }
+
+    // The answer by a response to a request that is looked up. If the origin failed, what is stored is
+    // kept, and may be used.
+    fn taken(
+        &mut self,
+        alloc: Global,
+        pending: &Pending<'_>,
+        incoming: &Incoming<'_>,
+        response: Response<Body>,
+        times: Times,
+    ) -> Result<Response<Body>, AllocError>
+        ensures kept { OnErr result (KeepsAll (S.stored self.old.shelf) (S.next_id self.old.shelf)
+            (S.stored self.new.shelf) (S.next_id self.new.shelf)) }
+        ensures complete { IsWholeResponse incoming.now.request.now response
+            ⊎ (S.next_id self.new.shelf ≡ S.next_id self.old.shelf) }
+        ensures status { IfOk result (λ sent. (head_of sent).status ≡ 304
+            → HasCondition incoming.now.request.now
+            ⊎ ((head_of response).status ≡ 304)) }
+        ensures body { IfOk result (λ sent. IsElsewhere (body_of sent) → IsElsewhere (body_of response)) }
+    {
+        let request = incoming.request();
+        let target = Target::of(alloc, request.uri(), request.headers())?;
+        let status = response.status();
+        if is_failure(status)
+            && let Some(answer) = self.stale_answer(
+                alloc,
+                &target,
+                pending,
+                incoming,
+                Some(status),
+                times.received,
+            )?
+        {
+            let (head, body) = answer.into_parts();
+            return Ok(Response::from_parts(head, Body::Here(body)));
+        }
+        let is_kept = status.is_server_error() && pending.id.is_some();
+        if pending.is_past_shelf || is_kept {
+            return self.finish(alloc, response, pending.why, status, Plan::nothing(None));
+        }
+        self.stored(alloc, target, pending, incoming, response, times)
+    }
+
+    // Removes a stored response that a 304 doesn't confirm.
+    fn unconfirmed(
+        &mut self,
+        alloc: Global,
+        target: Target,
+        validation: &mut Validation,
+    ) -> Result<Received, AllocError>
+        ensures kept { OnErr result (KeepsAll (S.stored self.old.shelf) (S.next_id self.old.shelf)
+            (S.stored self.new.shelf) (S.next_id self.new.shelf)) }
+        ensures stored { S.next_id self.new.shelf ≡ S.next_id self.old.shelf }
+    {
+        if let Some(id) = validation.id {
+            let ids = vec![in alloc; id]?;
+            self.commit(Change::Remove { target, ids })?;
+        }
+        validation.id = None;
+        let why = mem::replace(&mut validation.why, Why::of(Forward::Miss));
+        Ok(Received::Again(Forwarded::of(None, why)))
+    }
+
+    // The answer by a stored response that a 304 confirmed. None if the shelf has lost its body.
+    fn confirmed(
+        &mut self,
+        alloc: Global,
+        target: &Target,
+        why: &Why,
+        renewal: Renewal,
+    ) -> Result<Option<Response<Body>>, AllocError>
+        ensures kept { OnErr result (KeepsAll (S.stored self.old.shelf) (S.next_id self.old.shelf)
+            (S.stored self.new.shelf) (S.next_id self.new.shelf)) }
+        ensures lost { IfOk result (λ answer. answer ≡ None
+            → KeepsAll (S.stored self.old.shelf) (S.next_id self.old.shelf)
+            (S.stored self.new.shelf) (S.next_id self.new.shelf)) }
+    {
+        let Renewal { mut reply, mut plan } = renewal;
+        match self.body_of(alloc, target, &mut reply) {
+            Ok(Some(body)) => {
+                plan.left = Some(reply.left);
+                let response = Response::from_parts(reply.head, Body::Here(body));
+                let status = StatusCode::NOT_MODIFIED;
+                match self.finish(alloc, response, why, status, plan) {
+                    Ok(answer) => Ok(Some(answer)),
+                    Err(cause) => Err(cause),
+                }
+            }
+            Ok(None) => {
+                drop(plan);
+                Ok(None)
+            }
+            Err(cause) => {
+                drop(plan);
+                Err(cause)
+            }
+        }
+    }
+
+    // The outcome of a validation that ended in a 304.
+    fn validated(
+        &mut self,
+        alloc: Global,
+        validation: &mut Validation,
+        incoming: &Incoming<'_>,
+        response: Response<Body>,
+        times: Times,
+    ) -> Result<Received, AllocError>
+        ensures kept { OnErr result (KeepsAll (S.stored self.old.shelf) (S.next_id self.old.shelf)
+            (S.stored self.new.shelf) (S.next_id self.new.shelf)) }
+    {
+        let request = incoming.request();
+        let target = Target::of(alloc, request.uri(), request.headers())?;
+        let (head, body) = response.into_parts();
+        let arrived = Arrived {
+            incoming,
+            head: &head,
+            body: &body,
+            id: validation.id,
+            times,
+        };
+        if let Some(id) = validation.id
+            && self.read(alloc, &target)?
+            && let Some(renewal) = renewal_of(
+                alloc,
+                &target,
+                self.shelf.found(&target),
+                id,
+                &arrived,
+                &self.options,
+            )?
+            && let Some(answer) = self.confirmed(alloc, &target, &validation.why, renewal)?
+        {
+            validation.id = None;
+            return Ok(Received::Answer(answer));
+        }
+        self.unconfirmed(alloc, target, validation)
+    }
+
+    /// Takes the response to a validation, and returns the answer to the client's request (RFC 9111,
+    /// section 4.3.3).
+    ///
+    /// A 304 that confirms the stored response renews it. A 304 that doesn't removes it, and the
+    /// client's own request is to be sent. A 500, 502, 503 or 504 leaves what is stored, and is answered
+    /// by the stale response if `stale_use` allows that (RFC 5861, section 4). Any other response is
+    /// stored if it may be, and is the answer. If the stored response was removed or replaced meanwhile,
+    /// a 304 confirms nothing. The token is spent only on success.
+    ///
+    /// `request` is the client's own request, as it was given to `ask`.
+    ///
+    /// # Errors
+    ///
+    /// `AllocError` if there is not enough memory. Then what is stored is as it was.
+    pub fn receive(
+        &mut self,
+        alloc: Global,
+        validation: &mut Validation,
+        request: &Request<Bytes>,
+        response: Response<Body>,
+        times: Times,
+    ) -> Result<Received, AllocError>
+        ensures kept { OnErr result (KeepsAll (S.stored self.old.shelf) (S.next_id self.old.shelf)
+            (S.stored self.new.shelf) (S.next_id self.new.shelf)) }
+        ensures complete { IsWholeResponse request.now response
+            ⊎ (S.next_id self.new.shelf ≡ S.next_id self.old.shelf) }
+        ensures conditional { IfOk result (IsConditionalReceipt request.now) }
+        ensures whose_body { IfOk result (KeepsBodyPlace response) }
+        ensures again { IfOk result (IsAfterA304 response) }
+        ensures unspent { OnErr result (validation.new.id ≡ validation.old.id) }
+    {
+        let incoming = Incoming::new(alloc, request)?;
+        if response.status() == StatusCode::NOT_MODIFIED {
+            return self.validated(alloc, validation, &incoming, response, times);
+        }
+        let response = dated(alloc, response, times.received)?;
+        let pending = Pending {
+            id: validation.id,
+            why: &validation.why,
+            is_past_shelf: false,
+            is_own: false,
+        };
+        let answer = self.taken(alloc, &pending, &incoming, response, times)?;
+        validation.id = None;
+        Ok(Received::Answer(answer))
+    }
+
+    /// Takes the response to the client's own request, and returns the answer: that response, or a
+    /// stale one if the origin server failed and `stale_use` allows it (RFC 5861, section 4).
+    ///
+    /// The response is stored if the request is looked up and the response may be stored (RFC 9111,
+    /// section 3). A response without an error to an unsafe request removes what is stored for the
+    /// target, and for the targets of Location and Content-Location of the same origin (RFC 9111,
+    /// section 4.4). If the shelf fails, the response is returned unstored, and Cache-Status says so. The
+    /// token is spent only on success.
+    ///
+    /// # Errors
+    ///
+    /// `AllocError` if there is not enough memory. Then what is stored is as it was.
+    pub fn accept(
+        &mut self,
+        alloc: Global,
+        token: &mut Forwarded,
+        request: &Request<Bytes>,
+        response: Response<Body>,
+        times: Times,
+    ) -> Result<Response<Body>, AllocError>
+        ensures kept { OnErr result (KeepsAll (S.stored self.old.shelf) (S.next_id self.old.shelf)
+            (S.stored self.new.shelf) (S.next_id self.new.shelf)) }
+        ensures complete { MayBeStored request.now response
+            ⊎ (S.next_id self.new.shelf ≡ S.next_id self.old.shelf) }
+        ensures conditional { IfOk result (λ answer. (head_of answer).status ≡ 304
+            → HasCondition request.now ⊎ ((head_of response).status ≡ 304)) }
+        ensures whose_body { IfOk result (λ answer. IsElsewhere (body_of answer)
+            → IsElsewhere (body_of response)) }
+        ensures unspent { OnErr result (token.new ≡ token.old) }
+    {
+        let response = dated(alloc, response, times.received)?;
+        if !is_looked_up(request) {
+            return self.passed(alloc, token, request, response);
+        }
+        let incoming = Incoming::new(alloc, request)?;
+        let pending = Pending {
+            id: token.id,
+            why: &token.why,
+            is_past_shelf: token.is_past_shelf,
+            is_own: true,
+        };
+        let answer = self.taken(alloc, &pending, &incoming, response, times)?;
+        token.id = None;
+        Ok(answer)
+    }
+
+    // The answer to a request that isn't looked up.
+    fn passed(
+        &mut self,
+        alloc: Global,
+        token: &Forwarded,
+        request: &Request<Bytes>,
+        response: Response<Body>,
+    ) -> Result<Response<Body>, AllocError>
+        ensures kept { OnErr result (KeepsAll (S.stored self.old.shelf) (S.next_id self.old.shelf)
+            (S.stored self.new.shelf) (S.next_id self.new.shelf)) }
+        ensures stored { S.next_id self.new.shelf ≡ S.next_id self.old.shelf }
+    {
+        let (head, body) = response.into_parts();
+        let plan = Plan::of(invalidated(alloc, request, &head)?);
+        let status = head.status;
+        self.finish(alloc, Response::from_parts(head, body), &token.why, status, plan)
+    }
+
+    /// Returns the stale response that answers a request for which the origin server gave no response,
+    /// if there is one and `stale_use` allows it (RFC 5861, section 4).
+    ///
+    /// For a validation without a response, make its token one for the client's own request by
+    /// `into_forwarded`. The token is spent only on success.
+    ///
+    /// # Errors
+    ///
+    /// `AllocError` if there is not enough memory.
+    pub fn without_response(
+        &mut self,
+        alloc: Global,
+        token: &mut Forwarded,
+        request: &Request<Bytes>,
+        now: Timestamp,
+    ) -> Result<Option<Response<Bytes>>, AllocError>
+        ensures kept { KeepsAll (S.stored self.old.shelf) (S.next_id self.old.shelf)
+            (S.stored self.new.shelf) (S.next_id self.new.shelf) }
+        ensures conditional { IfOk result (λ answer. IfSome answer (λ sent.
+            (head_of sent).status ≡ 304 → HasCondition request.now)) }
+        ensures unspent { OnErr result (token.new ≡ token.old) }
+    {
+        let incoming = Incoming::new(alloc, request)?;
+        let target = Target::of(alloc, request.uri(), request.headers())?;
+        let pending = Pending {
+            id: token.id,
+            why: &token.why,
+            is_past_shelf: token.is_past_shelf,
+            is_own: true,
+        };
+        let answer = self.stale_answer(alloc, &target, &pending, &incoming, None, now)?;
+        token.id = None;
+        Ok(answer)
+    }
+}

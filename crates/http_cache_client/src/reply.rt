@@ -1,0 +1,135 @@
+//! A stored response on its way to the client.
+ghost use Rattle.std.specs.Prelude.{◌≡◌, IfOk, true};
+ghost use Rattle.http.specs.Request.{head_of};
+ghost use Rattle.http_cache_fields.specs.Headers.{headers_of};
+ghost use Rattle.http_cache_semantics.specs.Conditions.{is_conditional};
+ghost use Rattle.http_cache_client.specs.Reply.{IsConditionalReply};
+
+use bytes::Bytes;
+use http::header::{
+    AGE, CACHE_CONTROL, CACHE_STATUS, CONTENT_LOCATION, DATE, ETAG, EXPIRES, LAST_MODIFIED, VARY,
+};
+use http::{HeaderMap, HeaderName, StatusCode, response};
+use http_cache_messages::asking::Incoming;
+use http_cache_semantics::explain::TimeLeft;
+use http_cache_semantics::{CacheError, CachePolicy};
+use http_cache_shelf::{ResponseId, StoredResponse};
+use jiff::Timestamp;
+use std::alloc::{AllocError, Global};
+
+// The fields of a 304 (RFC 9110, section 15.4.5; RFC 9111, section 4.3.2).
+const FIELDS_OF_304: [HeaderName; 9] = [
+    AGE,
+    CACHE_CONTROL,
+    CACHE_STATUS,
+    CONTENT_LOCATION,
+    DATE,
+    ETAG,
+    EXPIRES,
+    LAST_MODIFIED,
+    VARY,
+];
+
+/// What is sent of a stored response.
+#[derive(Drop)]
+pub(crate) struct Reply {
+    pub id: ResponseId,
+    pub head: response::Parts,
+    /// Whether the stored body is sent too.
+    pub needs_body: bool,
+    /// The stored body, where it is sent and the shelf has it at hand.
+    pub body: Option<Bytes>,
+    pub left: TimeLeft,
+}
+
+// Copies the lines of one name.
+fn copy_lines(from: &HeaderMap, name: &HeaderName, to: &mut HeaderMap) -> Result<(), AllocError> {
+    for value in from.get_all(name).iter() {
+        if to.append(name, value.clone()?).is_err() {
+            return Err(AllocError);
+        }
+    }
+    Ok(())
+}
+
+/// The head of a 304 in place of another head.
+pub(crate) fn not_modified(
+    alloc: Global,
+    head: &response::Parts,
+) -> Result<response::Parts, AllocError>
+    ensures { IfOk result (λ parts. parts.status ≡ 304) }
+{
+    let mut headers = HeaderMap::new(alloc);
+    for name in &FIELDS_OF_304 {
+        copy_lines(&head.headers, name, &mut headers)?;
+    }
+    Ok(response::Parts {
+        status: StatusCode::NOT_MODIFIED,
+        version: head.version,
+        headers,
+    })
+}
+
+/// What is left of the lifetime of a stored response.
+pub(crate) fn left_of(policy: &CachePolicy, now: Timestamp) -> TimeLeft {
+    TimeLeft::of(policy.freshness().lifetime, policy.age(now))
+}
+
+// The stored body, where it is sent and at hand.
+fn body_at_hand(stored: &StoredResponse, needs_body: bool) -> Result<Option<Bytes>, AllocError> {
+    match &stored.body {
+        Some(body) if needs_body => Ok(Some(body.clone()?)),
+        _ => Ok(None),
+    }
+}
+
+impl Reply {
+    /// What a policy says is sent at `now`: a 304 if the stored response makes the client's own
+    /// condition false, else the stored head, with the body unless the method is HEAD (RFC 9110,
+    /// sections 9.3.2 and 13.2.2). None if it can't be sent.
+    pub(crate) fn of_policy(
+        alloc: Global,
+        id: ResponseId,
+        policy: &CachePolicy,
+        incoming: &Incoming<'_>,
+        now: Timestamp,
+    ) -> Result<Option<Reply>, AllocError>
+        ensures { IfOk result (IsConditionalReply (headers_of (head_of incoming.now.request.now).headers)) }
+    {
+        let head = match policy.response_at(alloc, now) {
+            Ok(head) if head.status != StatusCode::NOT_MODIFIED => head,
+            Err(CacheError::Memory) => return Err(AllocError),
+            _ => return Ok(None),
+        };
+        let left = left_of(policy, now);
+        let is_known = policy.is_not_modified_for(incoming.request());
+        Ok(Some(Reply {
+            id,
+            head: if is_known {
+                not_modified(alloc, &head)?
+            } else {
+                head
+            },
+            needs_body: !is_known && !incoming.is_head(),
+            body: None,
+            left,
+        }))
+    }
+
+    /// What is sent of a stored response at `now`, with its body if that is sent and at hand.
+    pub(crate) fn of(
+        alloc: Global,
+        stored: &StoredResponse,
+        incoming: &Incoming<'_>,
+        now: Timestamp,
+    ) -> Result<Option<Reply>, AllocError>
+        ensures { IfOk result (IsConditionalReply (headers_of (head_of incoming.now.request.now).headers)) }
+    {
+        let Some(mut reply) = Reply::of_policy(alloc, stored.id, &stored.policy, incoming, now)?
+        else {
+            return Ok(None);
+        };
+        reply.body = body_at_hand(stored, reply.needs_body)?;
+        Ok(Some(reply))
+    }
+}
