@@ -1,14 +1,15 @@
 -- Ids stay below the next one.
-use Rattle.std.proofs.Common.{◌<◌, ◌≤◌, ◌+◌, ◌≡◌, arith, ℕ, ℤ, Bool, true, false, List, [], ◌∷◌, ◌++◌, All, cond, nat_eq, bytes_eq, refl, sym, ap, subst, ◌∙◌, inl, inr, ◌⊎◌}
+use Rattle.std.proofs.Common.{◌<◌, ◌+◌, ◌≡◌, arith, ℕ, ℤ, Bool, true, false, List, [], ◌∷◌, ◌++◌, All, cond, not, nat_eq, bytes_eq, refl, sym, ap, subst, ◌∙◌, inl, inr}
 use Rattle.std.specs.List.{filter, list_any}
 use Rattle.std.specs.declared.string.String.{String}
 use Rattle.std.proofs.lemmas.List.Elements.{All-nil, All-cons, All-head, All-tail, All-weaker, All-same}
 use Rattle.std.proofs.lemmas.Slice.Eq.{bytes_eq-Decides}
 use Rattle.http_cache_semantics.specs.Exchange.{Exchange}
+use Rattle.http_cache_messages.specs.Worth.{can_be_used_again}
 use Rattle.http_cache_shelf.specs.declared.memory.list.StoredList.{StoredList}
 use Rattle.http_cache_shelf.specs.declared.shelf.ResponseId.{ResponseId}
-use Rattle.http_cache_shelf.specs.Shelf.{StoredSeen, StoredByTarget, AreIdsBelow, AreNewestOf, KeepsAllOthers, KeepsOthers, RemovesThese, IsSwept, with_exchange, renewed, without}
-use Rattle.http_cache_shelf.specs.Memory.{all_seen, is_text, stored_under, AreFewer, HasUnder, IsOnTop}
+use Rattle.http_cache_shelf.specs.Shelf.{StoredSeen, StoredByTarget, AreIdsBelow, KeepsOthers, RemovesThese, IsSwept, with_exchange, renewed, without}
+use Rattle.http_cache_shelf.specs.Memory.{stored_under, AreFewer, HasUnder, IsOnTop}
 use Rattle.http_cache_shelf.proofs.MapLemmas.{true≢false, stored-top}
 
 module _ {X : Type 0} (P : X → Type 0) where
@@ -38,6 +39,9 @@ below-renewed n id e (x ∷ xs) h =
 
 pub below-filter : (n : ℕ) (p : StoredSeen → Bool) (xs : List StoredSeen) → AreIdsBelow n xs → AreIdsBelow n (filter p xs)
 below-filter n p xs h = some (λ (r : StoredSeen). r.id < n) p xs h
+
+below-without : (n : ℕ) (ids : List ResponseId) (xs : List StoredSeen) → AreIdsBelow n xs → AreIdsBelow n (without ids xs)
+below-without n ids xs h = below-filter n (λ (r : StoredSeen). not (list_any (λ id. nat_eq r.id id.0) ids)) xs h
 
 below-none : (n : ℕ) → AreIdsBelow n []
 below-none n = All-nil (λ (r : StoredSeen). r.id < n)
@@ -70,7 +74,7 @@ below-under n own all old new has before own_below =
 pub below-removed_ids : (n : ℕ) (own : List ℕ) (ids : List ResponseId) (old new : StoredByTarget)
     → HasUnder own (without ids (old own)) old new → AllBelow n old → AllBelow n new
 below-removed_ids n own ids old new has before =
-    below-under n own (without ids (old own)) old new has before (some (λ (r : StoredSeen). r.id < n) _ (old own) (before own))
+    below-under n own (without ids (old own)) old new has before (below-without n ids (old own) (before own))
 
 pub below-replaced : (n id : ℕ) (e : Exchange) (own : List ℕ) (old new : StoredByTarget)
     → HasUnder own (renewed id e (old own)) old new → AllBelow n old → AllBelow n new
@@ -84,7 +88,8 @@ below-fewer n old new fewer before = λ text.
 
 pub below-swept : (n : ℕ) (now : ℤ) (old new : StoredByTarget) → IsSwept now old new → AllBelow n old → AllBelow n new
 below-swept n now old new swept before = λ text.
-    below-same n (new text) (filter _ (old text)) (swept text) (some (λ (r : StoredSeen). r.id < n) _ (old text) (before text))
+    below-same n (new text) (filter (λ (r : StoredSeen). can_be_used_again r.exchange now) (old text)) (swept text)
+    (below-filter n (λ (r : StoredSeen). can_be_used_again r.exchange now) (old text) (before text))
 
 pub below-removed : (n : ℕ) (these : List (List ℕ)) (old new : StoredByTarget) → RemovesThese these old new → AllBelow n old → AllBelow n new
 below-removed n these old new removed before = λ text.
@@ -106,7 +111,7 @@ module _ {Y : Type 0} where
       let wider : (xs : List StoredSeen) → AreIdsBelow n xs → AreIdsBelow (n + 1) xs =
       λ xs h. All-weaker (λ (r : StoredSeen). r.id < n) (λ (r : StoredSeen). r.id < n + 1) (λ r less. omega arith) xs h in
       let rest : AreIdsBelow (n + 1) (without ids (stored_under old own)) =
-      wider (without ids (stored_under old own)) (some (λ (r : StoredSeen). r.id < n) _ (stored_under old own) (before own)) in
+      wider (without ids (stored_under old own)) (below-without n ids (stored_under old own) (before own)) in
       let first : seen.id < n + 1 = omega arith in
       by-text (n + 1) own (stored_under old) (stored_under new) top.others (λ text. wider (stored_under old text) (before text))
       (below-same (n + 1) (stored_under new own) (seen ∷ without ids (stored_under old own))

@@ -1,6 +1,6 @@
 -- The stored responses of a list, as contracts see them.
-use Rattle.std.proofs.Common.{◌≤◌, ◌<◌, ◌≡◌, arith, ℕ, zero, suc, ◌-◌, Bool, true, false, List, [], ◌∷◌, ◌++◌, map, length, take, drop, set, get_or, slice_get, nat_eq, nat_lt, position, cond, Option, Some, None, IfSome, option_map, refl, sym, ap, ◌∙◌, append-nil, append_assoc}
-use Rattle.std.specs.List.{filter, find, position_or_len}
+use Rattle.std.proofs.Common.{◌≤◌, ◌<◌, ◌≡◌, arith, ℕ, zero, suc, ◌-◌, Bool, true, false, List, [], ◌∷◌, ◌++◌, map, length, take, drop, set, get_or, slice_get, nat_eq, nat_lt, position, is_some, Option, Some, None, IfSome, option_map, refl, sym, ap, ◌∙◌, append-nil, append_assoc}
+use Rattle.std.specs.List.{filter, find, list_any, position_or_len}
 use Rattle.std.specs.Option.{option_map_or}
 use Rattle.std.proofs.lemmas.Bool.Decides.{nat_tests}
 use Rattle.std.proofs.lemmas.List.{length-take-le}
@@ -17,7 +17,7 @@ parts (suc n) (x ∷ xs) = ap (λ l. x ∷ l) (parts n xs)
 pub left-all : {X : Type 0} (stay : ℕ) (xs : List X) → AreLeft stay xs xs
 left-all stay xs = record { evicted = []; is = sym (append-nil xs); stayed = λ h. h }
 
--- the last of more than stay may go
+-- the last of more than are to stay may be evicted
 pub left-more : {X : Type 0} (stay : ℕ) (old xs : List X) → AreLeft stay old xs → stay < length xs
     → AreLeft stay old (take (length xs - 1) xs)
 left-more stay old xs left more = record {
@@ -36,7 +36,7 @@ as_long : (xs : List StoredResponse) → length (map seen_of xs) ≡ length xs
 as_long [] = refl
 as_long (x ∷ xs) = ap suc (as_long xs)
 
--- the rows of what is left are left of the rows
+-- what contracts see of what is left is left of what they saw
 pub left-seen : (stay : ℕ) (old new : List StoredResponse) → AreLeft stay old new → AreLeft stay (map seen_of old) (map seen_of new)
 left-seen stay old new left = record {
   evicted = map seen_of left.evicted;
@@ -48,12 +48,12 @@ shown : {Z : Type 0} (o : Option (List Z)) → IfSome o (λ body. body ≡ optio
 shown None = tt
 shown (Some b) = refl
 
--- what is stored shows its rows
+-- a list of stored responses shows all that contracts see of it
 pub shows : (xs : List StoredResponse) → ShowsAll xs (map seen_of xs)
 shows [] = tt
 shows (x ∷ xs) = (record { id = refl; exchange = refl; body = shown x.body }, shows xs)
 
--- rows are taken out of what is stored as out of the list of rows
+-- a filter keeps the stored responses that contracts see it keep
 pub filter-seen_of : (p : StoredSeen → Bool) (xs : List StoredResponse) → filter p (map seen_of xs) ≡ map seen_of (filter (λ s. p (seen_of s)) xs)
 filter-seen_of p [] = refl
 filter-seen_of p (x ∷ xs) =
@@ -128,3 +128,31 @@ module _ (id : ℕ) (e : Exchange) where
         | false ↦ λ p. grind (arith, nat_tests)
       ]) refl in
       sym (unchanged xs long)
+
+module _ (id : ℕ) where
+  abbrev of_id : StoredResponse → Bool
+  of_id s = nat_eq s.id.0 id
+
+  any-first : (xs : List StoredResponse) → position_or_len of_id xs < length xs → list_any (λ r. nat_eq r.id id) (map seen_of xs) ≡ true
+  any-first [] h = absurd (let no : ⊥ = omega arith in no)
+  any-first (x ∷ xs) h =
+      (elim (nat_eq x.id.0 id) as (λ b. nat_eq x.id.0 id ≡ b → list_any (λ r. nat_eq r.id id) (map seen_of (x ∷ xs)) ≡ true) [
+        | true ↦ λ p. rw p refl
+        | false ↦ λ p. let h' = rw p at h in let rest : position_or_len of_id xs < length xs = omega (arith, h') in rw p (any-first xs rest)
+      ]) refl
+
+  any-none : (xs : List StoredResponse) → length xs ≤ position_or_len of_id xs → list_any (λ r. nat_eq r.id id) (map seen_of xs) ≡ false
+  any-none [] h = refl
+  any-none (x ∷ xs) h =
+      (elim (nat_eq x.id.0 id) as (λ b. nat_eq x.id.0 id ≡ b → list_any (λ r. nat_eq r.id id) (map seen_of (x ∷ xs)) ≡ false) [
+        | true ↦ λ p. let h' = rw p at h in absurd (let no : ⊥ = omega (arith, h') in no)
+        | false ↦ λ p. let h' = rw p at h in let rest : length xs ≤ position_or_len of_id xs = omega (arith, h') in rw p (any-none xs rest)
+      ]) refl
+
+  -- whether a response has the id
+  pub is_named : (xs : List StoredResponse) → list_any (λ r. nat_eq r.id id) (map seen_of xs) ≡ is_some (position of_id xs)
+  is_named xs =
+      (elim (nat_lt (position_or_len of_id xs) (length xs)) as (λ b. nat_lt (position_or_len of_id xs) (length xs) ≡ b → list_any (λ r. nat_eq r.id id) (map seen_of xs) ≡ is_some (position of_id xs)) [
+        | true ↦ λ p. let less : position_or_len of_id xs < length xs = grind (arith, nat_tests) in rw p (any-first xs less)
+        | false ↦ λ p. let long : length xs ≤ position_or_len of_id xs = grind (arith, nat_tests) in rw p (any-none xs long)
+      ]) refl

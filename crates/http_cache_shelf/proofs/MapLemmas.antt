@@ -1,6 +1,6 @@
 -- What is stored under each text of a map that was changed under one.
-use Rattle.std.proofs.Common.{◌≡◌, ℕ, ◌-◌, Bool, true, false, List, [], ◌∷◌, ◌++◌, length, take, cond, bytes_eq, string_bytes, slice_get, ◌||◌}
-use Rattle.std.proofs.Common.{Option, Some, None, refl, sym, ap, subst, ◌∙◌, inl, inr, ◌⊎◌}
+use Rattle.std.proofs.Common.{◌≡◌, ℕ, ◌-◌, Bool, true, false, List, [], ◌∷◌, ◌++◌, take, cond, bytes_eq, string_bytes, slice_get, ◌||◌}
+use Rattle.std.proofs.Common.{Option, Some, None, refl, sym, ap, subst, ◌∙◌, inl, inr}
 use Rattle.std.specs.List.{list_any, IsDistinct}
 use Rattle.std.specs.Option.{option_map_or}
 use Rattle.std.specs.String.{string_eq, string_eq_equiv}
@@ -34,12 +34,12 @@ module _ {Y : Type 0} where
   pub one : (t : List ℕ) (x y : String Y) → is_text t x ≡ true → is_text t y ≡ string_eq x y
   one t x y p = ap (λ u. bytes_eq u (string_bytes y)) ((bytes_eq-Decides t (string_bytes x)).0 p)
 
-  -- the order of use doesn't count
+  -- the order of use doesn't change what is stored
   pub stored_under-promoted : (text : List ℕ) (es : List (String Y × StoredList)) → stored_under (promoted (is_text text) es) ≡ stored_under es
   stored_under-promoted text es = λ i other. option_map_or all_seen
       (lookup-promoted (is_text text) (is_text other) (agree text other) es i) []
 
-  -- what is written through a look-up stands under the text
+  -- what is written through a look-up is stored under the text
   pub stored-written : (text : List ℕ) (es : List (String Y × StoredList)) (v w : StoredList) → lookup (is_text text) es ≡ Some v
       → HasUnder text (all_seen w) (stored_under es) (stored_under (set_value (is_text text) (promoted (is_text text) es) w))
   stored-written text es v w h = record {
@@ -51,7 +51,7 @@ module _ {Y : Type 0} where
         ∙ lookup-promoted (is_text text) (is_text other) (agree text other) es);
   }
 
-  -- nothing is left under a text that is taken away
+  -- nothing is left under a text that is removed
   pub stored-removed : (text : List ℕ) (es : List (String Y × StoredList)) → IsDistinct string_eq (keys_of es)
       → HasUnder text [] (stored_under es) (stored_under (remove_entry (is_text text) es))
   stored-removed text es distinct = record {
@@ -83,7 +83,7 @@ module _ {Y : Type 0} where
   pub is_last_used-promoted : (text : List ℕ) (es : List (String Y × StoredList)) → is_last_used (promoted (is_text text) es) text
   is_last_used-promoted text es = by_entry text es (lookup_entry (is_text text) es) refl
 
-  -- the first one, if it is the text, has the rows
+  -- the list of the first key, if it is the text, is what is stored under it
   pub stored-first : (text : List ℕ) (es : List (String Y × StoredList)) (key : String Y) (kept : StoredList)
       → slice_get es 0 ≡ Some (key, kept) → is_text text key ≡ true → stored_under es text ≡ all_seen kept
   stored-first text [] key kept h same = cc
@@ -92,7 +92,7 @@ module _ {Y : Type 0} where
       ap (λ (e : String Y × StoredList). option_map_or all_seen (lookup (is_text text) (e ∷ es)) []) first
       ∙ ap (λ b. option_map_or all_seen (cond b (Some kept) (lookup (is_text text) es)) []) same
 
-  -- if the first one isn't the text, there is nothing
+  -- if the first key isn't the text, nothing is stored under it
   pub stored-none : (text : List ℕ) (es : List (String Y × StoredList)) → ((key : String Y) (kept : StoredList) → slice_get es 0 ≡ Some (key, kept) → is_text text key ≡ false)
       → is_last_used es text → stored_under es text ≡ []
   stored-none text [] other used = refl
@@ -102,27 +102,27 @@ module _ {Y : Type 0} where
   ]
 
 module _ {Y : Type 0} where
-  -- a new key stands on top
+  -- a new key is the first
   pub new-on-top : (c : LruCache (String Y) StoredList) (key : String Y) (list : StoredList)
       → lookup (is_text (string_bytes key)) c.entries ≡ None
-      → IsOnTop (string_bytes key) (all_seen rows) c.entries (put_entries string_eq c key rows)
-  new-on-top c key rows h = record {
+      → IsOnTop (string_bytes key) (all_seen list) c.entries (put_entries string_eq c key list)
+  new-on-top c key list h = record {
     key = key;
-    kept = rows;
+    kept = list;
     rest = take (c.cap - 1) c.entries;
-    first = ap (λ o. option_map_or (λ e. (e.0, rows) ∷ remove_entry (string_eq key) c.entries) o ((key, rows) ∷ take (c.cap - 1) c.entries))
+    first = ap (λ o. option_map_or (λ e. (e.0, list) ∷ remove_entry (string_eq key) c.entries) o ((key, list) ∷ take (c.cap - 1) c.entries))
         (no-entry (string_eq key) c.entries h);
     is = (bytes_eq-Decides (string_bytes key) (string_bytes key)).1 refl;
     own_stored = refl;
     others = λ other differ.
-        let entries : put_entries string_eq c key rows ≡ (key, rows) ∷ take (c.cap - 1) c.entries =
-        ap (λ o. option_map_or (λ e. (e.0, rows) ∷ remove_entry (string_eq key) c.entries) o ((key, rows) ∷ take (c.cap - 1) c.entries))
+        let entries : put_entries string_eq c key list ≡ (key, list) ∷ take (c.cap - 1) c.entries =
+        ap (λ o. option_map_or (λ e. (e.0, list) ∷ remove_entry (string_eq key) c.entries) o ((key, list) ∷ take (c.cap - 1) c.entries))
         (no-entry (string_eq key) c.entries h) in
         let not_own : is_text other key ≡ false =
         apart (string_bytes key) other differ key ((bytes_eq-Decides (string_bytes key) (string_bytes key)).1 refl) in
-        let below : lookup (is_text other) (put_entries string_eq c key rows) ≡ lookup (is_text other) (take (c.cap - 1) c.entries) =
+        let below : lookup (is_text other) (put_entries string_eq c key list) ≡ lookup (is_text other) (take (c.cap - 1) c.entries) =
         ap (lookup (is_text other)) entries
-        ∙ ap (λ b. cond b (Some rows) (lookup (is_text other) (take (c.cap - 1) c.entries))) not_own in
+        ∙ ap (λ b. cond b (Some list) (lookup (is_text other) (take (c.cap - 1) c.entries))) not_own in
         elim (lookup-take (is_text other) (c.cap - 1) c.entries) [
           | inl same ↦ inl (ap (λ o. option_map_or all_seen o []) (below ∙ same))
           | inr none ↦ inr (ap (λ o. option_map_or all_seen o []) (below ∙ none))
@@ -130,10 +130,10 @@ module _ {Y : Type 0} where
   }
 
 module _ {Y : Type 0} (text : List ℕ) (es : List (String Y × StoredList)) (v w : StoredList) (found : lookup (is_text text) es ≡ Some v) where
-  -- what is written through a look-up stands on top
-  pub written-on-top : (all : List StoredSeen) → all_seen w ≡ rows
-      → IsOnTop text rows es (set_value (is_text text) (promoted (is_text text) es) w)
-  written-on-top rows changed =
+  -- what is written through a look-up is on top
+  pub written-on-top : (all : List StoredSeen) → all_seen w ≡ all
+      → IsOnTop text all es (set_value (is_text text) (promoted (is_text text) es) w)
+  written-on-top all changed =
       let entry = some-entry (is_text text) es v found in
       let e = entry.0 in
       let key : is_text text e.0 ≡ true = (Contains-lookup_entry (is_text text) es e entry.1).1 in
@@ -178,7 +178,7 @@ alone p x =
       | false ↦ λ h. rw h refl
     ]) refl
 
--- one text more loses its rows
+-- the responses of one text more are removed
 pub removes-more : (these : List (List ℕ)) (own : List ℕ) (old new next : StoredByTarget)
     → RemovesThese these old new → HasUnder own [] new next → RemovesThese (these ++ own ∷ []) old next
 removes-more these own old new next before last = λ text.

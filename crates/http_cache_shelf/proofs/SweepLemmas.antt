@@ -4,12 +4,14 @@ use Rattle.std.specs.List.{IsDistinct, AllByRecursion}
 use Rattle.std.specs.Option.{option_map_or}
 use Rattle.std.specs.String.{string_eq}
 use Rattle.std.specs.declared.string.String.{String}
+use Rattle.std.specs.Ordering.{ord_max, nat_cmp}
 use Rattle.std.specs.Map.{keys_of, lookup, lookup_entry, remove_entry, set_value}
+use Rattle.std.proofs.lemmas.Bool.Decides.{nat_tests}
 use Rattle.std.proofs.lemmas.List.Elements.{All-cons, All-head, All-tail, All-nil, All-same, All-weaker}
 use Rattle.std.proofs.lemmas.Slice.Eq.{bytes_eq-Decides}
 use Rattle.lru.specs.LruCache.{promoted, last_entry}
 use Rattle.http_cache_shelf.specs.declared.memory.list.StoredList.{StoredList}
-use Rattle.http_cache_shelf.specs.Shelf.{StoredSeen, IsSwept}
+use Rattle.http_cache_shelf.specs.Shelf.{IsSwept}
 use Rattle.http_cache_shelf.specs.Memory.{all_seen, usable, is_text, stored_under, AreTextsWithin, IsLastText, IsTurned, IsTurnedOrRemoved, IsFirstDropped}
 use Rattle.http_cache_shelf.proofs.MapLemmas.{true≢false, one}
 
@@ -105,6 +107,16 @@ module _ {Y : Type 0} where
         | false ↦ λ p. rw p (ap (λ (l : List (String Y × StoredList)). x ∷ l) (without-last text f e (rw p at none) is))
       ]) refl
 
+  -- the last text is found
+  pub last-found : (text : List ℕ) (es : List (String Y × StoredList)) (last : IsLastText es text) → IsDistinct string_eq (keys_of es)
+      → lookup (is_text text) es ≡ Some last.kept
+  last-found text es last distinct =
+      let e : String Y × StoredList = (last.key, last.kept) in
+      ap (lookup (is_text text)) last.last
+      ∙ found-last text last.front e
+      (apart-from text last.front e [] last.is (subst (λ (l : List (String Y × StoredList)). IsDistinct string_eq (keys_of l)) last.last distinct)).0
+      last.is
+
   -- the last entry, written through a look-up, is the first one
   pub turned : (now : ℤ) (text : List ℕ) (es : List (String Y × StoredList)) (v w : StoredList) → IsLastText es text
       → IsDistinct string_eq (keys_of es) → lookup (is_text text) es ≡ Some v → all_seen w ≡ usable now (all_seen v)
@@ -155,6 +167,9 @@ module _ {Y : Type 0} where
   dropped [] h = inl refl
   dropped (e ∷ es) h = inr record { key = e.0; kept = e.1; is = refl; spent = h }
 
+  value-of : (e f : String Y × StoredList) → e ≡ f → f.1 ≡ e.1
+  value-of e f same = sym (ap (λ (g : String Y × StoredList). g.1) same)
+
   pub turned-or-removed : (now : ℤ) (old mid new : List (String Y × StoredList)) → IsTurned now old mid
       → (new ≡ mid) ⊎ IsFirstDropped mid new → IsTurnedOrRemoved now old new
   turned-or-removed now old mid new t (inl same) = record {
@@ -165,7 +180,7 @@ module _ {Y : Type 0} where
       let same : (d.key, d.kept) ∷ new ≡ (t.key, t.is) ∷ t.front = sym d.is ∙ t.first in
       let rest : new ≡ t.front = cc in
       let first : (d.key, d.kept) ≡ (t.key, t.is) = cc in
-      let list : t.is ≡ d.kept = sym (ap (λ (e : String Y × StoredList). e.1) first) in
+      let list : t.is ≡ d.kept = value-of (d.key, d.kept) (t.key, t.is) first in
       record {
         front = t.front; key = t.key; was = t.was; is = t.is; last = t.last; swept = t.swept;
         first = inr (rest, ap all_seen list ∙ d.spent);
@@ -290,3 +305,14 @@ module _ {Y : Type 0} where
       let same : string_bytes key ≡ string_bytes at.key = (bytes_eq-Decides (string_bytes key) (string_bytes at.key)).0 at.is in
       let own : length (string_bytes at.key) ≤ n = all-last (λ (f : String Y × StoredList). length (string_bytes f.0) ≤ n) at.front (at.key, at.kept) all in
       subst (λ (t : List ℕ). length t ≤ n) (sym same) own
+
+  -- where no text is left, the longest text covers all
+  pub none-left : (most : ℕ) (left es : List (String Y × StoredList))
+      → ((n : ℕ) → most ≤ n → AreTextsWithin n left → AreTextsWithin n es) → left ≡ [] → AreTextsWithin most es
+  none-left most left es within none =
+      within most (omega arith)
+      (All-same (λ (f : String Y × StoredList). length (string_bytes f.0) ≤ most) left [] none
+      (All-nil (λ (f : String Y × StoredList). length (string_bytes f.0) ≤ most)))
+
+pub covers : (a b : ℕ) → (a ≤ ord_max nat_cmp a b) × (b ≤ ord_max nat_cmp a b)
+covers a b = (grind (arith, nat_tests), grind (arith, nat_tests))

@@ -1,5 +1,5 @@
 -- What a shelf stores: for each target its stored responses, newest first.
-use Rattle.std.specs.Prelude.{option_map, ◌≡◌, ◌≢◌, ◌⊎◌, ◌+◌, ◌<◌, ◌++◌, ℕ, ℤ, List, [], ◌∷◌, Option, Some, None, All, not, nat_eq, bytes_eq, IfSome, if◌then◌else◌}
+use Rattle.std.specs.Prelude.{option_map, ◌≡◌, ◌≢◌, ◌⊎◌, ◌+◌, ◌<◌, ◌++◌, ℕ, ℤ, Bool, List, [], ◌∷◌, Option, Some, None, All, not, nat_eq, bytes_eq, IfSome, if◌then◌else◌}
 use Rattle.std.specs.List.{find, filter, list_any, AllZip}
 use Rattle.http_cache_semantics.specs.Exchange.{Exchange}
 use Rattle.http_cache_messages.specs.Worth.{can_be_used_again}
@@ -34,6 +34,10 @@ with_exchange e r = record r { exchange = e }
 abbrev pub renewed : ℕ → Exchange → List StoredSeen → List StoredSeen
 renewed id e [] = []
 renewed id e (r ∷ rest) = if nat_eq r.id id then with_exchange e r ∷ rest else r ∷ renewed id e rest
+
+-- whether there is a response of the id
+abbrev pub has_id : ℕ → List StoredSeen → Bool
+has_id id = list_any (λ r. nat_eq r.id id)
 
 -- the body of the first response of an id, or None where there is no such response
 abbrev pub stored_body : ℕ → List StoredSeen → Option (List ℕ)

@@ -2,7 +2,7 @@
 //!
 //! The struct counts what is stored and gives the ids. What happens to the map of texts is in the modules
 //! below, by layers: `list` (one target), `map` (a text in the map), `bounds` and `sweep` (the whole map).
-ghost use Rattle.std.specs.Prelude.{◌≡◌, ◌<◌, ℕ, List, false};
+ghost use Rattle.std.specs.Prelude.{◌≡◌, ◌<◌, ℕ, List, [], false, IfOk};
 ghost use Rattle.http_cache_shelf.specs.Shelf.{without, AreIdsBelow};
 ghost use Rattle.http_cache_shelf.specs.Target.{text_of};
 ghost use Rattle.http_cache_shelf.specs.Memory.{stored_under, HasUnder, KeepsBounds};
@@ -56,7 +56,11 @@ impl MemoryShelf {
     /// # Errors
     ///
     /// Returns `AllocError` when out of memory.
-    pub fn new(alloc: Global, limits: Limits) -> Result<MemoryShelf, AllocError> {
+    pub fn new(alloc: Global, limits: Limits) -> Result<MemoryShelf, AllocError>
+        ensures empty { IfOk result (λ shelf. (text : List ℕ)
+            → ⟦<MemoryShelf as Shelf>⟧.stored shelf text ≡ []) }
+        ensures next { IfOk result (λ shelf. ⟦<MemoryShelf as Shelf>⟧.next_id shelf ≡ 0) }
+    {
         Ok(MemoryShelf {
             alloc,
             limits,

@@ -78,7 +78,7 @@ impl<T: Drop> From<AllocFailed<T>> for ShelfError {
 /// [`MemoryShelf`](crate::MemoryShelf) keeps responses in memory. To keep them elsewhere, implement the
 /// trait: define the ghost members over the fields, and prove each method and the law at the end.
 pub trait Shelf {
-    ghost use Rattle.http_cache_shelf.specs.Shelf.{StoredSeen, ShowsAll, IsInserted, renewed, without, stored_body};
+    ghost use Rattle.http_cache_shelf.specs.Shelf.{StoredSeen, ShowsAll, IsInserted, renewed, without, has_id, stored_body};
     ghost use Rattle.http_cache_shelf.specs.Shelf.{AreNewestOf, KeepsOthers, KeepsAllOthers, KeepsAll, RemovesThese, IsSwept, AreIdsBelow};
     ghost use Rattle.http_cache_shelf.specs.Target.{text_of};
 
@@ -162,6 +162,8 @@ pub trait Shelf {
     ) -> Result<bool, ShelfError>
         ensures renewed { OnOk result (AreNewestOf (stored self.new (text_of target.now))
             (renewed id.0 policy (without superseded.now (stored self.old (text_of target.now))))) }
+        ensures was_stored { IfOk result (λ was_stored. was_stored
+            ≡ has_id id.0 (without superseded.now (stored self.old (text_of target.now)))) }
         ensures next { next_id self.new ≡ next_id self.old }
         ensures others { KeepsOthers (stored self.old) (stored self.new) (text_of target.now) }
         ensures kept { OnErr result

@@ -2,10 +2,10 @@
 //!
 //! No function here knows under which text the list is kept. A call that may drop a policy is in a
 //! function of its own, since the prover looks into all that a dropped response holds.
-ghost use Rattle.std.specs.Prelude.{◌≡◌, ◌-◌, ◌<◌, ◌≤◌, ◌∷◌, [], ℕ, length, map, take, not, nat_eq, vec_len, vec_capacity, option_copied, position, IsOk, IfOk, OnOk, OnErr};
+ghost use Rattle.std.specs.Prelude.{◌≡◌, ◌-◌, ◌<◌, ◌≤◌, ◌∷◌, [], ℕ, length, map, take, not, nat_eq, vec_len, vec_capacity, option_copied, is_some, position, IsOk, IfOk, OnOk, OnErr};
 ghost use Rattle.std.specs.List.{filter, find, list_any};
 ghost use Rattle.http_cache_messages.specs.Worth.{can_be_used_again};
-ghost use Rattle.http_cache_shelf.specs.Shelf.{without, renewed, stored_body};
+ghost use Rattle.http_cache_shelf.specs.Shelf.{without, renewed, has_id, stored_body};
 ghost use Rattle.http_cache_shelf.specs.Memory.{AreLeft, IsRenewedAt, seen_of};
 
 use crate::memory::size::{Amount, stored_size, total_size};
@@ -207,7 +207,8 @@ impl StoredList {
     /// Replaces the policy of the first response of an id, and returns its size before and after, or
     /// None if there is no such response.
     pub(crate) fn set_policy(&mut self, id: ResponseId, policy: CachePolicy) -> Option<(u64, u64)>
-        ensures { all_seen self.new ≡ renewed id.0 policy (all_seen self.old) }
+        ensures stored { all_seen self.new ≡ renewed id.0 policy (all_seen self.old) }
+        ensures was_stored { is_some result ≡ has_id id.0 (all_seen self.old) }
     {
         let Some(at) = index_of(self.responses.as_slice(), id) else {
             drop(policy);

@@ -2,9 +2,9 @@
 //!
 //! Each function calls the map once. A look-up by `&str` is one that std's lemmas on texts read. The
 //! functions know nothing of limits, and return what they removed for the caller to count.
-ghost use Rattle.std.specs.Prelude.{◌≡◌, ◌∷◌, [], true, None, OnOk, OnErr, string_bytes, map};
+ghost use Rattle.std.specs.Prelude.{◌≡◌, ◌∷◌, [], true, None, OnOk, OnErr, string_bytes, is_some, map};
 ghost use Rattle.std.specs.Map.{lookup};
-ghost use Rattle.http_cache_shelf.specs.Shelf.{without, renewed, RemovesThese, ShowsAll};
+ghost use Rattle.http_cache_shelf.specs.Shelf.{without, renewed, has_id, RemovesThese, ShowsAll};
 ghost use Rattle.http_cache_shelf.specs.Target.{text_of};
 ghost use Rattle.http_cache_shelf.specs.Memory.{all_seen, seen_of, stored_under, is_last_used, is_text, HasUnder, IsOnTop};
 
@@ -119,6 +119,7 @@ pub(crate) fn set_policy(
     ensures stored { HasUnder text.now (renewed id.0 policy (stored_under kept.old.entries text.now))
         (stored_under kept.old.entries) (stored_under kept.new.entries) }
     ensures first { is_last_used kept.new.entries text.now }
+    ensures was_stored { is_some result ≡ has_id id.0 (stored_under kept.old.entries text.now) }
 {
     match kept.get_mut(text) {
         Some(list) => list.set_policy(id, policy),

@@ -1,5 +1,5 @@
 -- One less in each turn, of two or more.
-use Rattle.std.proofs.Common.{◌≡◌, arith}
+use Rattle.std.proofs.Common.{arith}
 use Rattle.http_cache_shelf.proofs.BoundsLemmas.{front-all, front-more}
 use Rattle.http_cache_shelf.proofs.memory.bounds.evict.Goals as goal
 

@@ -1,5 +1,5 @@
 -- One less in each turn, of more than are to stay.
-use Rattle.std.proofs.Common.{◌≡◌, arith}
+use Rattle.std.proofs.Common.{arith}
 use Rattle.http_cache_shelf.proofs.ListLemmas.{left-all, left-more}
 use Rattle.http_cache_shelf.proofs.memory.list.drop_until.Goals as goal
 

@@ -1,5 +1,4 @@
 -- The order of use doesn't change what is stored.
-use Rattle.std.proofs.Common.{◌≡◌}
 use Rattle.http_cache_shelf.proofs.MapLemmas.{stored_under-promoted, is_last_used-promoted}
 use Rattle.http_cache_shelf.proofs.memory.map.promote.Goals as goal
 

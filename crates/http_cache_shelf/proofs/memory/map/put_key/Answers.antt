@@ -1,5 +1,4 @@
 -- A new key is the first.
-use Rattle.std.proofs.Common.{◌≡◌}
 use Rattle.http_cache_shelf.proofs.MapLemmas.{new-on-top}
 use Rattle.http_cache_shelf.proofs.memory.map.put_key.Goals as goal
 

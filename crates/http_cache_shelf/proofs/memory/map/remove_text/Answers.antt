@@ -1,5 +1,4 @@
 -- No text is a key twice.
-use Rattle.std.proofs.Common.{◌≡◌}
 use Rattle.http_cache_shelf.proofs.MapLemmas.{stored-removed}
 use Rattle.http_cache_shelf.proofs.memory.map.remove_text.Goals as goal
 

@@ -1,8 +1,8 @@
 -- What contracts see of what is left is left of what they saw.
-use Rattle.std.proofs.Common.{◌≡◌, not, nat_eq, map, ap, sym, ◌∙◌}
+use Rattle.std.proofs.Common.{not, nat_eq, map, ap, sym, ◌∙◌}
 use Rattle.std.specs.List.{list_any}
 use Rattle.http_cache_shelf.specs.Shelf.{StoredSeen}
-use Rattle.http_cache_shelf.specs.Memory.{all_seen, seen_of}
+use Rattle.http_cache_shelf.specs.Memory.{seen_of}
 use Rattle.http_cache_shelf.proofs.ListLemmas.{filter-seen_of}
 use Rattle.http_cache_shelf.proofs.memory.list.StoredList.remove.Goals as goal
 

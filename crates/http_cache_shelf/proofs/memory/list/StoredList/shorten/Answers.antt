@@ -1,6 +1,4 @@
 -- What contracts see of what is left is left of what they saw.
-use Rattle.std.proofs.Common.{◌≡◌, ap, map, sym, subst}
-use Rattle.http_cache_shelf.specs.Memory.{AreLeft, all_seen, seen_of}
 use Rattle.http_cache_shelf.proofs.ListLemmas.{left-seen}
 use Rattle.http_cache_shelf.proofs.memory.list.StoredList.shorten.Goals as goal
 
