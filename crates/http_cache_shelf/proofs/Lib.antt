@@ -1,0 +1,8 @@
+-- Lemmas on what is stored.
+mod BoundsLemmas
+mod IdLemmas
+mod ListLemmas
+mod Lookups
+mod MapLemmas
+mod Outcomes
+mod SweepLemmas

@@ -1,0 +1,15 @@
+-- What is written through the look-up is what is left.
+use Rattle.std.proofs.Common.{◌≡◌, Some, ap, sym, ◌∙◌}
+use Rattle.std.specs.Map.{lookup}
+use Rattle.std.specs.Option.{option_copied_mut}
+use Rattle.http_cache_shelf.specs.Memory.{is_text}
+use Rattle.http_cache_shelf.proofs.BoundsLemmas.{shortened}
+use Rattle.http_cache_shelf.proofs.memory.bounds.shorten.Goals as goal
+
+pub returns-in-Some : goal.returns-in-Some
+returns-in-Some c =
+    let text = c.args.text.now in
+    let es = c.args.kept.now.entries in
+    let found : lookup (is_text text) es ≡ Some c.in-Some.list.now =
+    sym c.get_mut.ensures.value ∙ ap option_copied_mut c.in-Some.is in
+    shortened text c.args.stay es c.in-Some.list.now c.shorten.new.self found c.shorten.ensures

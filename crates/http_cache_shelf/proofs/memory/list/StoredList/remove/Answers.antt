@@ -1,0 +1,13 @@
+-- What contracts see of what is left is left of what they saw.
+use Rattle.std.proofs.Common.{not, nat_eq, map, ap, sym, ◌∙◌}
+use Rattle.std.specs.List.{list_any}
+use Rattle.http_cache_shelf.specs.Shelf.{StoredSeen}
+use Rattle.http_cache_shelf.specs.Memory.{seen_of}
+use Rattle.http_cache_shelf.proofs.ListLemmas.{filter-seen_of}
+use Rattle.http_cache_shelf.proofs.memory.list.StoredList.remove.Goals as goal
+
+pub returns-clause-stored : goal.returns-clause-stored
+returns-clause-stored c =
+    ap (λ v. map seen_of v.items) c.count_removed.ensures
+    ∙ ap (map seen_of) c.drop_ids.ensures.stored
+    ∙ sym (filter-seen_of (λ (r : StoredSeen). not (list_any (λ one. nat_eq r.id one.0) c.args.ids.now)) c.args.self.now.responses.items)

@@ -1,0 +1,9 @@
+-- The order of use doesn't change what is stored.
+use Rattle.http_cache_shelf.proofs.MapLemmas.{stored_under-promoted, is_last_used-promoted}
+use Rattle.http_cache_shelf.proofs.memory.map.promote.Goals as goal
+
+pub returns-clause-stored : goal.returns-clause-stored
+returns-clause-stored c = rw c.promote-is_kept.ensures.entries (stored_under-promoted c.args.text.now c.args.kept.now.entries)
+
+pub returns-clause-first : goal.returns-clause-first
+returns-clause-first c = rw c.promote-is_kept.ensures.entries (is_last_used-promoted c.args.text.now c.args.kept.now.entries)

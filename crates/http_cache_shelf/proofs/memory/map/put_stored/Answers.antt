@@ -1,0 +1,39 @@
+-- What is written through the look-up is on top, or is as it was.
+use Rattle.std.proofs.Common.{◌≡◌, ◌∷◌, [], Some, ap, sym, ◌∙◌, Option}
+use Rattle.std.specs.Map.{lookup, set_value}
+use Rattle.std.specs.Option.{option_copied_mut, option_map_or}
+use Rattle.lru.specs.LruCache.{promoted}
+use Rattle.http_cache_shelf.specs.Shelf.{without}
+use Rattle.http_cache_shelf.specs.Memory.{seen_of, all_seen, is_text, stored_under, IsOnTop}
+use Rattle.http_cache_shelf.specs.declared.memory.list.StoredList.{StoredList}
+use Rattle.http_cache_shelf.proofs.MapLemmas.{written-on-top, written-same}
+use Rattle.http_cache_shelf.proofs.Outcomes.{on-ok, on-err}
+use Rattle.http_cache_shelf.proofs.memory.map.put_stored.Goals as goal
+
+pub returns-clause-ok : goal.returns-clause-ok
+returns-clause-ok c =
+    let text = c.args.text.now in
+    let es = c.args.kept.now.entries in
+    let v = c.in-Some.list.now in
+    let w = c.put_first.new.self in
+    let seen = seen_of c.args.stored in
+    let ids = c.args.superseded.now in
+    let found : lookup (is_text text) es ≡ Some v =
+    sym c.get_mut.ensures.value ∙ ap option_copied_mut c.in-Some.is in
+    on-ok c.put_first.result (all_seen w ≡ seen ∷ without ids (all_seen v))
+    (IsOnTop text (seen ∷ without ids (stored_under es text)) es (set_value (is_text text) (promoted (is_text text) es) w))
+    (λ changed. written-on-top text es v w found (seen ∷ without ids (stored_under es text))
+    (changed ∙ sym (ap (λ (o : Option StoredList). seen ∷ without ids (option_map_or all_seen o [])) found)))
+    c.put_first.ensures.ok
+
+pub returns-clause-kept : goal.returns-clause-kept
+returns-clause-kept c =
+    let text = c.args.text.now in
+    let es = c.args.kept.now.entries in
+    let v = c.in-Some.list.now in
+    let w = c.put_first.new.self in
+    let found : lookup (is_text text) es ≡ Some v =
+    sym c.get_mut.ensures.value ∙ ap option_copied_mut c.in-Some.is in
+    on-err c.put_first.result (all_seen w ≡ all_seen v)
+    (stored_under (set_value (is_text text) (promoted (is_text text) es) w) ≡ stored_under es)
+    (written-same text es v w found) c.put_first.ensures.kept

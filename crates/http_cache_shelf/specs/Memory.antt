@@ -1,0 +1,129 @@
+-- What a shelf in memory stores, read from its map of texts.
+use Rattle.std.specs.Prelude.{◌++◌, ◌<◌, length, ◌≤◌, ◌≡◌, ◌⊎◌, ℕ, ℤ, Bool, List, [], ◌∷◌, All, map, string_bytes, bytes_eq, slice_get, slice_set, Some, true, ⊤}
+use Rattle.std.specs.List.{filter}
+use Rattle.std.specs.Option.{option_map_or}
+use Rattle.std.specs.Map.{lookup}
+use Rattle.std.specs.declared.string.String.{String}
+use Rattle.http_cache_semantics.specs.Exchange.{Exchange}
+use Rattle.http_cache_messages.specs.Worth.{can_be_used_again}
+use Rattle.http_cache_shelf.specs.declared.shelf.StoredResponse.{StoredResponse}
+use Rattle.http_cache_shelf.specs.declared.memory.list.StoredList.{StoredList}
+use Rattle.http_cache_shelf.specs.Shelf.{StoredSeen, StoredByTarget, KeepsOthers, KeepsAllOthers, AreNewestOf}
+
+-- a stored response as contracts see it
+abbrev pub seen_of : StoredResponse → StoredSeen
+seen_of s = record { id = s.id.0; exchange = s.policy; body = option_map_or (λ body. body) s.body [] }
+
+-- the stored responses of a list
+abbrev pub all_seen : StoredList → List StoredSeen
+all_seen kept = map seen_of kept.responses.items
+
+-- those that can be used again at the time
+abbrev pub usable : ℤ → List StoredSeen → List StoredSeen
+usable now = filter (λ r. can_be_used_again r.exchange now)
+
+-- the response at an index has another exchange
+pub record IsRenewedAt (at : ℕ) (e : Exchange) (old new : List StoredResponse) : Type 0 where
+  pub was : StoredResponse
+  pub found : slice_get old at ≡ Some was
+  pub is : new ≡ slice_set old at (record was { policy = e })
+
+module _ {Y : Type 0} where
+  -- a key is the text
+  abbrev pub is_text : List ℕ → String Y → Bool
+  is_text text k = bytes_eq text (string_bytes k)
+
+  -- what is stored under a text
+  abbrev pub stored_under : List (String Y × StoredList) → StoredByTarget
+  stored_under es text = option_map_or all_seen (lookup (is_text text) es) []
+
+  -- the first text, which was used last, is this one, or nothing is stored under it
+  abbrev pub is_last_used : List (String Y × StoredList) → List ℕ → Type 0
+  is_last_used [] text = ⊤
+  is_last_used ((key, kept) ∷ rest) text =
+      (is_text text key ≡ true) ⊎ (stored_under ((key, kept) ∷ rest) text ≡ [])
+
+  -- no text is longer
+  abbrev pub AreTextsWithin : ℕ → List (String Y × StoredList) → Type 0
+  AreTextsWithin most = All (λ e. length (string_bytes e.0) ≤ most)
+
+-- the first of a list are left, at least as many as are to stay
+pub record AreLeft {X : Type 0} (stay : ℕ) (old new : List X) : Type 0 where
+  pub evicted : List X
+  pub is : old ≡ new ++ evicted
+  pub stayed : stay ≤ length old → stay ≤ length new
+
+-- under each text the newest are left
+abbrev pub AreFewer : StoredByTarget → StoredByTarget → Type 0
+AreFewer old new = (text : List ℕ) → AreNewestOf (new text) (old text)
+
+-- these responses are stored under one text, and under the others what was
+pub record HasUnder (own : List ℕ) (all : List StoredSeen) (old new : StoredByTarget) : Type 0 where
+  pub own_stored : new own ≡ all
+  pub others : KeepsAllOthers old new own
+
+module _ {Y : Type 0} where
+  -- the text was used last, these responses are stored under it, and under the others what was or nothing
+  pub record IsOnTop (own : List ℕ) (all : List StoredSeen) (old new : List (String Y × StoredList)) : Type 0 where
+    pub key : String Y
+    pub kept : StoredList
+    pub rest : List (String Y × StoredList)
+    pub first : new ≡ (key, kept) ∷ rest
+    pub is : is_text own key ≡ true
+    pub own_stored : all_seen kept ≡ all
+    pub others : KeepsOthers (stored_under old) (stored_under new) own
+
+  -- the first entries are left, at least one if there was one
+  pub record IsFront (old new : List (String Y × StoredList)) : Type 0 where
+    pub evicted : List (String Y × StoredList)
+    pub is : old ≡ new ++ evicted
+    pub some : 0 < length old → 0 < length new
+
+  -- under the text the newest are left, at least as many as are to stay
+  pub record IsShortened (own : List ℕ) (stay : ℕ) (old new : List (String Y × StoredList)) : Type 0 where
+    pub left : AreLeft stay (stored_under old own) (stored_under new own)
+    pub others : KeepsAllOthers (stored_under old) (stored_under new) own
+
+  -- under the text the newest are left, at least as many as are to stay; under the others what was or nothing
+  pub record IsBounded (own : List ℕ) (stay : ℕ) (old new : List (String Y × StoredList)) : Type 0 where
+    pub left : AreLeft stay (stored_under old own) (stored_under new own)
+    pub others : KeepsOthers (stored_under old) (stored_under new) own
+
+  -- the limits leave the text that was used last alone, but for its oldest responses
+  abbrev pub KeepsBounds : List ℕ → ℕ → List (String Y × StoredList) → List (String Y × StoredList) → Type 0
+  KeepsBounds own stay old new = is_last_used old own → IsBounded own stay old new
+
+  -- the text is the last one, which was used longest ago
+  pub record IsLastText (es : List (String Y × StoredList)) (text : List ℕ) : Type 0 where
+    pub front : List (String Y × StoredList)
+    pub key : String Y
+    pub kept : StoredList
+    pub last : es ≡ front ++ (key, kept) ∷ []
+    pub is : is_text text key ≡ true
+
+  -- the last entry, swept, is the first one
+  pub record IsTurned (now : ℤ) (old new : List (String Y × StoredList)) : Type 0 where
+    pub front : List (String Y × StoredList)
+    pub key : String Y
+    pub was : StoredList
+    pub is : StoredList
+    pub last : old ≡ front ++ (key, was) ∷ []
+    pub swept : all_seen is ≡ usable now (all_seen was)
+    pub first : new ≡ (key, is) ∷ front
+
+  -- that, or it is removed, where nothing of it is left
+  pub record IsTurnedOrRemoved (now : ℤ) (old new : List (String Y × StoredList)) : Type 0 where
+    pub front : List (String Y × StoredList)
+    pub key : String Y
+    pub was : StoredList
+    pub is : StoredList
+    pub last : old ≡ front ++ (key, was) ∷ []
+    pub swept : all_seen is ≡ usable now (all_seen was)
+    pub first : (new ≡ (key, is) ∷ front) ⊎ ((new ≡ front) × (all_seen is ≡ []))
+
+  -- the first entry, of which nothing is left, is removed
+  pub record IsFirstDropped (old new : List (String Y × StoredList)) : Type 0 where
+    pub key : String Y
+    pub kept : StoredList
+    pub is : old ≡ (key, kept) ∷ new
+    pub spent : all_seen kept ≡ []

@@ -1,0 +1,146 @@
+//! Removes under every text what can't be used again, in one round over the map.
+//!
+//! The map lends a list only by its key, so each turn copies the key of the last entry into a buffer,
+//! sweeps that entry and makes it the first. After as many turns as entries the order is as before.
+ghost use Rattle.std.specs.Prelude.{◌≡◌, ◌⊎◌, ◌<◌, ◌≤◌, [], true, length, slice_get, string_bytes, string_capacity, IfSome, OnOk, OnErr};
+ghost use Rattle.http_cache_shelf.specs.Shelf.{IsSwept};
+ghost use Rattle.http_cache_shelf.specs.Memory.{stored_under, all_seen, AreTextsWithin, IsLastText, IsTurned, IsTurnedOrRemoved, IsFirstDropped};
+
+use crate::memory::list::StoredList;
+use crate::memory::size::Amount;
+use jiff::Timestamp;
+use lru::LruCache;
+use std::alloc::AllocError;
+
+/// Empties a buffer and makes room in it for a text of some length.
+///
+/// # Errors
+///
+/// Returns `AllocError` when out of memory.
+pub(crate) fn make_room(buffer: &mut String, length: usize) -> Result<(), AllocError>
+    ensures { OnOk result (length ≤ string_capacity buffer.new) }
+{
+    buffer.clear();
+    buffer.reserve(length)
+}
+
+fn longest_text(kept: &LruCache<String, StoredList>) -> usize
+    ensures { AreTextsWithin result kept.now.entries }
+{
+    let mut longest = 0;
+    for (text, _list) in kept.iter() {
+        longest = longest.max(text.as_str().len());
+    }
+    longest
+}
+
+// Copies a text into a buffer that has room for it.
+fn copy_text(buffer: &mut String, text: &str)
+    requires { length text.now ≤ string_capacity buffer.old }
+    ensures bytes { string_bytes buffer.new ≡ text.now }
+    ensures capacity { string_capacity buffer.old ≤ string_capacity buffer.new }
+{
+    buffer.clear();
+    match buffer.push_str(text) {
+        Ok(()) => {}
+        Err(_) => unreachable!(),
+    }
+}
+
+// Copies the text that was used longest ago.
+fn copy_last(kept: &LruCache<String, StoredList>, buffer: &mut String)
+    requires some { 0 < length kept.now.entries }
+    requires room { AreTextsWithin (string_capacity buffer.old) kept.now.entries }
+    ensures last { IsLastText kept.now.entries (string_bytes buffer.new) }
+    ensures capacity { string_capacity buffer.old ≤ string_capacity buffer.new }
+{
+    match kept.peek_lru() {
+        Some((text, _list)) => copy_text(buffer, text.as_str()),
+        None => unreachable!(),
+    }
+}
+
+// Sweeps the list of the text that was used longest ago, and makes it the one that was used last.
+fn turn(kept: &mut LruCache<String, StoredList>, text: &str, now: Timestamp) -> Amount
+    requires { IsLastText kept.old.entries text.now }
+    ensures { IsTurned now.nanosecond kept.old.entries kept.new.entries }
+{
+    // The length comes with the proof that no text is a key twice.
+    let _length = kept.len();
+    match kept.get_mut(text) {
+        Some(list) => list.sweep(now),
+        None => unreachable!(),
+    }
+}
+
+// Whether the list of the text that was used last is empty.
+fn is_first_spent(kept: &LruCache<String, StoredList>) -> bool
+    ensures { result ≡ true → IfSome (slice_get kept.now.entries 0) (λ e. all_seen e.1 ≡ []) }
+{
+    match kept.peek_mru() {
+        Some((_text, list)) => list.responses.is_empty(),
+        None => false,
+    }
+}
+
+// Removes the text that was used last if its list is empty.
+fn tidy_first(kept: &mut LruCache<String, StoredList>)
+    ensures { (kept.new.entries ≡ kept.old.entries) ⊎ IsFirstDropped kept.old.entries kept.new.entries }
+{
+    if is_first_spent(kept) {
+        drop(kept.pop_mru());
+    }
+}
+
+// Sweeps the last entry, and removes it if nothing of it is left.
+fn sweep_last(
+    kept: &mut LruCache<String, StoredList>,
+    buffer: &mut String,
+    now: Timestamp,
+) -> Amount
+    requires some { 0 < length kept.old.entries }
+    requires room { AreTextsWithin (string_capacity buffer.old) kept.old.entries }
+    ensures turned { IsTurnedOrRemoved now.nanosecond kept.old.entries kept.new.entries }
+    ensures capacity { string_capacity buffer.old ≤ string_capacity buffer.new }
+{
+    copy_last(kept, buffer);
+    let removed = turn(kept, buffer.as_str(), now);
+    tidy_first(kept);
+    removed
+}
+
+fn sweep_each(
+    kept: &mut LruCache<String, StoredList>,
+    buffer: &mut String,
+    now: Timestamp,
+) -> Amount
+    requires { AreTextsWithin (string_capacity buffer.old) kept.old.entries }
+    ensures { IsSwept now.nanosecond (stored_under kept.old.entries) (stored_under kept.new.entries) }
+{
+    let count = kept.len();
+    let mut removed = Amount::none();
+    for _swept in 0..count {
+        let more = sweep_last(kept, buffer, now);
+        removed = removed.plus(more);
+    }
+    removed
+}
+
+/// Removes under every text what can't be used again at a time, and returns what was removed. The
+/// buffer has room already if `make_room` was called for each text.
+///
+/// # Errors
+///
+/// Returns `AllocError` if the buffer has no room and there is no memory for it.
+pub(crate) fn sweep_all(
+    kept: &mut LruCache<String, StoredList>,
+    buffer: &mut String,
+    now: Timestamp,
+) -> Result<Amount, AllocError>
+    ensures swept { OnOk result
+        (IsSwept now.nanosecond (stored_under kept.old.entries) (stored_under kept.new.entries)) }
+    ensures kept { OnErr result (kept.new ≡ kept.old) }
+{
+    make_room(buffer, longest_text(kept))?;
+    Ok(sweep_each(kept, buffer, now))
+}
