@@ -38,12 +38,8 @@ enum Verdict {
     NotCached,
 }
 
-// The client's own request, which a stored response may answer if the origin fails.
-fn forwarded(stored: &StoredResponse, why: Why) -> Verdict {
-    Verdict::Forward(Forwarded::of(Some(stored.id), why))
-}
-
-// The validation of a stored response; None if it has no validator, or its request can't be made.
+// The validation of a stored response, or the client's own request if that has no validator or the
+// request of the validation can't be made.
 fn validation_of(
     alloc: Global,
     stored: &StoredResponse,
@@ -57,7 +53,7 @@ fn validation_of(
         → IsVerdictOf all (headers_of (head_of incoming.now.request.now).headers) verdict) }
 {
     if !has_validator(stored.policy.stored_headers()) {
-        return Ok(forwarded(stored, said));
+        return Ok(Verdict::Forward(Forwarded::of(Some(stored.id), said)));
     }
     match validation_request(alloc, incoming.request(), &stored.policy) {
         Ok(request) => Ok(Verdict::Validate(Validation {
@@ -66,7 +62,7 @@ fn validation_of(
             request,
         })),
         Err(CacheError::Memory) => Err(AllocError),
-        Err(_) => Ok(forwarded(stored, said)),
+        Err(_) => Ok(Verdict::Forward(Forwarded::of(Some(stored.id), said))),
     }
 }
 

@@ -1,11 +1,14 @@
 //! What is done with the outcome of a request that was sent.
 ghost use Rattle.std.specs.Prelude.{◌≡◌, ◌≢◌, ◌⊎◌, true, false, None, IfOk, IfSome, OnErr};
+ghost use Rattle.http.specs.Request.{head_of as head_of_request};
 ghost use Rattle.http.specs.Response.{head_of, body_of};
+ghost use Rattle.http_cache_fields.specs.Headers.{headers_of};
 ghost use Rattle.http_cache_shelf.specs.Shelf.{KeepsAll};
 ghost use Rattle.http_cache_client.specs.Plan.{Stores, IsElsewhere, IsWhole, IsKnownPlan};
 ghost use Rattle.http_cache_client.specs.Receive.{IsWholeResponse, MayBeStored, HasCondition, is_failure};
 ghost use Rattle.http_cache_client.specs.Receive.{IsRenewalFor, IsConditionalReceipt, KeepsBodyPlace};
 ghost use Rattle.http_cache_client.specs.Receive.{HasBodyHere, IsAfterA304};
+ghost use Rattle.http_cache_client.specs.Reply.{IsConditionalReply};
 
 use crate::body::Body;
 use crate::client::{Client, Settled};
@@ -42,7 +45,10 @@ fn stale_reply(
     id: ResponseId,
     incoming: &Incoming<'_>,
     now: Timestamp,
-) -> Result<Option<Reply>, AllocError> {
+) -> Result<Option<Reply>, AllocError>
+    ensures { IfOk result (IsConditionalReply
+        (headers_of (head_of_request incoming.now.request.now).headers)) }
+{
     let Some(one) = of_id(stored, id) else {
         return Ok(None);
     };
@@ -458,6 +464,8 @@ impl<S: Shelf + Drop> Client<S> {
         why: &Why,
         renewal: Renewal,
     ) -> Result<Option<Response<Body>>, AllocError>
+        requires stored { ¬ (Stores renewal.plan.change) }
+        requires known { renewal.plan.is_known ≡ false }
         ensures kept { OnErr result (KeepsAll (S.stored self.old.shelf) (S.next_id self.old.shelf)
             (S.stored self.new.shelf) (S.next_id self.new.shelf)) }
         ensures lost { IfOk result (λ answer. answer ≡ None
