@@ -137,7 +137,7 @@ fn set_policy_at(
     at: usize,
     policy: CachePolicy,
 ) -> (u64, u64)
-    requires { at < vec_len responses.old }
+    requires { at < length responses.old.items }
     ensures { IsRenewedAt at policy responses.old.items responses.new.items }
 {
     let stored = &mut responses[at];
