@@ -25,7 +25,6 @@ module _ {X : Type 0} (P : X → Type 0) where
         | false ↦ λ q. rw q (some p xs (All-tail P x xs h))
       ]) refl
 
-
 -- a policy that is replaced leaves the ids
 pub below-renewed : (n id : ℕ) (e : Exchange) (xs : List StoredSeen) → AreIdsBelow n xs → AreIdsBelow n (renewed id e xs)
 below-renewed n id e [] h = h

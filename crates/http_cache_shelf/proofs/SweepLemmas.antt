@@ -173,7 +173,12 @@ module _ {Y : Type 0} where
   pub turned-or-removed : (now : ℤ) (old mid new : List (String Y × StoredList)) → IsTurned now old mid
       → (new ≡ mid) ⊎ IsFirstDropped mid new → IsTurnedOrRemoved now old new
   turned-or-removed now old mid new t (inl same) = record {
-    front = t.front; key = t.key; was = t.was; is = t.is; last = t.last; swept = t.swept;
+    front = t.front;
+    key = t.key;
+    was = t.was;
+    is = t.is;
+    last = t.last;
+    swept = t.swept;
     first = inl (same ∙ t.first);
   }
   turned-or-removed now old mid new t (inr d) =
@@ -182,7 +187,12 @@ module _ {Y : Type 0} where
       let first : (d.key, d.kept) ≡ (t.key, t.is) = cc in
       let list : t.is ≡ d.kept = value-of (d.key, d.kept) (t.key, t.is) first in
       record {
-        front = t.front; key = t.key; was = t.was; is = t.is; last = t.last; swept = t.swept;
+        front = t.front;
+        key = t.key;
+        was = t.was;
+        is = t.is;
+        last = t.last;
+        swept = t.swept;
         first = inr (rest, ap all_seen list ∙ d.spent);
       }
 
@@ -198,7 +208,9 @@ module _ {Y : Type 0} where
 
   pub sweep-start : (now : ℤ) (es : List (String Y × StoredList)) → Sweeping now es es (length es)
   sweep-start now es = record {
-    front = es; done = []; back = [];
+    front = es;
+    done = [];
+    back = [];
     whole = sym (append-nil es);
     is = refl;
     swept = λ text. refl;
@@ -254,19 +266,23 @@ module _ {Y : Type 0} where
       let count : length g ≡ rest = omega (arith, s.count) in
       elim t.first [
         | inl first ↦ record {
-            front = g; done = (t.key, t.is) ∷ s.done; back = e ∷ s.back;
-            whole = whole;
-            is = first ∙ ap (λ (l : List (String Y × StoredList)). (t.key, t.is) ∷ l) split.2;
-            swept = swept-more now t.key t.was t.is s.done s.back s.swept t.swept;
-            count = count;
-          }
+          front = g;
+          done = (t.key, t.is) ∷ s.done;
+          back = e ∷ s.back;
+          whole = whole;
+          is = first ∙ ap (λ (l : List (String Y × StoredList)). (t.key, t.is) ∷ l) split.2;
+          swept = swept-more now t.key t.was t.is s.done s.back s.swept t.swept;
+          count = count;
+        }
         | inr removed ↦ record {
-            front = g; done = s.done; back = e ∷ s.back;
-            whole = whole;
-            is = removed.0 ∙ split.2;
-            swept = swept-none now t.key t.was t.is s.done s.back s.swept t.swept removed.1 apart;
-            count = count;
-          }
+          front = g;
+          done = s.done;
+          back = e ∷ s.back;
+          whole = whole;
+          is = removed.0 ∙ split.2;
+          swept = swept-none now t.key t.was t.is s.done s.back s.swept t.swept removed.1 apart;
+          count = count;
+        }
       ]
 
   -- the longest text so far covers the texts that are left

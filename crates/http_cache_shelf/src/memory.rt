@@ -14,10 +14,11 @@ pub(crate) mod size;
 pub(crate) mod sweep;
 
 pub use crate::memory::bounds::Limits;
-
 use crate::memory::bounds::keep_limits;
 use crate::memory::list::{StoredList, body_among};
-use crate::memory::map::{first_stored, promote, put_stored, remove_ids, remove_texts, set_policy, tidy};
+use crate::memory::map::{
+    first_stored, promote, put_stored, remove_ids, remove_texts, set_policy, tidy,
+};
 use crate::memory::size::{Amount, response_size};
 use crate::memory::sweep::{make_room, sweep_all};
 use crate::shelf::{ResponseId, Shelf, ShelfError, StoredResponse};
@@ -172,7 +173,14 @@ impl Shelf for MemoryShelf {
             body: Some(body),
         };
         make_room(&mut self.buffer, target.as_str().len())?;
-        let removed = put_stored(&mut self.kept, self.alloc, target.as_str(), superseded, stored, size)?;
+        let removed = put_stored(
+            &mut self.kept,
+            self.alloc,
+            target.as_str(),
+            superseded,
+            stored,
+            size,
+        )?;
         self.next_id += 1;
         self.held = self.held.minus(removed).plus(Amount {
             responses: 1,

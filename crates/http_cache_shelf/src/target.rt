@@ -91,7 +91,12 @@ impl<'a> Origin<'a> {
     }
 
     // The target of the path of a reference, whose dot segments are removed first.
-    fn resolved(self, alloc: Global, path: &str, query: Option<&str>) -> Result<Target, AllocError> {
+    fn resolved(
+        self,
+        alloc: Global,
+        path: &str,
+        query: Option<&str>,
+    ) -> Result<Target, AllocError> {
         let path = without_dots(alloc, path)?;
         self.target(alloc, path.as_str(), query)
     }

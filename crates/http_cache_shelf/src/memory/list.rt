@@ -68,7 +68,10 @@ fn drop_until(responses: &mut Vec<StoredResponse>, stay: usize, most: usize, byt
     }
 }
 
-fn push_newest(responses: &mut Vec<StoredResponse>, stored: StoredResponse) -> Result<(), ShelfError>
+fn push_newest(
+    responses: &mut Vec<StoredResponse>,
+    stored: StoredResponse,
+) -> Result<(), ShelfError>
     ensures ok { OnOk result (responses.new.items ≡ stored ∷ responses.old.items) }
     ensures kept { OnErr result (responses.new.items ≡ responses.old.items) }
     ensures succeeds { vec_len responses.old < vec_capacity responses.old → IsOk result }
@@ -132,12 +135,8 @@ fn replace_policy(stored: &mut StoredResponse, policy: CachePolicy)
 }
 
 // Replaces the policy of the response at an index, and returns its size before and after.
-fn set_policy_at(
-    responses: &mut Vec<StoredResponse>,
-    at: usize,
-    policy: CachePolicy,
-) -> (u64, u64)
-    requires { at < vec_len responses.old }
+fn set_policy_at(responses: &mut Vec<StoredResponse>, at: usize, policy: CachePolicy) -> (u64, u64)
+    requires { at < length responses.old.items }
     ensures { IsRenewedAt at policy responses.old.items responses.new.items }
 {
     let stored = &mut responses[at];

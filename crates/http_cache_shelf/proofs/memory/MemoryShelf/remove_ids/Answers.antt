@@ -9,5 +9,7 @@ invariant_of-self c =
     let old = stored_under c.args.self.now.kept.entries in
     let mid = stored_under c.remove_ids-removed.new.kept.entries in
     let new = stored_under c.tidy.new.kept.entries in
-    record { ids_below = below-equal next mid new c.tidy.ensures
-    (below-removed_ids next c.as_str.result.now c.args.ids.now old mid c.remove_ids-removed.ensures c.args.self.now.ids_below) }
+    record {
+      ids_below = below-equal next mid new c.tidy.ensures
+          (below-removed_ids next c.as_str.result.now c.args.ids.now old mid c.remove_ids-removed.ensures c.args.self.now.ids_below);
+    }

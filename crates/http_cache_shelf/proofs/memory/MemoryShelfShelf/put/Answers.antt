@@ -9,8 +9,10 @@ use Rattle.http_cache_shelf.proofs.memory.MemoryShelfShelf.put.Goals as goal
 
 pub invariant_of-self-in-Break-branch-2 : goal.invariant_of-self-in-Break-branch-2
 invariant_of-self-in-Break-branch-2 c =
-    record { ids_below = below-equal c.args.self.now.next_id (stored_under c.args.self.now.kept.entries)
-        (stored_under c.put_stored.new.kept.entries) c.in_err-removed.ensures.kept c.args.self.now.ids_below }
+    record {
+      ids_below = below-equal c.args.self.now.next_id (stored_under c.args.self.now.kept.entries)
+          (stored_under c.put_stored.new.kept.entries) c.in_err-removed.ensures.kept c.args.self.now.ids_below;
+    }
 
 pub returns-in_err-removed-clause-others : goal.returns-in_err-removed-clause-others
 returns-in_err-removed-clause-others c = λ other differ. inl (ap (λ (f : StoredByTarget). f other) c.in_err-removed.ensures.kept)
@@ -18,9 +20,11 @@ returns-in_err-removed-clause-others c = λ other differ. inl (ap (λ (f : Store
 pub invariant_of-self-2 : goal.invariant_of-self-2
 invariant_of-self-2 c =
     let seen : StoredSeen = record { id = c.new-id.result.0; exchange = c.args.policy; body = c.args.body } in
-    record { ids_below = below-put c.args.self.now.next_id c.as_str-2.result.now seen c.args.superseded.now
-        c.args.self.now.kept.entries c.put_stored.new.kept.entries c.new-id.ensures c.in_ok-removed.ensures.ok
-        c.args.self.now.ids_below }
+    record {
+      ids_below = below-put c.args.self.now.next_id c.as_str-2.result.now seen c.args.superseded.now
+          c.args.self.now.kept.entries c.put_stored.new.kept.entries c.new-id.ensures c.in_ok-removed.ensures.ok
+          c.args.self.now.ids_below;
+    }
 
 pub returns-clause-put : goal.returns-clause-put
 returns-clause-put c =

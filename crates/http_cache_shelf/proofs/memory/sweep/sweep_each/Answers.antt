@@ -16,11 +16,12 @@ loop-swept-preserved c =
     let new = c.sweep_last-more.new.kept.entries in
     let now = c.args.now.nanosecond in
     let count : c.len-count.result ≡ length es = c.len-count.ensures.len in
-    let more : length es - c.loop-swept._swept ≡ (length es - (c.loop-swept._swept + 1)) + 1 = omega arith in
-    (sweep-step now es old new (length es - c.loop-swept._swept) (length es - (c.loop-swept._swept + 1)) c.len-count.ensures.valid.0
-    c.loop-swept.invariant.0 more c.sweep_last-more.ensures.turned,
-    within-turned now (string_capacity c.loop-swept.buffer) (string_capacity c.sweep_last-more.new.buffer) old new
-    c.sweep_last-more.ensures.turned c.sweep_last-more.ensures.capacity c.loop-swept.invariant.1)
+    let more : length es - c.loop-swept._swept ≡ (length es - (c.loop-swept._swept + 1)) + 1 = omega arith in (
+      sweep-step now es old new (length es - c.loop-swept._swept) (length es - (c.loop-swept._swept + 1)) c.len-count.ensures.valid.0
+          c.loop-swept.invariant.0 more c.sweep_last-more.ensures.turned,
+      within-turned now (string_capacity c.loop-swept.buffer) (string_capacity c.sweep_last-more.new.buffer) old new
+          c.sweep_last-more.ensures.turned c.sweep_last-more.ensures.capacity c.loop-swept.invariant.1,
+    )
 
 pub returns : goal.returns
 returns c =
