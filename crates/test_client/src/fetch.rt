@@ -37,7 +37,7 @@ fn methods() -> &'static str {
        6|GET /h|Cache-Control: only-if-cached|none|504|C; detail="only-if-cached"|
        7|GET /h||200 ^ Cache-Control: max-age=10 ^ again|200 again|C; fwd=uri-miss; fwd-status=200; stored; ttl=10|GET
        8|PUT /p||201 ^ Location: /h ^ made|201 made|C; fwd=method; fwd-status=201|PUT
-       9|GET /h||404 ^^ gone|404 gone|C; fwd=uri-miss; fwd-status=404|GET"#
+       9|GET /h||404 ^ Cache-Control: no-store ^ gone|404 gone|C; fwd=uri-miss; fwd-status=404|GET"#
 }
 
 // A stale response where the origin fails, for a hundred seconds and no longer.

@@ -150,12 +150,13 @@ pub fn values_of(alloc: Global, headers: &HeaderMap, name: &str) -> Result<Strin
     Ok(text)
 }
 
-/// Returns the text of an answer: its status and body, and its Cache-Status.
+/// Returns the text of an answer: its status and its body, if it has one, and its Cache-Status.
 pub fn text_of(alloc: Global, answer: &Response<Bytes>) -> Result<String, Fail> {
     let status = answer.status().as_u16();
     let body = str::from_utf8(answer.body().as_slice())?;
     let caches = values_of(alloc, answer.headers(), CACHE_STATUS.as_str())?;
-    Ok(format!(in alloc; "{status} {body}|{caches}")?)
+    let answer = format!(in alloc; "{status} {body}")?;
+    Ok(format!(in alloc; "{}|{caches}", answer.as_str().trim())?)
 }
 
 fn fetched(

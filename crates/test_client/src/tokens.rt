@@ -5,6 +5,7 @@ use http::{Request, Response};
 use http_cache_client::{Body, Decision, Forwarded, Received, Times, Validation};
 use http_cache_semantics::directives::GetHeaderStr;
 use std::alloc::Global;
+use std::process::Abort;
 use std::test::Fail;
 
 // A response that is stale after ten seconds.
@@ -20,9 +21,9 @@ fn times(sent: i64, received: i64) -> Result<Times, Fail> {
     })
 }
 
-fn client_with(rt: &HostRuntime, rows: &str) -> Result<MemoryClient, Fail> {
-    let mut client = new_client(rt.alloc())?;
-    check(rt, rt.alloc(), &mut client, rows)?;
+fn client_with(rt: &impl Abort, alloc: Global, rows: &str) -> Result<MemoryClient, Fail> {
+    let mut client = new_client(alloc)?;
+    check(rt, alloc, &mut client, rows)?;
     Ok(client)
 }
 
@@ -90,7 +91,7 @@ fn number_of(validation: &Validation) -> Result<u64, Fail> {
 
 #[test]
 fn ids_are_never_reused(rt: HostRuntime) -> Result<(), Fail> {
-    let mut client = client_with(&rt, STORED)?;
+    let mut client = client_with(&rt, rt.alloc(), STORED)?;
     let first = validation_at(rt.alloc(), &mut client, 20)?;
     let rows = r#"21|POST /a||200 ^^ done|200 done|C; fwd=method; fwd-status=200|POST
         22|GET /a||200 ^ Cache-Control: max-age=10 ~ ETag: "1" ^ one|200 one|C; fwd=uri-miss; fwd-status=200; stored; ttl=10|GET"#;
@@ -102,7 +103,7 @@ fn ids_are_never_reused(rt: HostRuntime) -> Result<(), Fail> {
 
 #[test]
 fn a_validation_of_what_was_replaced_confirms_nothing(rt: HostRuntime) -> Result<(), Fail> {
-    let mut client = client_with(&rt, STORED)?;
+    let mut client = client_with(&rt, rt.alloc(), STORED)?;
     let mut validation = validation_at(rt.alloc(), &mut client, 20)?;
     let row = r#"21|GET /a||200 ^ Cache-Control: max-age=10 ~ ETag: "1" ^ two|200 two|C; fwd=stale; fwd-status=200; stored; ttl=10|GET "1""#;
     check(&rt, rt.alloc(), &mut client, row)?;
@@ -127,7 +128,7 @@ fn stale_text(alloc: Global, client: &mut MemoryClient, seconds: i64) -> Result<
 
 #[test]
 fn a_stale_answer_comes_with_the_validation_that_is_due(rt: HostRuntime) -> Result<(), Fail> {
-    let mut client = client_with(&rt, STORED_FOR_LONGER)?;
+    let mut client = client_with(&rt, rt.alloc(), STORED_FOR_LONGER)?;
     let text = stale_text(rt.alloc(), &mut client, 20)?;
     let wanted = r#"200 one|C; hit; ttl=-10; detail="stale-while-revalidate"|"1""#;
     assert_eq!(rt; text.as_str(), wanted);
@@ -153,11 +154,11 @@ fn text_without_response(
 
 #[test]
 fn a_stale_response_may_answer_without_a_response(rt: HostRuntime) -> Result<(), Fail> {
-    let mut client = client_with(&rt, STORED_FOR_LONGER)?;
+    let mut client = client_with(&rt, rt.alloc(), STORED_FOR_LONGER)?;
     let text = text_without_response(rt.alloc(), &mut client, 20)?;
     let wanted = r#"200 one|C; fwd=stale; ttl=-10; detail="stale-if-error""#;
     assert_eq!(rt; text.as_str(), wanted);
-    let mut client = client_with(&rt, STORED)?;
+    let mut client = client_with(&rt, rt.alloc(), STORED)?;
     let text = text_without_response(rt.alloc(), &mut client, 20)?;
     assert_eq!(rt; text.as_str(), "nothing");
     Ok(())
@@ -187,6 +188,6 @@ fn a_body_that_is_kept_elsewhere_is_never_stored(rt: HostRuntime) -> Result<(), 
     let text = text_of_elsewhere(rt.alloc(), &mut client, &mut token)?;
     assert_eq!(rt; text.as_str(), "4|C; fwd=uri-miss; fwd-status=200");
     assert!(rt; client.shelf().is_empty());
-    let row = "1|GET /a||404 ^^ none|404 none|C; fwd=uri-miss; fwd-status=404|GET";
+    let row = "1|GET /a||404 ^ Cache-Control: no-store ^ none|404 none|C; fwd=uri-miss; fwd-status=404|GET";
     check(&rt, rt.alloc(), &mut client, row)
 }
