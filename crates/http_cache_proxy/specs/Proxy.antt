@@ -15,7 +15,7 @@ use Rattle.http_cache_semantics.specs.Headers.{headers_of}
 use Rattle.http_cache_semantics.specs.Dates.{IsDateText}
 use Rattle.http_cache_semantics.specs.Forwarding.{forwarded_headers}
 use Rattle.http_cache_shelf.specs.Shelf.{StoredByTarget, KeepsAll}
-use Rattle.http_cache_client.specs.Fetch.{Sends, IsSentTwiceAtMost}
+use Rattle.http_cache_client.specs.Fetch.{Outcome, Sends, HasSentBoth, HasSentTwiceAtMost}
 use Rattle.http_cache_proxy.specs.declared.proxy.Failure.{Failure}
 use Rattle.http_cache_proxy.specs.declared.proxy.Failure.TheVariants.{Memory, NoResponse, Clock}
 
@@ -91,16 +91,35 @@ pub record IsAnswered (response : Response) : Type 0 where
   pub answer : Answer (List ℕ)
   pub is_sent : IsSent now answer response
 
+module _ {O : Type 0} (sent : Sends O) (before after : O) where
+  -- the origin was sent nothing, or what a client sends for the request without what speaks of the
+  -- connection that it came by: one request, or a second one after a 304
+  abbrev pub IsSentTwiceAtMost : Request (List ℕ) → Type 0
+  IsSentTwiceAtMost request =
+      (after ≡ before)
+      ⊎ ((forwarded : Request (List ℕ)) × IsForwarded request forwarded
+      × HasSentTwiceAtMost sent before after forwarded)
+
+  -- the origin was sent two requests for it
+  abbrev pub IsSentTwice : Request (List ℕ) → Type 0
+  IsSentTwice request =
+      (forwarded : Request (List ℕ)) × (outcome : Outcome)
+      × (IsForwarded request forwarded × HasSentBoth sent before after forwarded outcome)
+
 module _ {O : Type 0} (sent : Sends O) (before after : O)
     (old : StoredByTarget) (next_before : ℕ) (new : StoredByTarget) (next_after : ℕ) where
-  -- there is no answer, and what is stored is as it was
-  pub record IsUnanswered (response : Response) : Type 0 where
+  -- what is stored is as it was, unless the origin was sent two requests
+  abbrev pub HasKept : Request (List ℕ) → Type 0
+  HasKept request = KeepsAll old next_before new next_after ⊎ IsSentTwice sent before after request
+
+  -- there is no answer
+  pub record IsUnanswered (request : Request (List ℕ)) (response : Response) : Type 0 where
     pub cause : Failure
     pub is_failure : IsFailure cause response
-    pub kept : KeepsAll old next_before new next_after
+    pub kept : HasKept request
 
-  -- the origin was sent two requests at most, and the response is an answer or a failure; where an answer
-  -- can't be written out, for want of memory, what is stored may have changed
-  pub record IsProxied (response : Response) : Type 0 where
-    pub twice : IsSentTwiceAtMost sent before after
-    pub answered : IsAnswered response ⊎ (IsUnanswered response ⊎ IsFailure Memory response)
+  -- the response is an answer or a failure; where an answer can't be written out, for want of memory,
+  -- what is stored may have changed
+  pub record IsProxied (request : Request (List ℕ)) (response : Response) : Type 0 where
+    pub twice : IsSentTwiceAtMost sent before after request
+    pub answered : IsAnswered response ⊎ (IsUnanswered request response ⊎ IsFailure Memory response)

@@ -1,8 +1,6 @@
 //! A caching proxy: a client and its origin behind a service of `http_server`.
 ghost use Rattle.std.specs.Prelude.{◌≤ℤ◌, pos, IfOk, OnErr};
-ghost use Rattle.http_cache_shelf.specs.Shelf.{KeepsAll};
-ghost use Rattle.http_cache_client.specs.Fetch.{IsSentTwiceAtMost};
-ghost use Rattle.http_cache_proxy.specs.Proxy.{IsProxied};
+ghost use Rattle.http_cache_proxy.specs.Proxy.{IsSentTwiceAtMost, HasKept, IsProxied};
 
 use crate::answer::{fail, fill};
 use crate::forward::forwarded;
@@ -47,10 +45,10 @@ where
     // The response to a request, and the time at which the request was received.
     fn fetch(&mut self, request: &Request<Bytes>) -> Result<(Answer<Bytes>, Timestamp), Failure>
         ensures since_1970 { IfOk result (λ answer. pos 0 ≤ℤ answer.1.nanosecond) }
-        ensures kept { OnErr result (KeepsAll
+        ensures twice { IsSentTwiceAtMost O.sent self.old.origin self.new.origin request.now }
+        ensures kept { OnErr result (HasKept O.sent self.old.origin self.new.origin
             (S.stored self.old.client.shelf) (S.next_id self.old.client.shelf)
-            (S.stored self.new.client.shelf) (S.next_id self.new.client.shelf)) }
-        ensures twice { IsSentTwiceAtMost O.sent self.old.origin self.new.origin }
+            (S.stored self.new.client.shelf) (S.next_id self.new.client.shelf) request.now) }
     {
         let Ok(now) = Timestamp::now(self.clock) else {
             return Err(Failure::Clock);
@@ -75,7 +73,7 @@ where
 {
     ghost answers = { λ old request response new. IsProxied O.sent old.origin new.origin
         (S.stored old.client.shelf) (S.next_id old.client.shelf)
-        (S.stored new.client.shelf) (S.next_id new.client.shelf) response };
+        (S.stored new.client.shelf) (S.next_id new.client.shelf) request response };
 
     fn call(
         &mut self,
