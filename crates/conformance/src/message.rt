@@ -2,8 +2,9 @@
 use crate::text::{bytes_of_latin_1, bytes_under, latin_1_of_bytes, text_under};
 use bytes::Bytes;
 use http::header::HeaderName;
-use http::{HeaderMap, HeaderValue, Method, Request, Response, StatusCode, Uri, Version};
-use http::{request, response};
+use http::{
+    HeaderMap, HeaderValue, Method, Request, Response, StatusCode, Uri, Version, request, response,
+};
 use serde_json::{Value, json};
 use std::alloc::{AllocError, Global};
 

@@ -16,14 +16,16 @@ fn check_new(rt: &impl Abort, alloc: Global, rows: &str) -> Result<(), Fail> {
 
 #[test]
 fn the_second_of_two_equal_posts_reaches_the_origin(rt: HostRuntime) -> Result<(), Fail> {
-    let rows = r#"0|POST /a text|Content-Length: 4|200 ^ Cache-Control: max-age=10 ^ one|200 one|C; fwd=method; fwd-status=200|POST 4 text
+    let rows =
+        r#"0|POST /a text|Content-Length: 4|200 ^ Cache-Control: max-age=10 ^ one|200 one|C; fwd=method; fwd-status=200|POST 4 text
         1|POST /a text|Content-Length: 4|200 ^ Cache-Control: max-age=10 ^ two|200 two|C; fwd=method; fwd-status=200|POST 4 text"#;
     check_new(&rt, rt.alloc(), rows)
 }
 
 #[test]
 fn a_request_with_a_body_is_forwarded_whole(rt: HostRuntime) -> Result<(), Fail> {
-    let rows = r#"0|GET /a||200 ^ Cache-Control: max-age=10 ~ ETag: "1" ^ one|200 one|C; fwd=uri-miss; fwd-status=200; stored; ttl=10|GET
+    let rows =
+        r#"0|GET /a||200 ^ Cache-Control: max-age=10 ~ ETag: "1" ^ one|200 one|C; fwd=uri-miss; fwd-status=200; stored; ttl=10|GET
         5|GET /a text|Content-Length: 4|200 ^^ two|200 two|C; fwd=bypass; fwd-status=200|GET 4 text
         20|GET /a text|Content-Length: 4|200 ^^ two|200 two|C; fwd=bypass; fwd-status=200|GET 4 text"#;
     check_new(&rt, rt.alloc(), rows)
@@ -31,7 +33,8 @@ fn a_request_with_a_body_is_forwarded_whole(rt: HostRuntime) -> Result<(), Fail>
 
 #[test]
 fn an_unconditional_get_is_never_answered_by_an_empty_304(rt: HostRuntime) -> Result<(), Fail> {
-    let rows = r#"0|GET /a||200 ^ Cache-Control: max-age=10 ~ ETag: "1" ^ one|200 one|C; fwd=uri-miss; fwd-status=200; stored; ttl=10|GET
+    let rows =
+        r#"0|GET /a||200 ^ Cache-Control: max-age=10 ~ ETag: "1" ^ one|200 one|C; fwd=uri-miss; fwd-status=200; stored; ttl=10|GET
         20|GET /a||304 ^ ETag: "2" // 200 ^ Cache-Control: max-age=10 ~ ETag: "2" ^ two|200 two|C; fwd=stale; fwd-status=200; stored; ttl=10|GET "1", GET
         40|GET /a||304 ^ ETag: "2"|200 two|C; fwd=stale; fwd-status=304; stored; ttl=10|GET "2""#;
     check_new(&rt, rt.alloc(), rows)
@@ -39,7 +42,8 @@ fn an_unconditional_get_is_never_answered_by_an_empty_304(rt: HostRuntime) -> Re
 
 #[test]
 fn a_truncated_body_is_not_stored(rt: HostRuntime) -> Result<(), Fail> {
-    let rows = r#"0|GET /a||200 ^ Cache-Control: max-age=10 ~ Content-Length: 9 ^ half|200 half|C; fwd=uri-miss; fwd-status=200; detail="incomplete"|GET
+    let rows =
+        r#"0|GET /a||200 ^ Cache-Control: max-age=10 ~ Content-Length: 9 ^ half|200 half|C; fwd=uri-miss; fwd-status=200; detail="incomplete"|GET
         1|GET /a||200 ^ Cache-Control: max-age=10 ~ Content-Length: 5 ^ whole|200 whole|C; fwd=uri-miss; fwd-status=200; stored; ttl=10|GET"#;
     check_new(&rt, rt.alloc(), rows)
 }
@@ -61,7 +65,8 @@ fn values_in_hit(
 #[test]
 fn a_hit_has_both_of_two_lines_of_vary(rt: HostRuntime) -> Result<(), Fail> {
     let mut client = new_client(rt.alloc())?;
-    let rows = r#"0|GET /a|A: a ~ B: b|200 ^ Cache-Control: max-age=10 ~ Vary: A ~ Vary: B ^ one|200 one|C; fwd=uri-miss; fwd-status=200; stored; ttl=10|GET
+    let rows =
+        r#"0|GET /a|A: a ~ B: b|200 ^ Cache-Control: max-age=10 ~ Vary: A ~ Vary: B ^ one|200 one|C; fwd=uri-miss; fwd-status=200; stored; ttl=10|GET
         1|GET /a|A: a ~ B: c|404 ^ Cache-Control: no-store ^ other|404 other|C; fwd=vary-miss; fwd-status=404; detail="B"|GET"#;
     check(&rt, rt.alloc(), &mut client, rows)?;
     let asking = request_of(rt.alloc(), "GET /a", "A: a ~ B: b")?;
@@ -108,7 +113,8 @@ fn confirms_nothing(
 #[test]
 fn a_late_response_changes_no_other_target(rt: HostRuntime) -> Result<(), Fail> {
     let mut client = new_client(rt.alloc())?;
-    let stored = r#"0|GET /a||200 ^ Cache-Control: max-age=10 ~ ETag: "1" ^ one|200 one|C; fwd=uri-miss; fwd-status=200; stored; ttl=10|GET
+    let stored =
+        r#"0|GET /a||200 ^ Cache-Control: max-age=10 ~ ETag: "1" ^ one|200 one|C; fwd=uri-miss; fwd-status=200; stored; ttl=10|GET
         0|GET /b||200 ^ Cache-Control: max-age=100 ~ ETag: "1" ^ two|200 two|C; fwd=uri-miss; fwd-status=200; stored; ttl=100|GET"#;
     check(&rt, rt.alloc(), &mut client, stored)?;
     let asking = request_of(rt.alloc(), "GET /a", "")?;

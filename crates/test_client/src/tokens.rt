@@ -9,10 +9,12 @@ use std::process::Abort;
 use std::test::Fail;
 
 // A response that is stale after ten seconds.
-const STORED: &str = r#"0|GET /a||200 ^ Cache-Control: max-age=10 ~ ETag: "1" ^ one|200 one|C; fwd=uri-miss; fwd-status=200; stored; ttl=10|GET"#;
+const STORED: &str =
+    r#"0|GET /a||200 ^ Cache-Control: max-age=10 ~ ETag: "1" ^ one|200 one|C; fwd=uri-miss; fwd-status=200; stored; ttl=10|GET"#;
 
-// The same, which may be used stale for a hundred seconds more.
-const STORED_FOR_LONGER: &str = r#"0|GET /a||200 ^ Cache-Control: max-age=10, stale-while-revalidate=100, stale-if-error=100 ~ ETag: "1" ^ one|200 one|C; fwd=uri-miss; fwd-status=200; stored; ttl=10|GET"#;
+// A response that is stale after ten seconds, and may be used stale for a hundred seconds more.
+const STORED_FOR_LONGER: &str =
+    r#"0|GET /a||200 ^ Cache-Control: max-age=10, stale-while-revalidate=100, stale-if-error=100 ~ ETag: "1" ^ one|200 one|C; fwd=uri-miss; fwd-status=200; stored; ttl=10|GET"#;
 
 fn times(sent: i64, received: i64) -> Result<Times, Fail> {
     Ok(Times {
@@ -45,11 +47,7 @@ fn validation_at(
 }
 
 // The token of a request for `/a` that is forwarded.
-fn forwarded_at(
-    alloc: Global,
-    client: &mut MemoryClient,
-    seconds: i64,
-) -> Result<Forwarded, Fail> {
+fn forwarded_at(alloc: Global, client: &mut MemoryClient, seconds: i64) -> Result<Forwarded, Fail> {
     match client.ask(alloc, &asking(alloc)?, at(seconds)?)? {
         Decision::Forward(forwarded) => Ok(forwarded),
         _ => Err("not forwarded")?,
@@ -105,13 +103,25 @@ fn ids_are_never_reused(rt: HostRuntime) -> Result<(), Fail> {
 fn a_validation_of_what_was_replaced_confirms_nothing(rt: HostRuntime) -> Result<(), Fail> {
     let mut client = client_with(&rt, rt.alloc(), STORED)?;
     let mut validation = validation_at(rt.alloc(), &mut client, 20)?;
-    let row = r#"21|GET /a||200 ^ Cache-Control: max-age=10 ~ ETag: "1" ^ two|200 two|C; fwd=stale; fwd-status=200; stored; ttl=10|GET "1""#;
+    let row =
+        r#"21|GET /a||200 ^ Cache-Control: max-age=10 ~ ETag: "1" ^ two|200 two|C; fwd=stale; fwd-status=200; stored; ttl=10|GET "1""#;
     check(&rt, rt.alloc(), &mut client, row)?;
     let late = r#"304 ^ ETag: "1""#;
-    let text = received_text(rt.alloc(), &mut client, &mut validation, late, times(20, 22)?)?;
+    let text = received_text(
+        rt.alloc(),
+        &mut client,
+        &mut validation,
+        late,
+        times(20, 22)?,
+    )?;
     assert_eq!(rt; text.as_str(), "again");
     assert!(rt; validation.id().is_none());
-    check(&rt, rt.alloc(), &mut client, "23|GET /a||none|200 two|C; hit; ttl=8|")
+    check(
+        &rt,
+        rt.alloc(),
+        &mut client,
+        "23|GET /a||none|200 two|C; hit; ttl=8|",
+    )
 }
 
 // The answer by a stale response, and the tag that its validation has.
@@ -135,8 +145,16 @@ fn a_stale_answer_comes_with_the_validation_that_is_due(rt: HostRuntime) -> Resu
     let mut due = validation_at(rt.alloc(), &mut client, 20)?;
     let same = r#"304 ^ ETag: "1""#;
     let text = received_text(rt.alloc(), &mut client, &mut due, same, times(20, 22)?)?;
-    assert_eq!(rt; text.as_str(), "200 one|C; fwd=stale; fwd-status=304; stored; ttl=8");
-    check(&rt, rt.alloc(), &mut client, "24|GET /a||none|200 one|C; hit; ttl=6|")
+    assert_eq!(rt;
+        text.as_str(),
+        "200 one|C; fwd=stale; fwd-status=304; stored; ttl=8"
+    );
+    check(
+        &rt,
+        rt.alloc(),
+        &mut client,
+        "24|GET /a||none|200 one|C; hit; ttl=6|",
+    )
 }
 
 // The stale answer for a validation of `/a` without a response.
@@ -188,6 +206,7 @@ fn a_body_that_is_kept_elsewhere_is_never_stored(rt: HostRuntime) -> Result<(), 
     let text = text_of_elsewhere(rt.alloc(), &mut client, &mut token)?;
     assert_eq!(rt; text.as_str(), "4|C; fwd=uri-miss; fwd-status=200");
     assert!(rt; client.shelf().is_empty());
-    let row = "1|GET /a||404 ^ Cache-Control: no-store ^ none|404 none|C; fwd=uri-miss; fwd-status=404|GET";
+    let row =
+        "1|GET /a||404 ^ Cache-Control: no-store ^ none|404 none|C; fwd=uri-miss; fwd-status=404|GET";
     check(&rt, rt.alloc(), &mut client, row)
 }
