@@ -3,12 +3,13 @@
 
 use bytes::Bytes;
 use http::{Request, Response};
+use http_cache_client::{Client, Origin};
 use http_cache_semantics::CacheOptions;
-use http_cache_uses::{Client, FetchError, Origin};
+use http_cache_shelf::{Limits, MemoryShelf};
 use jiff::Timestamp;
 use std::alloc::Global;
 
-// In the place of the network: a page that is fresh for ten seconds, and when it came.
+// In the place of the network: a page that is fresh for ten seconds, and the time of its response.
 #[derive(Drop)]
 struct Site {
     alloc: Global,
@@ -17,24 +18,26 @@ struct Site {
 }
 
 impl Origin for Site {
+    type Error = http::Error;
+
     ghost use Rattle.std.specs.Prelude.{⊤};
 
-    ghost sent = { λ before request answer after. ⊤ };
+    ghost sent = { λ before request response after. ⊤ };
 
-    fn send(&mut self, _: &Request<Bytes>) -> Result<(Response<Bytes>, Timestamp), FetchError> {
+    fn send(&mut self, _: &Request<Bytes>) -> Result<(Response<Bytes>, Timestamp), http::Error> {
         self.asked = self.asked.saturating_add(1);
-        let page = Response::builder(self.alloc).header("cache-control", "max-age=10");
-        match page.body(Bytes::from_static(b"a page")) {
-            Ok(page) => Ok((page, self.now)),
-            Err(_) => Err(FetchError::NoResponse),
-        }
+        let page = Response::builder(self.alloc)
+            .header("cache-control", "max-age=10")
+            .body(Bytes::from_static(b"a page"))?;
+        Ok((page, self.now))
     }
 }
 
 fn main(rt: HostRuntime) -> anyhow::Result<()> {
     let alloc = rt.alloc();
     let name = String::from_str(alloc, "first_answer")?;
-    let mut client = Client::new(alloc, CacheOptions::default(), name);
+    let shelf = MemoryShelf::new(alloc, Limits::default())?;
+    let mut client = Client::new(shelf, CacheOptions::default(), name);
     let mut site = Site {
         alloc,
         now: Timestamp::UNIX_EPOCH,

@@ -5,9 +5,10 @@ mod clock;
 mod site;
 
 use clock::StepClock;
+use http_cache_client::Client;
 use http_cache_proxy::Proxy;
 use http_cache_semantics::CacheOptions;
-use http_cache_uses::Client;
+use http_cache_shelf::{Limits, MemoryShelf};
 use http_server::{Config, Connection, serve};
 use site::Site;
 use std::hash::RandomState;
@@ -17,9 +18,10 @@ fn main(rt: HostRuntime) -> io::Result<()> {
     let alloc = rt.alloc();
     let clock = StepClock::new();
     let name = String::from_str(alloc, "first_proxy")?;
+    let shelf = MemoryShelf::new(alloc, Limits::default())?;
     let mut proxy = Proxy {
         alloc,
-        client: Client::new(alloc, CacheOptions::default(), name),
+        client: Client::new(shelf, CacheOptions::default(), name),
         origin: Site::new(alloc, &clock),
         clock: &clock,
     };

@@ -3,10 +3,26 @@ use crate::clock::StepClock;
 use bytes::Bytes;
 use http::header::{ETAG, HeaderName, HeaderValue, IF_NONE_MATCH};
 use http::{HeaderMap, Method, Request, Response, StatusCode, Version, response};
-use http_cache_semantics::CacheError;
-use http_cache_uses::{FetchError, Origin};
+use http_cache_client::Origin;
 use jiff::Timestamp;
 use std::alloc::{AllocError, Global};
+
+/// Why the site has no response.
+#[derive(Clone, Copy, Debug, PartialEq, Eq)]
+pub enum NoPage {
+    /// It has no page for the target.
+    Unknown,
+    /// Out of memory.
+    Memory,
+    /// The clock can't be read.
+    Clock,
+}
+
+impl From<AllocError> for NoPage {
+    fn from(_e: AllocError) -> NoPage {
+        NoPage::Memory
+    }
+}
 
 /// Has two pages, and counts how often it was asked.
 #[derive(Drop)]
@@ -101,20 +117,19 @@ impl<'a> Site<'a> {
 }
 
 impl Origin for Site<'_> {
+    type Error = NoPage;
+
     ghost use Rattle.std.specs.Prelude.{⊤};
 
-    ghost sent = { λ before request outcome after. ⊤ };
+    ghost sent = { λ before request response after. ⊤ };
 
-    fn send(
-        &mut self,
-        request: &Request<Bytes>,
-    ) -> Result<(Response<Bytes>, Timestamp), FetchError> {
+    fn send(&mut self, request: &Request<Bytes>) -> Result<(Response<Bytes>, Timestamp), NoPage> {
         self.asked = self.asked.saturating_add(1);
-        let lines = lines_of(request.uri().path()).ok_or(FetchError::NoResponse)?;
+        let lines = lines_of(request.uri().path()).ok_or(NoPage::Unknown)?;
         let page = self.page(request, headers_of(self.alloc, lines)?)?;
         match Timestamp::now(self.clock) {
-            Ok(came) => Ok((page, came)),
-            Err(_) => Err(FetchError::Cache(CacheError::DateNotPrintable)),
+            Ok(now) => Ok((page, now)),
+            Err(_) => Err(NoPage::Clock),
         }
     }
 }

@@ -14,10 +14,10 @@ use Rattle.http_server.specs.Response.{fields, fields_of, IsResponse}
 use Rattle.http_cache_semantics.specs.Headers.{headers_of}
 use Rattle.http_cache_semantics.specs.Dates.{IsDateText}
 use Rattle.http_cache_semantics.specs.Forwarding.{forwarded_headers}
-use Rattle.http_cache_semantics.specs.declared.CacheError.TheVariants.{Memory}
-use Rattle.http_cache_uses.specs.declared.origin.FetchError.{FetchError}
-use Rattle.http_cache_uses.specs.declared.origin.FetchError.TheVariants.{Cache, NoResponse}
-use Rattle.http_cache_uses.specs.Client.{Stored, Sends, HasSentOneAtMost, IsFetched}
+use Rattle.http_cache_shelf.specs.Shelf.{StoredByTarget, KeepsAll}
+use Rattle.http_cache_client.specs.Fetch.{Outcome, Sends, HasSentBoth, HasSentTwiceAtMost}
+use Rattle.http_cache_proxy.specs.declared.proxy.Failure.{Failure}
+use Rattle.http_cache_proxy.specs.declared.proxy.Failure.TheVariants.{Memory, NoResponse, Clock}
 
 -- ---- what goes on to the origin
 
@@ -73,33 +73,53 @@ pub record IsSent (moment : ℤ) (answer : Answer (List ℕ)) (response : Respon
   pub fields_are : IsDated moment (fields_to_send passed) (fields_of response)
   pub body : response.body.items ≡ body_of answer
 
--- the status that tells why there is no answer
-abbrev pub failure_status : FetchError → ℕ
+-- the status by which a failure is answered
+abbrev pub failure_status : Failure → ℕ
+failure_status Memory = 503
 failure_status NoResponse = 502
-failure_status (Cache Memory) = 503
-failure_status (Cache cause) = 500
+failure_status Clock = 500
 
--- there is no answer
-abbrev pub IsFailure : FetchError → Response → Type 0
+-- the response has only the status of a failure
+abbrev pub IsFailure : Failure → Response → Type 0
 IsFailure cause response = IsResponse (failure_status cause) [] [] response
 
 -- ---- both
 
-module _ {O : Type 0} (sent : Sends O) (before after : O) (old new : Stored) where
-  -- the client fetched the answer to the request that goes on
-  pub record IsFetchedBy (request : Request (List ℕ)) (answer : Answer (List ℕ)) (now : ℤ) : Type 0 where
-    pub forwarded : Request (List ℕ)
-    pub is_forwarded : IsForwarded request forwarded
-    pub fetched : IsFetched sent before after old new forwarded now answer
+-- the response is some answer as it goes out
+pub record IsAnswered (response : Response) : Type 0 where
+  pub now : ℤ
+  pub answer : Answer (List ℕ)
+  pub is_sent : IsSent now answer response
 
-  -- what was fetched goes out
-  pub record IsAnswered (request : Request (List ℕ)) (response : Response) : Type 0 where
-    pub now : ℤ
-    pub answer : Answer (List ℕ)
-    pub fetched : IsFetchedBy request answer now
-    pub is_sent : IsSent now answer response
+module _ {O : Type 0} (sent : Sends O) (before after : O) where
+  -- the origin was sent nothing, or what a client sends for the request without what speaks of the
+  -- connection that it came by: one request, or a second one after a 304
+  abbrev pub IsSentTwiceAtMost : Request (List ℕ) → Type 0
+  IsSentTwiceAtMost request =
+      (after ≡ before)
+      ⊎ ((forwarded : Request (List ℕ)) × IsForwarded request forwarded
+      × HasSentTwiceAtMost sent before after forwarded)
 
-  -- that, or there is no answer; the origin was sent one request at most
+  -- the origin was sent two requests for it
+  abbrev pub IsSentTwice : Request (List ℕ) → Type 0
+  IsSentTwice request =
+      (forwarded : Request (List ℕ)) × (outcome : Outcome)
+      × (IsForwarded request forwarded × HasSentBoth sent before after forwarded outcome)
+
+module _ {O : Type 0} (sent : Sends O) (before after : O)
+    (old : StoredByTarget) (next_before : ℕ) (new : StoredByTarget) (next_after : ℕ) where
+  -- what is stored is as it was, unless the origin was sent two requests
+  abbrev pub HasKept : Request (List ℕ) → Type 0
+  HasKept request = KeepsAll old next_before new next_after ⊎ IsSentTwice sent before after request
+
+  -- there is no answer
+  pub record IsUnanswered (request : Request (List ℕ)) (response : Response) : Type 0 where
+    pub cause : Failure
+    pub is_failure : IsFailure cause response
+    pub kept : HasKept request
+
+  -- the response is an answer or a failure; where an answer can't be written out, for want of memory,
+  -- what is stored may have changed
   pub record IsProxied (request : Request (List ℕ)) (response : Response) : Type 0 where
-    pub once : HasSentOneAtMost sent before after
-    pub answered : IsAnswered request response ⊎ ((cause : FetchError) × IsFailure cause response)
+    pub twice : IsSentTwiceAtMost sent before after request
+    pub answered : IsAnswered response ⊎ (IsUnanswered request response ⊎ IsFailure Memory response)

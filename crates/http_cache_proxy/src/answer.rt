@@ -4,12 +4,12 @@ ghost use Rattle.std.specs.List.{list_any};
 ghost use Rattle.http_server.specs.Response.{IsBlank, fields_of};
 ghost use Rattle.http_cache_proxy.specs.Proxy.{in_gmt, field_to_send, fields_to_send, IsDated, IsSent, IsFailure};
 
+use crate::proxy::Failure;
 use bytes::Bytes;
 use http::header::DATE;
 use http::{HeaderMap, HeaderName, HeaderValue, Response as Answer, StatusCode};
 use http_cache_semantics::CacheError;
 use http_cache_semantics::forwarding::{forwarded_headers, print_date};
-use http_cache_uses::FetchError;
 use http_server::Response;
 use jiff::Timestamp;
 use std::alloc::{AllocError, Global};
@@ -116,14 +116,14 @@ pub(crate) fn fill(
     Ok(())
 }
 
-// Answers that there is no answer.
-pub(crate) fn fail(response: &mut Response, cause: FetchError)
+// Answers with the status of a failure alone.
+pub(crate) fn fail(response: &mut Response, cause: Failure)
     ensures { IsFailure cause response.new }
 {
     response.clear();
     response.status = match cause {
-        FetchError::NoResponse => StatusCode::BAD_GATEWAY,
-        FetchError::Cache(CacheError::Memory) => StatusCode::SERVICE_UNAVAILABLE,
-        FetchError::Cache(_) => StatusCode::INTERNAL_SERVER_ERROR,
+        Failure::Memory => StatusCode::SERVICE_UNAVAILABLE,
+        Failure::NoResponse => StatusCode::BAD_GATEWAY,
+        Failure::Clock => StatusCode::INTERNAL_SERVER_ERROR,
     };
 }

@@ -1,8 +1,8 @@
-//! A caching proxy, to copy: a service of `http_server` over a client of `http_cache_uses`.
+//! A caching proxy, to copy: a service of `http_server` over a client of `http_cache_client`.
 #![tactic(auto)]
 
 mod answer;
 mod forward;
 pub mod proxy;
 
-pub use proxy::Proxy;
+pub use proxy::{Failure, Proxy};

@@ -1,55 +1,79 @@
-//! A caching proxy.
-ghost use Rattle.std.specs.Prelude.{◌≡◌, ◌≤ℤ◌, pos, IfOk, OnErr};
-ghost use Rattle.http_cache_uses.specs.Client.{HasSentOneAtMost};
-ghost use Rattle.http_cache_proxy.specs.Proxy.{IsFetchedBy, IsProxied};
+//! A caching proxy: a client and its origin behind a service of `http_server`.
+ghost use Rattle.std.specs.Prelude.{◌≤ℤ◌, pos, IfOk, OnErr};
+ghost use Rattle.http_cache_proxy.specs.Proxy.{IsSentTwiceAtMost, HasKept, IsProxied};
 
 use crate::answer::{fail, fill};
 use crate::forward::forwarded;
 use bytes::Bytes;
 use http::{Request, Response as Answer};
-use http_cache_semantics::CacheError;
-use http_cache_uses::{Client, FetchError, Origin};
+use http_cache_client::{Client, FetchError, Origin};
+use http_cache_shelf::Shelf;
 use http_server::{Response, Service};
 use jiff::Timestamp;
 use std::alloc::{AllocError, Global};
 use std::time::Clock;
 
+/// Why a proxy has no response to a request.
+#[derive(Clone, Copy, Debug, PartialEq, Eq)]
+pub enum Failure {
+    /// Out of memory. The status is 503.
+    Memory,
+    /// The origin gave no response, and no stored response may be used in its place. The status is
+    /// 502.
+    NoResponse,
+    /// The clock can't be read. The status is 500.
+    Clock,
+}
+
 /// Answers requests from what a client stores, or by way of an origin.
 #[derive(Drop)]
-pub struct Proxy<'a, O, C> {
+pub struct Proxy<'a, S: Drop, O, C> {
     /// Where memory comes from.
     pub alloc: Global,
-    /// What is stored.
-    pub client: Client,
-    /// Who answers what isn't.
+    /// The client, with what it stores.
+    pub client: Client<S>,
+    /// What answers the requests that the client sends.
     pub origin: O,
-    /// What tells the moment of a request.
+    /// The clock by which requests are received.
     pub clock: &'a C,
 }
 
-impl<O: Origin, C: Clock> Proxy<'_, O, C> {
-    // The answer to a request, and the moment at which it came.
-    fn fetch(&mut self, request: &Request<Bytes>) -> Result<(Answer<Bytes>, Timestamp), FetchError>
-        ensures fetched { IfOk result (λ answer. IsFetchedBy O.sent self.old.origin self.new.origin
-            self.old.client self.new.client request.now answer.0 answer.1.nanosecond) }
+impl<S: Shelf + Drop, O: Origin, C: Clock> Proxy<'_, S, O, C>
+where
+    O::Error: Drop,
+{
+    // The response to a request, and the time at which the request was received.
+    fn fetch(&mut self, request: &Request<Bytes>) -> Result<(Answer<Bytes>, Timestamp), Failure>
         ensures since_1970 { IfOk result (λ answer. pos 0 ≤ℤ answer.1.nanosecond) }
-        ensures kept { OnErr result (self.new.client ≡ self.old.client) }
-        ensures once { HasSentOneAtMost O.sent self.old.origin self.new.origin }
+        ensures twice { IsSentTwiceAtMost O.sent self.old.origin self.new.origin request.now }
+        ensures kept { OnErr result (HasKept O.sent self.old.origin self.new.origin
+            (S.stored self.old.client.shelf) (S.next_id self.old.client.shelf)
+            (S.stored self.new.client.shelf) (S.next_id self.new.client.shelf) request.now) }
     {
         let Ok(now) = Timestamp::now(self.clock) else {
-            return Err(FetchError::Cache(CacheError::DateNotPrintable));
+            return Err(Failure::Clock);
         };
-        let forwarded = forwarded(self.alloc, request)?;
-        let answer = self
+        let Ok(forwarded) = forwarded(self.alloc, request) else {
+            return Err(Failure::Memory);
+        };
+        match self
             .client
-            .fetch(self.alloc, &mut self.origin, &forwarded, now)?;
-        Ok((answer, now))
+            .fetch(self.alloc, &mut self.origin, &forwarded, now)
+        {
+            Ok(answer) => Ok((answer, now)),
+            Err(FetchError::Memory) => Err(Failure::Memory),
+            Err(FetchError::Origin(_)) => Err(Failure::NoResponse),
+        }
     }
 }
 
-impl<O: Origin, C: Clock> Service for Proxy<'_, O, C> {
+impl<S: Shelf + Drop, O: Origin, C: Clock> Service for Proxy<'_, S, O, C>
+where
+    O::Error: Drop,
+{
     ghost answers = { λ old request response new. IsProxied O.sent old.origin new.origin
-        old.client new.client request response };
+        (S.stored old.client.shelf) (S.next_id old.client.shelf)
+        (S.stored new.client.shelf) (S.next_id new.client.shelf) request response };
 
     fn call(
         &mut self,
@@ -59,7 +83,7 @@ impl<O: Origin, C: Clock> Service for Proxy<'_, O, C> {
         match self.fetch(request) {
             Ok((answer, now)) => {
                 if fill(self.alloc, response, answer, now).is_err() {
-                    fail(response, FetchError::Cache(CacheError::Memory));
+                    fail(response, Failure::Memory);
                 }
             }
             Err(cause) => fail(response, cause),

@@ -1,2 +1,0 @@
--- The lemmas about what a client stores.
-pub mod PlaceLemmas

@@ -1,3 +1,0 @@
--- What the uses of the library do.
-pub mod Audit
-pub mod Client

@@ -1,7 +1,0 @@
-//! Tests of the uses of the library. Nothing here is for use.
-#![tactic(auto)]
-
-#[cfg(test)]
-mod audit;
-#[cfg(test)]
-mod client;
