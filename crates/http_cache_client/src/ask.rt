@@ -85,9 +85,15 @@ fn matching(
     if !stored.policy.stale_use(&asking, now).while_revalidate {
         return Ok(verdict);
     }
-    match (verdict, Reply::of(alloc, stored, incoming, now)?) {
-        (Verdict::Validate(due), Some(reply)) => Ok(Verdict::UseWhile(reply, due)),
-        (verdict, _) => Ok(verdict),
+    let Some(reply) = Reply::of(alloc, stored, incoming, now)? else {
+        return Ok(verdict);
+    };
+    match verdict {
+        Verdict::Validate(due) => Ok(Verdict::UseWhile(reply, due)),
+        other => {
+            drop(reply);
+            Ok(other)
+        }
     }
 }
 

@@ -1,6 +1,7 @@
 //! What the response to an unsafe request removes.
-ghost use Rattle.std.specs.Prelude.{IfOk};
+ghost use Rattle.std.specs.Prelude.{◌≡◌, true, false, IfOk};
 ghost use Rattle.http_cache_client.specs.Plan.{Stores};
+ghost use Rattle.http_cache_client.specs.Receive.{is_failure};
 
 use crate::plan::Change;
 use bytes::Bytes;
@@ -11,7 +12,9 @@ use http_cache_shelf::Target;
 use std::alloc::{AllocError, Global};
 
 // Whether a response isn't an error (RFC 9111, section 4.4).
-fn is_no_error(status: StatusCode) -> bool {
+fn is_no_error(status: StatusCode) -> bool
+    ensures { is_failure status ≡ true → result ≡ false }
+{
     status.is_success() || status.is_redirection()
 }
 
@@ -39,7 +42,9 @@ pub(crate) fn invalidated(
     request: &Request<Bytes>,
     head: &response::Parts,
 ) -> Result<Change, AllocError>
-    ensures { IfOk result (λ change. ¬ (Stores change)) }
+    ensures stored { IfOk result (λ change. ¬ (Stores change)) }
+    ensures failure { is_failure head.now.status ≡ true
+        → IfOk result (λ change. change ≡ Change.Nothing) }
 {
     if request.method().is_safe() || !is_no_error(head.status) {
         return Ok(Change::Nothing);

@@ -96,19 +96,29 @@ fn line_for(lines: Lines, settled: Settled, says_stored: bool) -> Option<HeaderV
     }
 }
 
-// A response that was received, as it is sent before it is known whether it is stored: as a 304 if it
-// makes the client's own condition false.
+// The response to a request that was sent: why that was sent, the status, and the time of receipt.
+#[derive(Clone, Copy)]
+struct Receipt<'a> {
+    why: &'a Why,
+    status: StatusCode,
+    received: Timestamp,
+}
+
+// A response that was received, as it is sent before it is known whether it is stored: with a Date, and
+// as a 304 if it makes the client's own condition false.
 fn prepared(
     alloc: Global,
     response: Response<Body>,
     member: &Member<'_>,
     is_known: bool,
+    received: Timestamp,
 ) -> Result<(Response<Body>, Lines), AllocError>
     ensures status { IfOk result (λ made. (head_of made.0).status ≡ 304
         → (is_known ≡ true) ⊎ ((head_of response).status ≡ 304)) }
     ensures body { IfOk result (λ made. IsElsewhere (body_of made.0) → IsElsewhere (body_of response)) }
 {
     let (mut head, mut body) = response.into_parts();
+    or_out_of_memory(add_date(alloc, &mut head.headers, received))?;
     if is_known {
         head = not_modified(alloc, &head)?;
         body = Body::Here(Bytes::new());
@@ -117,20 +127,6 @@ fn prepared(
     let lines = lines_of(alloc, &head.headers, member)?;
     set_line(&mut head.headers, line)?;
     Ok((Response::from_parts(head, body), lines))
-}
-
-// A response with the time of receipt as Date, if it has none.
-fn dated(
-    alloc: Global,
-    response: Response<Body>,
-    received: Timestamp,
-) -> Result<Response<Body>, AllocError>
-    ensures status { IfOk result (λ dated. (head_of dated).status ≡ (head_of response).status) }
-    ensures body { IfOk result (λ dated. body_of dated ≡ body_of response) }
-{
-    let (mut head, body) = response.into_parts();
-    or_out_of_memory(add_date(alloc, &mut head.headers, received))?;
-    Ok(Response::from_parts(head, body))
 }
 
 // What is sent of a stored response that a 304 confirmed, and what becomes of it.
@@ -269,8 +265,7 @@ impl<S: Shelf + Drop> Client<S> {
         &mut self,
         alloc: Global,
         response: Response<Body>,
-        why: &Why,
-        status: StatusCode,
+        receipt: &Receipt<'_>,
         plan: Plan,
     ) -> Result<Response<Body>, AllocError>
         ensures kept { OnErr result (KeepsAll (S.stored self.old.shelf) (S.next_id self.old.shelf)
@@ -283,13 +278,13 @@ impl<S: Shelf + Drop> Client<S> {
             → (plan.is_known ≡ true) ⊎ ((head_of response).status ≡ 304)) }
         ensures body { IfOk result (λ sent. IsElsewhere (body_of sent) → IsElsewhere (body_of response)) }
     {
-        let said = forwarded(self.name.as_str(), why, Some(status));
+        let said = forwarded(self.name.as_str(), receipt.why, Some(receipt.status));
         let member = Member {
             left: plan.left,
             detail: plan.detail.or(said.detail),
             ..said
         };
-        match prepared(alloc, response, &member, plan.is_known) {
+        match prepared(alloc, response, &member, plan.is_known, receipt.received) {
             Ok((answer, lines)) => self.settle(answer, lines, plan),
             Err(cause) => {
                 drop(plan);
@@ -387,8 +382,12 @@ impl<S: Shelf + Drop> Client<S> {
         if pending.is_own {
             plan.is_known = false;
         }
-        let status = head.status;
-        self.finish(alloc, Response::from_parts(head, body), pending.why, status, plan)
+        let receipt = Receipt {
+            why: pending.why,
+            status: head.status,
+            received: times.received,
+        };
+        self.finish(alloc, Response::from_parts(head, body), &receipt, plan)
     }
 
     // The answer by a response to a request that is looked up. If the origin failed, what is stored is
@@ -431,7 +430,12 @@ impl<S: Shelf + Drop> Client<S> {
         }
         let is_kept = status.is_server_error() && pending.id.is_some();
         if pending.is_past_shelf || is_kept {
-            return self.finish(alloc, response, pending.why, status, Plan::nothing(None));
+            let receipt = Receipt {
+                why: pending.why,
+                status,
+                received: times.received,
+            };
+            return self.finish(alloc, response, &receipt, Plan::nothing(None));
         }
         self.stored(alloc, target, pending, incoming, response, times)
     }
@@ -442,10 +446,11 @@ impl<S: Shelf + Drop> Client<S> {
         alloc: Global,
         target: Target,
         validation: &mut Validation,
-    ) -> Result<Received, AllocError>
+    ) -> Result<Forwarded, AllocError>
         ensures kept { OnErr result (KeepsAll (S.stored self.old.shelf) (S.next_id self.old.shelf)
             (S.stored self.new.shelf) (S.next_id self.new.shelf)) }
         ensures stored { S.next_id self.new.shelf ≡ S.next_id self.old.shelf }
+        ensures unspent { OnErr result (validation.new.id ≡ validation.old.id) }
     {
         if let Some(id) = validation.id {
             let ids = vec![in alloc; id]?;
@@ -453,7 +458,7 @@ impl<S: Shelf + Drop> Client<S> {
         }
         validation.id = None;
         let why = mem::replace(&mut validation.why, Why::of(Forward::Miss));
-        Ok(Received::Again(Forwarded::of(None, why)))
+        Ok(Forwarded::of(None, why))
     }
 
     // The answer by a stored response that a 304 confirmed. None if the shelf has lost its body.
@@ -461,7 +466,7 @@ impl<S: Shelf + Drop> Client<S> {
         &mut self,
         alloc: Global,
         target: &Target,
-        why: &Why,
+        receipt: &Receipt<'_>,
         renewal: Renewal,
     ) -> Result<Option<Response<Body>>, AllocError>
         requires stored { ¬ (Stores renewal.plan.change) }
@@ -481,8 +486,7 @@ impl<S: Shelf + Drop> Client<S> {
             Ok(Some(body)) => {
                 plan.left = Some(reply.left);
                 let response = Response::from_parts(reply.head, Body::Here(body));
-                let status = StatusCode::NOT_MODIFIED;
-                match self.finish(alloc, response, why, status, plan) {
+                match self.finish(alloc, response, receipt, plan) {
                     Ok(answer) => Ok(Some(answer)),
                     Err(cause) => Err(cause),
                 }
@@ -524,6 +528,11 @@ impl<S: Shelf + Drop> Client<S> {
             id: validation.id,
             times,
         };
+        let receipt = Receipt {
+            why: &validation.why,
+            status: StatusCode::NOT_MODIFIED,
+            received: times.received,
+        };
         if let Some(id) = validation.id
             && self.read(alloc, &target)?
             && let Some(renewal) = renewal_of(
@@ -534,12 +543,13 @@ impl<S: Shelf + Drop> Client<S> {
                 &arrived,
                 &self.options,
             )?
-            && let Some(answer) = self.confirmed(alloc, &target, &validation.why, renewal)?
+            && let Some(answer) = self.confirmed(alloc, &target, &receipt, renewal)?
         {
             validation.id = None;
             return Ok(Received::Answer(answer));
         }
-        self.unconfirmed(alloc, target, validation)
+        let again = self.unconfirmed(alloc, target, validation)?;
+        Ok(Received::Again(again))
     }
 
     /// Takes the response to a validation, and returns the answer to the client's request (RFC 9111,
@@ -580,7 +590,6 @@ impl<S: Shelf + Drop> Client<S> {
         if response.status() == StatusCode::NOT_MODIFIED {
             return self.validated(alloc, validation, &incoming, response, &times);
         }
-        let response = dated(alloc, response, times.received)?;
         let pending = Pending {
             id: validation.id,
             why: &validation.why,
@@ -625,9 +634,8 @@ impl<S: Shelf + Drop> Client<S> {
             → IsElsewhere (body_of response)) }
         ensures unspent { OnErr result (token.new ≡ token.old) }
     {
-        let response = dated(alloc, response, times.received)?;
         if !is_looked_up(request) {
-            return self.passed(alloc, token, request, response);
+            return self.passed(alloc, token, request, response, times.received);
         }
         let incoming = Incoming::new(alloc, request)?;
         let pending = Pending {
@@ -648,15 +656,26 @@ impl<S: Shelf + Drop> Client<S> {
         token: &Forwarded,
         request: &Request<Bytes>,
         response: Response<Body>,
+        received: Timestamp,
     ) -> Result<Response<Body>, AllocError>
         ensures kept { OnErr result (KeepsAll (S.stored self.old.shelf) (S.next_id self.old.shelf)
             (S.stored self.new.shelf) (S.next_id self.new.shelf)) }
         ensures stored { S.next_id self.new.shelf ≡ S.next_id self.old.shelf }
+        ensures failure { is_failure (head_of response).status ≡ true
+            → KeepsAll (S.stored self.old.shelf) (S.next_id self.old.shelf)
+            (S.stored self.new.shelf) (S.next_id self.new.shelf) }
+        ensures status { IfOk result (λ sent. (head_of sent).status ≡ 304
+            → (head_of response).status ≡ 304) }
+        ensures body { IfOk result (λ sent. IsElsewhere (body_of sent) → IsElsewhere (body_of response)) }
     {
         let (head, body) = response.into_parts();
         let plan = Plan::of(invalidated(alloc, request, &head)?);
-        let status = head.status;
-        self.finish(alloc, Response::from_parts(head, body), &token.why, status, plan)
+        let receipt = Receipt {
+            why: &token.why,
+            status: head.status,
+            received,
+        };
+        self.finish(alloc, Response::from_parts(head, body), &receipt, plan)
     }
 
     /// Returns the stale response that answers a request for which the origin server gave no response,
