@@ -1,2 +1,3 @@
 -- The lemmas about what a proxy answers.
 pub mod FieldLemmas
+pub mod KeptLemmas

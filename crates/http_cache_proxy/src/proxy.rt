@@ -1,5 +1,7 @@
 //! A caching proxy: a client and its origin behind a service of `http_server`.
-ghost use Rattle.std.specs.Prelude.{◌≤ℤ◌, pos, IfOk, OnErr};
+ghost use Rattle.std.specs.Prelude.{◌≤ℤ◌, ◌⊎◌, pos, IfOk, OnErr};
+ghost use Rattle.http_cache_shelf.specs.Shelf.{KeepsAll};
+ghost use Rattle.http_cache_client.specs.Fetch.{Outcome, HasSentBoth, HasSentTwiceAtMost};
 ghost use Rattle.http_cache_proxy.specs.Proxy.{IsSentTwiceAtMost, HasKept, IsProxied};
 
 use crate::answer::{fail, fill};
@@ -42,7 +44,30 @@ impl<S: Shelf + Drop, O: Origin, C: Clock> Proxy<'_, S, O, C>
 where
     O::Error: Drop,
 {
-    // The response to a request, and the time at which the request was received.
+    // The client's answer to a request that is forwarded.
+    fn answer_to(
+        &mut self,
+        forwarded: &Request<Bytes>,
+        now: Timestamp,
+    ) -> Result<Answer<Bytes>, Failure>
+        ensures twice { HasSentTwiceAtMost O.sent self.old.origin self.new.origin forwarded.now }
+        ensures kept { OnErr result (KeepsAll
+            (S.stored self.old.client.shelf) (S.next_id self.old.client.shelf)
+            (S.stored self.new.client.shelf) (S.next_id self.new.client.shelf)
+            ⊎ ((outcome : Outcome)
+            × HasSentBoth O.sent self.old.origin self.new.origin forwarded.now outcome)) }
+    {
+        match self
+            .client
+            .fetch(self.alloc, &mut self.origin, forwarded, now)
+        {
+            Ok(answer) => Ok(answer),
+            Err(FetchError::Memory) => Err(Failure::Memory),
+            Err(FetchError::Origin(_)) => Err(Failure::NoResponse),
+        }
+    }
+
+    // The answer to a request, and the time at which the request was received.
     fn fetch(&mut self, request: &Request<Bytes>) -> Result<(Answer<Bytes>, Timestamp), Failure>
         ensures since_1970 { IfOk result (λ answer. pos 0 ≤ℤ answer.1.nanosecond) }
         ensures twice { IsSentTwiceAtMost O.sent self.old.origin self.new.origin request.now }
@@ -56,14 +81,8 @@ where
         let Ok(forwarded) = forwarded(self.alloc, request) else {
             return Err(Failure::Memory);
         };
-        match self
-            .client
-            .fetch(self.alloc, &mut self.origin, &forwarded, now)
-        {
-            Ok(answer) => Ok((answer, now)),
-            Err(FetchError::Memory) => Err(Failure::Memory),
-            Err(FetchError::Origin(_)) => Err(Failure::NoResponse),
-        }
+        let answer = self.answer_to(&forwarded, now)?;
+        Ok((answer, now))
     }
 }
 
