@@ -1,7 +1,7 @@
 //! What a call of a line returns.
 use crate::member::member;
 use crate::policy::{
-    is_confirmed_by, is_not_modified_for, response_at, stale_use, stored_directives,
+    forbids_stale, is_confirmed_by, is_not_modified_for, response_at, stale_use, stored_directives,
 };
 use crate::shown::{directives, lines_or_error};
 use http_cache_semantics::directives::parse_cache_control;
@@ -51,6 +51,7 @@ fn read(alloc: Global, case: &str) -> Result<String, Fail> {
 pub fn answer_to(alloc: Global, case: &str) -> Result<String, Fail> {
     let word = match field(case, 0)? {
         "stale_use" => stale_use(alloc, case)?,
+        "forbids_stale" => forbids_stale(alloc, case)?,
         "is_not_modified_for" => is_not_modified_for(alloc, case)?,
         "is_confirmed_by" => is_confirmed_by(alloc, case)?,
         "response_at" => return response_at(alloc, case),

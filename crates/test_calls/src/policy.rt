@@ -59,6 +59,12 @@ pub fn stale_use(alloc: Global, case: &str) -> Result<&'static str, Fail> {
     use_by(alloc, &policy, case)
 }
 
+/// Whether the stored response says that it isn't used stale.
+pub fn forbids_stale(alloc: Global, case: &str) -> Result<&'static str, Fail> {
+    let policy = policy(alloc, case)?;
+    Ok(word(policy.forbids_stale()))
+}
+
 fn is_answered_by(alloc: Global, policy: &CachePolicy, case: &str) -> Result<&'static str, Fail> {
     let request = request(alloc, field(case, 4)?, field(case, 5)?)?;
     Ok(word(policy.is_not_modified_for(&request)))

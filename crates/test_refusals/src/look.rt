@@ -42,6 +42,8 @@ pub enum Look {
     TimeLeft,
     /// Of a request that is to be validated, where no use of a stale response is allowed.
     StaleUse,
+    /// Of a response that doesn't say so.
+    ForbidsStale,
     /// Of a request whose If-None-Match has another tag.
     IsNotModifiedFor,
     SatisfiesWithoutRevalidation,
@@ -85,7 +87,7 @@ pub enum Look {
 }
 
 /// Each of these calls once.
-pub const LOOKS: [Look; 47] = [
+pub const LOOKS: [Look; 48] = [
     Look::IsStorable,
     Look::Age,
     Look::TimeToLive,
@@ -103,6 +105,7 @@ pub const LOOKS: [Look; 47] = [
     Look::Outcome,
     Look::TimeLeft,
     Look::StaleUse,
+    Look::ForbidsStale,
     Look::IsNotModifiedFor,
     Look::SatisfiesWithoutRevalidation,
     Look::GetStr,
@@ -171,6 +174,7 @@ fn told_at(case: &Case, place: usize, look: Look) -> Option<bool> {
             Look::FreshAt => case.policy().fresh_at(request, *moment),
             Look::Explain => case.policy().explain(request, *moment).reason.is_none(),
             Look::StaleUse => case.policy().stale_use(request, *moment).if_error,
+            Look::ForbidsStale => case.policy().forbids_stale(),
             Look::IsNotModifiedFor => case.policy().is_not_modified_for(request),
             _ => case.policy().matches_request(request),
         }),
@@ -357,7 +361,9 @@ fn is_right_of_exchange(alloc: Global, case: &Case, look: Look) -> bool {
         Look::MatchesRequest | Look::FreshAt | Look::Explain => {
             told_at(case, 0, look) == Some(true) && told_at(case, 6, look) == Some(false)
         }
-        Look::StaleUse | Look::IsNotModifiedFor => { told_at(case, 2, look) == Some(false) }
+        Look::StaleUse | Look::ForbidsStale | Look::IsNotModifiedFor => {
+            told_at(case, 2, look) == Some(false)
+        }
         Look::Fraction | Look::DefaultOptions => is_right_of_options(look),
         Look::NewVariants => is_right_of_new(alloc),
         Look::PrintDate => is_right_of_dates() == Ok(true),
