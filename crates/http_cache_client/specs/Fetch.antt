@@ -24,31 +24,31 @@ pub record IsValidating (request : Request (List ℕ)) : Type 0 where
   pub stored : Headers
   pub clean : IsClean stored (headers_of (head_of_request request).headers)
 
-module _ {O : Type 0} (sent : Sends O) (before after : O) (request : Request (List ℕ)) where
-  -- the origin was sent the client's own request last, as it is
-  pub record HasSentOwn (outcome : Outcome) : Type 0 where
-    pub was_sent : sent before request outcome after
-
-  -- it was sent a validation
+module _ {O : Type 0} (sent : Sends O) (before after : O) where
+  -- the origin was sent a validation
   pub record HasSentValidation (outcome : Outcome) : Type 0 where
     pub validation : Request (List ℕ)
     pub validating : IsValidating validation
     pub was_sent : sent before validation outcome after
 
+module _ {O : Type 0} (sent : Sends O) (before after : O) (request : Request (List ℕ)) where
+  -- the origin was sent the client's own request, as it is
+  pub record HasSentOwn (outcome : Outcome) : Type 0 where
+    pub was_sent : sent before request outcome after
+
   -- it was sent a validation, which ended in a 304, and then the client's own request
   pub record HasSentBoth (outcome : Outcome) : Type 0 where
-    pub validation : Request (List ℕ)
-    pub validating : IsValidating validation
-    pub response : Response (List ℕ)
-    pub not_modified : (head_of response).status ≡ 304
-    pub received : ℤ
     pub between : O
-    pub was_validated : sent before validation (Some (response, received)) between
+    pub response : Response (List ℕ)
+    pub received : ℤ
+    pub validated : HasSentValidation sent before between (Some (response, received))
+    pub not_modified : (head_of response).status ≡ 304
     pub was_sent : sent between request outcome after
 
   -- it was sent one request, or two, the second after a 304; with the outcome of the last
   abbrev pub HasSent : Outcome → Type 0
-  HasSent outcome = HasSentOwn outcome ⊎ (HasSentValidation outcome ⊎ HasSentBoth outcome)
+  HasSent outcome =
+      HasSentOwn outcome ⊎ (HasSentValidation sent before after outcome ⊎ HasSentBoth outcome)
 
   -- it was sent nothing, or that
   abbrev pub HasSentTwiceAtMost : Type 0

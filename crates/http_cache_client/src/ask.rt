@@ -179,11 +179,11 @@ impl<S: Shelf + Drop> Client<S> {
         ensures answered { IfOk result (IsVerdictIn (S.stored self.old.shelf)
             (headers_of (head_of incoming.now.request.now).headers)) }
     {
-        let verdict = if self.read(alloc, target)? {
-            decide(alloc, self.shelf.found(target), incoming, now)?
-        } else {
-            Verdict::Forward(past_shelf(alloc)?)
-        };
+        if !self.read(alloc, target)? {
+            let forwarded = past_shelf(alloc)?;
+            return Ok(only_if_cached(Verdict::Forward(forwarded), incoming));
+        }
+        let verdict = decide(alloc, self.shelf.found(target), incoming, now)?;
         Ok(only_if_cached(verdict, incoming))
     }
 

@@ -1,5 +1,5 @@
 //! Answers requests by asking an origin at most twice.
-ghost use Rattle.std.specs.Prelude.{◌≡◌, ◌⊎◌, true, false, None, IfOk, IfErr, OnErr};
+ghost use Rattle.std.specs.Prelude.{◌≡◌, ◌⊎◌, false, Some, None, IfOk, IfErr, OnOk, OnErr};
 ghost use Rattle.http.specs.Response.{head_of, body_of};
 ghost use Rattle.http_cache_messages.specs.Asking.{is_looked_up};
 ghost use Rattle.http_cache_shelf.specs.Shelf.{KeepsAll};
@@ -38,6 +38,22 @@ fn with_body(response: Response<Bytes>) -> Response<Body>
 {
     let (head, bytes) = response.into_parts();
     Response::from_parts(head, Body::Here(bytes))
+}
+
+// Sends the request of a validation. It is a function of its own, since the prover looks into each
+// request that is dropped.
+fn send_validation<O: Origin>(
+    alloc: Global,
+    origin: &mut O,
+    token: &mut Validation,
+) -> Result<(Response<Bytes>, Timestamp), O::Error>
+    requires { IsCleanValidation token.old }
+    ensures response { IfOk result (λ received. HasSentValidation O.sent origin.old origin.new
+        (Some (received.0, received.1.nanosecond))) }
+    ensures no_response { OnErr result (HasSentValidation O.sent origin.old origin.new None) }
+{
+    let asking = Request::from_parts(token.take_request(alloc), Bytes::new());
+    origin.send(&asking)
 }
 
 impl<S: Shelf + Drop> Client<S> {
@@ -107,7 +123,7 @@ impl<S: Shelf + Drop> Client<S> {
         O::Error: Drop,
         requires { IsCleanValidation token }
         ensures sent { (outcome : Outcome)
-            × (HasSentValidation O.sent origin.old origin.new request.now outcome
+            × (HasSentValidation O.sent origin.old origin.new outcome
             ⊎ HasSentBoth O.sent origin.old origin.new request.now outcome) }
         ensures no_response { IfErr result
             (HasNoResponse (HasSent O.sent origin.old origin.new request.now None)) }
@@ -118,9 +134,8 @@ impl<S: Shelf + Drop> Client<S> {
             ⊎ ((outcome : Outcome)
             × HasSentBoth O.sent origin.old origin.new request.now outcome)) }
     {
-        let asking = Request::from_parts(token.take_request(alloc), Bytes::new());
-        let (response, received) = match origin.send(&asking) {
-            Ok(response) => response,
+        let (response, received) = match send_validation(alloc, origin, &mut token) {
+            Ok(received) => received,
             Err(cause) => {
                 return self.unanswered(alloc, token.into_forwarded(), request, cause, sent);
             }
@@ -154,8 +169,8 @@ impl<S: Shelf + Drop> Client<S> {
     where
         O::Error: Drop,
         ensures twice { HasSentTwiceAtMost O.sent origin.old origin.new request.now }
-        ensures safe { is_looked_up request.now ≡ false → (outcome : Outcome)
-            × HasSentOwn O.sent origin.old origin.new request.now outcome }
+        ensures safe { is_looked_up request.now ≡ false → OnOk result ((outcome : Outcome)
+            × HasSentOwn O.sent origin.old origin.new request.now outcome) }
         ensures no_response { IfErr result
             (HasNoResponse (HasSent O.sent origin.old origin.new request.now None)) }
         ensures conditional { IfOk result (λ answer. (head_of answer).status ≡ 304

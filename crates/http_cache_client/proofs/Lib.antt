@@ -1,0 +1,2 @@
+-- Lemmas of a caching client.
+pub mod VerdictLemmas

@@ -1,0 +1,62 @@
+-- An answer of one of the responses that a look-up shows is of a response that is stored.
+use Rattle.std.proofs.Common.{◌≡◌, ◌⊎◌, ◌<◌, ◌+◌, ℕ, zero, suc, List, [], ◌∷◌, length, get_or, sym, ap, subst, ◌∙◌, inl, inr, arith}
+use Rattle.std.specs.Prelude.{Contains}
+use Rattle.std.proofs.lemmas.List.Elements.{Contains-append_right, Contains-get_or}
+use Rattle.http_cache_semantics.specs.Headers.{Headers}
+use Rattle.http_cache_shelf.specs.Shelf.{StoredByTarget, StoredSeen, ShowsAll, IsShownAs}
+use Rattle.http_cache_shelf.specs.declared.shelf.StoredResponse.{StoredResponse}
+use Rattle.http_cache_client.specs.Ask.{IsStoredStatus, HasStoredStatus, IsVerdictOf, IsVerdictIn}
+use Rattle.http_cache_client.specs.declared.ask.Verdict.{Verdict}
+use Rattle.http_cache_client.specs.declared.ask.Verdict.TheVariants.{Use, UseWhile, Validate, Forward, NotCached}
+
+-- what is shown at a position is one of what is stored
+shown_at : (all : List StoredResponse) (seen : List StoredSeen) (one : StoredResponse) (k : ℕ)
+    → ShowsAll all seen → k < length all → get_or all k one ≡ one
+    → (is : StoredSeen) × Contains seen is × IsShownAs one is
+shown_at [] seen one k shows within at = absurd (omega (arith, within))
+shown_at (x ∷ xs) [] one k shows within at = absurd shows
+shown_at (x ∷ xs) (y ∷ ys) one zero shows within at =
+    let IsShown : StoredResponse → Type 0 = λ s. IsShownAs s y in
+    let first : 0 < length (y ∷ ys) = omega arith in
+    (y, Contains-get_or (y ∷ ys) 0 y first, subst IsShown at shows.0)
+shown_at (x ∷ xs) (y ∷ ys) one (suc k) shows within at =
+    let rest = shown_at xs ys one k shows.1 (omega (arith, within)) at in
+    (rest.0, Contains-append_right (y ∷ []) ys rest.0 rest.1, rest.2)
+
+-- the status of one of them is that of a stored response
+stored_status : (all : List StoredResponse) (stored : StoredByTarget) (text : List ℕ) (status : ℕ)
+    → ShowsAll all (stored text) → IsStoredStatus all status → HasStoredStatus stored status
+stored_status all stored text status shows of =
+    let shown = shown_at all (stored text) of.one of.among.0 shows of.among.1 of.among.2 in
+    record {
+      text = text;
+      one = shown.0;
+      among = shown.1;
+      is = elim of.is [
+        inl same ↦ inl (same ∙ ap (λ e. e.status) shown.2.exchange)
+        | inr known ↦ inr known
+      ];
+    }
+
+pub IsVerdictIn-found : (all : List StoredResponse) (stored : StoredByTarget) (text : List ℕ)
+    (request : Headers) (v : Verdict)
+    → ShowsAll all (stored text) → IsVerdictOf all request v → IsVerdictIn stored request v
+IsVerdictIn-found all stored text request (Use reply) shows of =
+    stored_status all stored text reply.head.status shows of
+IsVerdictIn-found all stored text request (UseWhile reply due) shows of =
+    stored_status all stored text reply.head.status shows of
+IsVerdictIn-found all stored text request (Validate validation) shows of = tt
+IsVerdictIn-found all stored text request (Forward forwarded) shows of = tt
+IsVerdictIn-found all stored text request NotCached shows of = of
+
+-- none is among no responses
+none_among : (stored : StoredByTarget) (status : ℕ) → IsStoredStatus [] status → HasStoredStatus stored status
+none_among stored status of = absurd (omega (arith, of.among.1))
+
+pub IsVerdictIn-none : (stored : StoredByTarget) (request : Headers) (v : Verdict)
+    → IsVerdictOf [] request v → IsVerdictIn stored request v
+IsVerdictIn-none stored request (Use reply) of = none_among stored reply.head.status of
+IsVerdictIn-none stored request (UseWhile reply due) of = none_among stored reply.head.status of
+IsVerdictIn-none stored request (Validate validation) of = tt
+IsVerdictIn-none stored request (Forward forwarded) of = tt
+IsVerdictIn-none stored request NotCached of = of
