@@ -1,6 +1,6 @@
 //! A shelf that keeps responses in memory, within limits.
 //!
-//! The struct counts what is stored and gives the ids. What happens to the map of texts is in the modules
+//! The struct counts what is stored and assigns the ids. What happens to the map of texts is in the modules
 //! below, by layers: `list` (one target), `map` (a text in the map), `bounds` and `sweep` (the whole map).
 ghost use Rattle.std.specs.Prelude.{◌≡◌, ◌<◌, ℕ, List, [], false, string_capacity, IfOk};
 ghost use Rattle.http_cache_shelf.specs.Shelf.{without, AreIdsBelow};
@@ -37,6 +37,12 @@ use std::alloc::{AllocError, Global};
 ///
 /// Only `put` and `body` return errors, when out of memory.
 ///
+///     let limits = Limits {
+///         body: 3,
+///         ..Limits::default()
+///     };
+///     let mut shelf = MemoryShelf::new(alloc, limits)?;
+///
 /// The hash of the map has a fixed seed. Where untrusted clients choose the targets, they can make
 /// look-ups slow.
 #[derive(Drop)]
@@ -45,7 +51,7 @@ pub struct MemoryShelf {
     limits: Limits,
     // The stored responses under the text of their target, the text that was used last first.
     kept: LruCache<String, StoredList>,
-    // What `kept` holds. No clause ties it to `kept`, so it is only ever counted down to nothing.
+    // How much `kept` holds. No clause ties the count to `kept`, so its sums stop and never wrap.
     held: Amount,
     // Has room for the longest text in `kept`, so that `sweep` takes no memory.
     buffer: String,
