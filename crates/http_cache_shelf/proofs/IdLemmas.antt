@@ -13,9 +13,9 @@ use Rattle.http_cache_shelf.specs.Memory.{stored_under, AreFewer, HasUnder, IsOn
 use Rattle.http_cache_shelf.proofs.MapLemmas.{true≢false, stored-top}
 
 module _ {X : Type 0} (P : X → Type 0) where
-  front : (xs ys : List X) → All P (xs ++ ys) → All P xs
-  front [] ys h = All-nil P
-  front (x ∷ xs) ys h = All-cons P x xs (All-head P x (xs ++ ys) h) (front xs ys (All-tail P x (xs ++ ys) h))
+  pub all-front : (xs ys : List X) → All P (xs ++ ys) → All P xs
+  all-front [] ys h = All-nil P
+  all-front (x ∷ xs) ys h = All-cons P x xs (All-head P x (xs ++ ys) h) (all-front xs ys (All-tail P x (xs ++ ys) h))
 
   some : (p : X → Bool) (xs : List X) → All P xs → All P (filter p xs)
   some p [] h = h
@@ -82,7 +82,7 @@ below-replaced n id e own old new has before =
 
 pub below-fewer : (n : ℕ) (old new : StoredByTarget) → AreFewer old new → AllBelow n old → AllBelow n new
 below-fewer n old new fewer before = λ text.
-    front (λ (r : StoredSeen). r.id < n) (new text) (fewer text).0
+    all-front (λ (r : StoredSeen). r.id < n) (new text) (fewer text).0
     (below-same n (new text ++ (fewer text).0) (old text) (sym (fewer text).1) (before text))
 
 pub below-swept : (n : ℕ) (now : ℤ) (old new : StoredByTarget) → IsSwept now old new → AllBelow n old → AllBelow n new

@@ -6,3 +6,4 @@ mod Lookups
 mod MapLemmas
 mod Outcomes
 mod SweepLemmas
+mod TextLemmas

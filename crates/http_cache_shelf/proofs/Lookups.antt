@@ -18,10 +18,10 @@ module _ {K : Type 0} (test query : K → Bool) where
   Apart = (x : K) → test x ≡ true → query x ≡ false
 
 module _ {K V : Type 0} (test query : K → Bool) where
-  behind : Agree test query → (f e : K × V) (es : List (K × V)) → test f.0 ≡ false → test e.0 ≡ true
+  below_entry : Agree test query → (f e : K × V) (es : List (K × V)) → test f.0 ≡ false → test e.0 ≡ true
       → lookup query (e ∷ remove_entry test es) ≡ lookup query es
       → lookup query (e ∷ remove_entry test (f ∷ es)) ≡ lookup query (f ∷ es)
-  behind agree f e es p key on =
+  below_entry agree f e es p key on =
       (elim (query e.0) as (λ b. query e.0 ≡ b → lookup query (e ∷ remove_entry test (f ∷ es)) ≡ lookup query (f ∷ es)) [
         | true ↦ λ q. let other : query f.0 ≡ false = agree e.0 key q f.0 ∙ p in rw (q, other) (rw q at on)
         | false ↦ λ q. rw (q, p) (ap (cond (query f.0) (Some f.1)) (rw q at on))
@@ -33,7 +33,7 @@ module _ {K V : Type 0} (test query : K → Bool) where
   moved agree (f ∷ es) e h =
       (elim (test f.0) as (λ b. test f.0 ≡ b → lookup query (e ∷ remove_entry test (f ∷ es)) ≡ lookup query (f ∷ es)) [
         | true ↦ λ p. let h' = rw p at h in let same : f ≡ e = cc in rw p (ap (λ g. lookup query (g ∷ es)) (sym same))
-        | false ↦ λ p. behind agree f e es p (Contains-lookup_entry test es e (rw p at h)).1 (moved agree es e (rw p at h))
+        | false ↦ λ p. below_entry agree f e es p (Contains-lookup_entry test es e (rw p at h)).1 (moved agree es e (rw p at h))
       ]) refl
 
   at_entry : Agree test query → (es : List (K × V)) (o : Option (K × V)) → lookup_entry test es ≡ o

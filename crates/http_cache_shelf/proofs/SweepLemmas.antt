@@ -4,9 +4,7 @@ use Rattle.std.specs.List.{IsDistinct, AllByRecursion}
 use Rattle.std.specs.Option.{option_map_or}
 use Rattle.std.specs.String.{string_eq}
 use Rattle.std.specs.declared.string.String.{String}
-use Rattle.std.specs.Ordering.{ord_max, nat_cmp}
 use Rattle.std.specs.Map.{keys_of, lookup, lookup_entry, remove_entry, set_value}
-use Rattle.std.proofs.lemmas.Bool.Decides.{nat_tests}
 use Rattle.std.proofs.lemmas.List.Elements.{All-cons, All-head, All-tail, All-nil, All-same, All-weaker}
 use Rattle.std.proofs.lemmas.Slice.Eq.{bytes_eq-Decides}
 use Rattle.lru.specs.LruCache.{promoted, last_entry}
@@ -285,15 +283,6 @@ module _ {Y : Type 0} where
         }
       ]
 
-  -- the longest text so far covers the texts that are left
-  pub within-more : (most longer : ℕ) (e : String Y × StoredList) (left es : List (String Y × StoredList))
-      → ((n : ℕ) → most ≤ n → AreTextsWithin n (e ∷ left) → AreTextsWithin n es)
-      → most ≤ longer → length (string_bytes e.0) ≤ longer
-      → (n : ℕ) → longer ≤ n → AreTextsWithin n left → AreTextsWithin n es
-  within-more most longer e left es before wider own n more rest =
-      before n (omega arith)
-      (All-cons (λ (f : String Y × StoredList). length (string_bytes f.0) ≤ n) e left (omega arith) rest)
-
   -- a turn adds no text
   pub within-turned : (now : ℤ) (n m : ℕ) (current new : List (String Y × StoredList)) → IsTurnedOrRemoved now current new → n ≤ m
       → AreTextsWithin n current → AreTextsWithin m new
@@ -321,14 +310,3 @@ module _ {Y : Type 0} where
       let same : string_bytes key ≡ string_bytes at.key = (bytes_eq-Decides (string_bytes key) (string_bytes at.key)).0 at.is in
       let own : length (string_bytes at.key) ≤ n = all-last (λ (f : String Y × StoredList). length (string_bytes f.0) ≤ n) at.front (at.key, at.kept) all in
       subst (λ (t : List ℕ). length t ≤ n) (sym same) own
-
-  -- where no text is left, the longest text covers all
-  pub none-left : (most : ℕ) (left es : List (String Y × StoredList))
-      → ((n : ℕ) → most ≤ n → AreTextsWithin n left → AreTextsWithin n es) → left ≡ [] → AreTextsWithin most es
-  none-left most left es within none =
-      within most (omega arith)
-      (All-same (λ (f : String Y × StoredList). length (string_bytes f.0) ≤ most) left [] none
-      (All-nil (λ (f : String Y × StoredList). length (string_bytes f.0) ≤ most)))
-
-pub covers : (a b : ℕ) → (a ≤ ord_max nat_cmp a b) × (b ≤ ord_max nat_cmp a b)
-covers a b = (grind (arith, nat_tests), grind (arith, nat_tests))

@@ -47,6 +47,14 @@ module _ {Y : Type 0} where
   abbrev pub AreTextsWithin : ℕ → List (String Y × StoredList) → Type 0
   AreTextsWithin most = All (λ e. length (string_bytes e.0) ≤ most)
 
+  -- no text is added that is longer than those that are there
+  abbrev pub KeepsTexts : List (String Y × StoredList) → List (String Y × StoredList) → Type 0
+  KeepsTexts old new = (most : ℕ) → AreTextsWithin most old → AreTextsWithin most new
+
+  -- no text is added that is longer than those that are there, but for one
+  abbrev pub KeepsTextsBut : List ℕ → List (String Y × StoredList) → List (String Y × StoredList) → Type 0
+  KeepsTextsBut own old new = (most : ℕ) → length own ≤ most → AreTextsWithin most old → AreTextsWithin most new
+
 -- the first of a list are left, at least as many as are to stay
 pub record AreLeft {X : Type 0} (stay : ℕ) (old new : List X) : Type 0 where
   pub evicted : List X

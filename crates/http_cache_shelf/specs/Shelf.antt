@@ -83,7 +83,7 @@ pub record IsPutFirst (before after : List StoredSeen) (next next_after : ℕ) (
   pub stored : after ≡ record { id = next; exchange = e; body = body } ∷ left
   pub newest : AreNewestOf left before
 
--- the new response is stored first; or it isn't stored, and no id is given
+-- the new response is stored first; or it isn't stored, and no id is assigned
 abbrev pub IsInserted : List StoredSeen → List StoredSeen → ℕ → ℕ → Exchange → List ℕ → Option ResponseId → Type 0
 IsInserted before after next next_after e body (Some id) = IsPutFirst before after next next_after e body id
 IsInserted before after next next_after e body None = (after ≡ before) × (next_after ≡ next)

@@ -1,11 +1,11 @@
 //! A shelf that keeps responses in memory, within limits.
 //!
-//! The struct counts what is stored and gives the ids. What happens to the map of texts is in the modules
+//! The struct counts what is stored and assigns the ids. What happens to the map of texts is in the modules
 //! below, by layers: `list` (one target), `map` (a text in the map), `bounds` and `sweep` (the whole map).
-ghost use Rattle.std.specs.Prelude.{◌≡◌, ◌<◌, ℕ, List, [], false, IfOk};
+ghost use Rattle.std.specs.Prelude.{◌≡◌, ◌<◌, ℕ, List, [], false, string_capacity, IfOk};
 ghost use Rattle.http_cache_shelf.specs.Shelf.{without, AreIdsBelow};
 ghost use Rattle.http_cache_shelf.specs.Target.{text_of};
-ghost use Rattle.http_cache_shelf.specs.Memory.{stored_under, HasUnder, KeepsBounds};
+ghost use Rattle.http_cache_shelf.specs.Memory.{stored_under, AreTextsWithin, HasUnder, KeepsBounds};
 
 pub(crate) mod bounds;
 pub(crate) mod list;
@@ -31,9 +31,17 @@ use std::alloc::{AllocError, Global};
 
 /// Stored responses in memory, which are lost when the process ends.
 ///
-/// Over a limit the shelf evicts the target that was used longest ago, with all its responses, and so
-/// on. If the target that was used last is over a limit by itself, the shelf evicts the oldest responses
-/// of that target. A new response that alone is over a limit isn't stored.
+/// Over a limit the shelf evicts targets, with all their responses, the one that was used longest ago
+/// first. If the target that was used last is over a limit by itself, the shelf evicts the oldest
+/// responses of that target. A new response that alone is over a limit isn't stored.
+///
+/// Only `put` and `body` return errors, when out of memory.
+///
+///     let limits = Limits {
+///         body: 3,
+///         ..Limits::default()
+///     };
+///     let mut shelf = MemoryShelf::new(alloc, limits)?;
 ///
 /// The hash of the map has a fixed seed. Where untrusted clients choose the targets, they can make
 /// look-ups slow.
@@ -43,12 +51,13 @@ pub struct MemoryShelf {
     limits: Limits,
     // The stored responses under the text of their target, the text that was used last first.
     kept: LruCache<String, StoredList>,
-    // What `kept` holds. No clause ties it to `kept`, so it is only ever counted down to nothing.
+    // How much `kept` holds. No clause ties the count to `kept`, so its sums stop and never wrap.
     held: Amount,
-    // Room for the longest text in `kept`, so that `sweep` takes no memory.
+    // Has room for the longest text in `kept`, so that `sweep` takes no memory.
     buffer: String,
     next_id: u64,
     ghost ids_below: { (text : List ℕ) → AreIdsBelow next_id (stored_under kept.entries text) },
+    ghost has_room: { AreTextsWithin (string_capacity buffer) kept.entries },
 }
 
 impl MemoryShelf {
@@ -121,7 +130,8 @@ impl MemoryShelf {
 }
 
 impl Shelf for MemoryShelf {
-    ghost use Rattle.std.specs.Prelude.{◌≡◌};
+    ghost use Rattle.std.specs.Prelude.{◌≡◌, IsOk, OnOk, OnErr};
+    ghost use Rattle.http_cache_shelf.specs.Shelf.{IsSwept, KeepsAll};
     ghost use Rattle.http_cache_shelf.specs.Memory.{stored_under, is_last_used};
 
     ghost stored = { λ s. stored_under s.kept.entries };
@@ -172,21 +182,15 @@ impl Shelf for MemoryShelf {
             policy,
             body: Some(body),
         };
-        make_room(&mut self.buffer, target.as_str().len())?;
-        let removed = put_stored(
-            &mut self.kept,
-            self.alloc,
-            target.as_str(),
-            superseded,
-            stored,
-            size,
-        )?;
+        let text = target.as_str();
+        make_room(&mut self.buffer, text.len())?;
+        let removed = put_stored(&mut self.kept, self.alloc, text, superseded, stored, size)?;
         self.next_id += 1;
         self.held = self.held.minus(removed).plus(Amount {
             responses: 1,
             bytes: size,
         });
-        self.keep_limits(target.as_str(), 1);
+        self.keep_limits(text, 1);
         Ok(Some(id))
     }
 
@@ -217,8 +221,18 @@ impl Shelf for MemoryShelf {
         Ok(())
     }
 
-    fn sweep(&mut self, now: Timestamp) -> Result<usize, ShelfError> {
-        let removed = sweep_all(&mut self.kept, &mut self.buffer, now)?;
+    // The clauses of the trait, and that the call never fails.
+    fn sweep(&mut self, now: Timestamp) -> Result<usize, ShelfError>
+        ensures ok { IsOk result }
+        ensures swept { OnOk result (IsSwept now.nanosecond
+            (⟦<MemoryShelf as Shelf>⟧.stored self.old) (⟦<MemoryShelf as Shelf>⟧.stored self.new)) }
+        ensures next { ⟦<MemoryShelf as Shelf>⟧.next_id self.new
+            ≡ ⟦<MemoryShelf as Shelf>⟧.next_id self.old }
+        ensures kept { OnErr result (KeepsAll
+            (⟦<MemoryShelf as Shelf>⟧.stored self.old) (⟦<MemoryShelf as Shelf>⟧.next_id self.old)
+            (⟦<MemoryShelf as Shelf>⟧.stored self.new) (⟦<MemoryShelf as Shelf>⟧.next_id self.new)) }
+    {
+        let removed = sweep_all(&mut self.kept, &mut self.buffer, now);
         self.held = self.held.minus(removed);
         Ok(removed.responses)
     }

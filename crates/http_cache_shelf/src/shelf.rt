@@ -12,8 +12,8 @@ use jiff::Timestamp;
 use std::alloc::{AllocError, AllocFailed, Global};
 use thiserror::Error;
 
-/// The name of one stored response. A shelf gives each id once and in rising order, so the greater of
-/// two ids is of the newer response, and no id ever names another response.
+/// The name of one stored response. A shelf assigns each id once and in rising order, so the greater
+/// of two ids is of the newer response, and no id ever names another response.
 #[derive(Clone, Copy, Debug, PartialEq, Eq, PartialOrd, Ord, Hash)]
 pub struct ResponseId(u64);
 
@@ -68,7 +68,7 @@ impl<T: Drop> From<AllocFailed<T>> for ShelfError {
 }
 
 /// A store of responses (RFC 9111, section 2). For each target it has a list of stored responses,
-/// newest first, and it has the id that it gives next, which is above every id that is stored.
+/// newest first, and it has the id that it assigns next, which is above every id that is stored.
 ///
 /// After an `Err` of any call both are as before. A call for one target leaves the responses of all
 /// other targets alone, but for targets that `put` or `renew` evicts because of a limit. A client makes
@@ -85,7 +85,7 @@ pub trait Shelf {
     // What is stored for the text of a target, newest first.
     ghost stored: { Self → List ℕ → List StoredSeen };
 
-    // The id that is given next.
+    // The id that `put` returns next.
     ghost next_id: { Self → ℕ };
 
     // That the last look-up was of the target of a text.
@@ -207,7 +207,7 @@ pub trait Shelf {
         ensures kept { OnErr result
             (KeepsAll (stored self.old) (next_id self.old) (stored self.new) (next_id self.new)) };
 
-    // Each id that is stored is below the next one. As `put` gives the next id and counts it up, no id
-    // is given twice.
+    // Each id that is stored is below the next one. As `put` returns the next id and counts it up,
+    // no id is assigned twice.
     ghost ids_below: { (s : Self) (text : List ℕ) → AreIdsBelow (next_id s) (stored s text) };
 }

@@ -1,7 +1,7 @@
 //! The limits of a shelf in memory, and what is evicted to keep them: the target that was used longest
 //! ago first, then the oldest responses of the target that was used last.
 ghost use Rattle.std.specs.Prelude.{◌≡◌, ◌-◌, length, take};
-ghost use Rattle.http_cache_shelf.specs.Memory.{stored_under, AreFewer, IsFront, IsShortened, KeepsBounds};
+ghost use Rattle.http_cache_shelf.specs.Memory.{stored_under, AreFewer, KeepsTexts, IsFront, IsShortened, KeepsBounds};
 
 use crate::memory::list::StoredList;
 use crate::memory::map::tidy;
@@ -88,7 +88,8 @@ fn shorten(
     text: &str,
     stay: usize,
 ) -> Amount
-    ensures { IsShortened text.now stay kept.old.entries kept.new.entries }
+    ensures shortened { IsShortened text.now stay kept.old.entries kept.new.entries }
+    ensures texts { KeepsTexts kept.old.entries kept.new.entries }
 {
     match kept.get_mut(text) {
         Some(list) => {
@@ -114,6 +115,7 @@ pub(crate) fn keep_limits(
 ) -> Amount
     ensures kept { KeepsBounds text.now stay kept.old.entries kept.new.entries }
     ensures fewer { AreFewer (stored_under kept.old.entries) (stored_under kept.new.entries) }
+    ensures texts { KeepsTexts kept.old.entries kept.new.entries }
 {
     let evicted = evict(kept, held.minus(limits.room()));
     let shortened = shorten(kept, limits, held.minus(evicted), text, stay);

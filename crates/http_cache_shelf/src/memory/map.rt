@@ -6,7 +6,7 @@ ghost use Rattle.std.specs.Prelude.{◌≡◌, ◌∷◌, [], true, None, OnOk, 
 ghost use Rattle.std.specs.Map.{lookup};
 ghost use Rattle.http_cache_shelf.specs.Shelf.{without, renewed, has_id, RemovesThese, ShowsAll};
 ghost use Rattle.http_cache_shelf.specs.Target.{text_of};
-ghost use Rattle.http_cache_shelf.specs.Memory.{all_seen, seen_of, stored_under, is_last_used, is_text, HasUnder, IsOnTop};
+ghost use Rattle.http_cache_shelf.specs.Memory.{all_seen, seen_of, stored_under, is_last_used, is_text, HasUnder, IsOnTop, KeepsTexts, KeepsTextsBut};
 
 use crate::memory::list::{StoredList, list_of_one};
 use crate::memory::size::Amount;
@@ -20,6 +20,7 @@ use std::alloc::Global;
 pub(crate) fn promote(kept: &mut LruCache<String, StoredList>, text: &str)
     ensures stored { stored_under kept.new.entries ≡ stored_under kept.old.entries }
     ensures first { is_last_used kept.new.entries text.now }
+    ensures texts { KeepsTexts kept.old.entries kept.new.entries }
 {
     let _is_kept = kept.promote(text);
 }
@@ -44,7 +45,8 @@ pub(crate) fn first_stored<'a>(
 
 /// Removes all that is stored under a text.
 pub(crate) fn remove_text(kept: &mut LruCache<String, StoredList>, text: &str) -> Amount
-    ensures { HasUnder text.now [] (stored_under kept.old.entries) (stored_under kept.new.entries) }
+    ensures stored { HasUnder text.now [] (stored_under kept.old.entries) (stored_under kept.new.entries) }
+    ensures texts { KeepsTexts kept.old.entries kept.new.entries }
 {
     // The length comes with the proof that no text is a key twice.
     let _length = kept.len();
@@ -63,8 +65,9 @@ pub(crate) fn remove_text(kept: &mut LruCache<String, StoredList>, text: &str) -
 
 /// Removes all that is stored under the texts of some targets.
 pub(crate) fn remove_texts(kept: &mut LruCache<String, StoredList>, targets: &[Target]) -> Amount
-    ensures { RemovesThese (map text_of targets.now) (stored_under kept.old.entries)
+    ensures stored { RemovesThese (map text_of targets.now) (stored_under kept.old.entries)
         (stored_under kept.new.entries) }
+    ensures texts { KeepsTexts kept.old.entries kept.new.entries }
 {
     let mut removed = Amount::none();
     for target in targets {
@@ -86,7 +89,8 @@ fn is_spent(kept: &LruCache<String, StoredList>, text: &str) -> bool
 
 /// Removes a text if its list is empty, so that it isn't counted as used.
 pub(crate) fn tidy(kept: &mut LruCache<String, StoredList>, text: &str)
-    ensures { stored_under kept.new.entries ≡ stored_under kept.old.entries }
+    ensures stored { stored_under kept.new.entries ≡ stored_under kept.old.entries }
+    ensures texts { KeepsTexts kept.old.entries kept.new.entries }
 {
     if is_spent(kept, text) {
         let _removed = remove_text(kept, text);
@@ -99,8 +103,9 @@ pub(crate) fn remove_ids(
     text: &str,
     ids: &[ResponseId],
 ) -> Amount
-    ensures { HasUnder text.now (without ids.now (stored_under kept.old.entries text.now))
+    ensures stored { HasUnder text.now (without ids.now (stored_under kept.old.entries text.now))
         (stored_under kept.old.entries) (stored_under kept.new.entries) }
+    ensures texts { KeepsTexts kept.old.entries kept.new.entries }
 {
     match kept.get_mut(text) {
         Some(list) => list.remove(ids),
@@ -120,6 +125,7 @@ pub(crate) fn set_policy(
         (stored_under kept.old.entries) (stored_under kept.new.entries) }
     ensures first { is_last_used kept.new.entries text.now }
     ensures was_stored { is_some result ≡ has_id id.0 (stored_under kept.old.entries text.now) }
+    ensures texts { KeepsTexts kept.old.entries kept.new.entries }
 {
     match kept.get_mut(text) {
         Some(list) => list.set_policy(id, policy),
@@ -139,6 +145,7 @@ fn put_key(
     requires { lookup (is_text (string_bytes key)) kept.old.entries ≡ None }
     ensures ok { OnOk result (IsOnTop (string_bytes key) (all_seen list) kept.old.entries kept.new.entries) }
     ensures kept { OnErr result (kept.new ≡ kept.old) }
+    ensures texts { KeepsTextsBut (string_bytes key) kept.old.entries kept.new.entries }
 {
     drop(kept.put(key, list)?);
     Ok(())
@@ -155,6 +162,7 @@ fn put_new(
     requires { lookup (is_text text.now) kept.old.entries ≡ None }
     ensures ok { OnOk result (IsOnTop text.now (seen_of stored ∷ []) kept.old.entries kept.new.entries) }
     ensures kept { OnErr result (kept.new ≡ kept.old) }
+    ensures texts { KeepsTextsBut text.now kept.old.entries kept.new.entries }
 {
     let list = list_of_one(alloc, stored, size)?;
     let key = String::from_str(alloc, text)?;
@@ -176,6 +184,7 @@ pub(crate) fn put_stored(
         (seen_of stored ∷ without superseded.now (stored_under kept.old.entries text.now))
         kept.old.entries kept.new.entries) }
     ensures kept { OnErr result (stored_under kept.new.entries ≡ stored_under kept.old.entries) }
+    ensures texts { KeepsTextsBut text.now kept.old.entries kept.new.entries }
 {
     if !kept.contains(text) {
         return put_new(kept, alloc, text, stored, size);

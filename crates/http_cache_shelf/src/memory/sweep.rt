@@ -18,20 +18,11 @@ use std::alloc::AllocError;
 ///
 /// Returns `AllocError` when out of memory.
 pub(crate) fn make_room(buffer: &mut String, length: usize) -> Result<(), AllocError>
-    ensures { OnOk result (length ≤ string_capacity buffer.new) }
+    ensures room { OnOk result (length ≤ string_capacity buffer.new) }
+    ensures capacity { string_capacity buffer.old ≤ string_capacity buffer.new }
 {
     buffer.clear();
     buffer.reserve(length)
-}
-
-fn longest_text(kept: &LruCache<String, StoredList>) -> usize
-    ensures { AreTextsWithin result kept.now.entries }
-{
-    let mut longest = 0;
-    for (text, _list) in kept.iter() {
-        longest = longest.max(text.as_str().len());
-    }
-    longest
 }
 
 // Copies a text into a buffer that has room for it.
@@ -109,13 +100,16 @@ fn sweep_last(
     removed
 }
 
-fn sweep_each(
+/// Removes under every text what can't be used again at a time, and returns what was removed. The
+/// buffer has room for each text, so no memory is taken.
+pub(crate) fn sweep_all(
     kept: &mut LruCache<String, StoredList>,
     buffer: &mut String,
     now: Timestamp,
 ) -> Amount
     requires { AreTextsWithin (string_capacity buffer.old) kept.old.entries }
-    ensures { IsSwept now.nanosecond (stored_under kept.old.entries) (stored_under kept.new.entries) }
+    ensures swept { IsSwept now.nanosecond (stored_under kept.old.entries) (stored_under kept.new.entries) }
+    ensures room { AreTextsWithin (string_capacity buffer.new) kept.new.entries }
 {
     let count = kept.len();
     let mut removed = Amount::none();
@@ -124,23 +118,4 @@ fn sweep_each(
         removed = removed.plus(more);
     }
     removed
-}
-
-/// Removes under every text what can't be used again at a time, and returns what was removed. The
-/// buffer has room already if `make_room` was called for each text.
-///
-/// # Errors
-///
-/// Returns `AllocError` if the buffer has no room and there is no memory for it.
-pub(crate) fn sweep_all(
-    kept: &mut LruCache<String, StoredList>,
-    buffer: &mut String,
-    now: Timestamp,
-) -> Result<Amount, AllocError>
-    ensures swept { OnOk result
-        (IsSwept now.nanosecond (stored_under kept.old.entries) (stored_under kept.new.entries)) }
-    ensures kept { OnErr result (kept.new ≡ kept.old) }
-{
-    make_room(buffer, longest_text(kept))?;
-    Ok(sweep_each(kept, buffer, now))
 }

@@ -1,11 +1,14 @@
--- What is left has ids that were stored.
+-- What is left has ids and texts that were stored.
+use Rattle.std.proofs.Common.{string_capacity}
 use Rattle.http_cache_shelf.specs.Memory.{stored_under}
 use Rattle.http_cache_shelf.proofs.IdLemmas.{below-fewer}
 use Rattle.http_cache_shelf.proofs.memory.MemoryShelf.keep_limits.Goals as goal
 
 pub invariant_of-self : goal.invariant_of-self
 invariant_of-self c =
+    let self = c.args.self.now in
     record {
-      ids_below = below-fewer c.args.self.now.next_id (stored_under c.args.self.now.kept.entries)
-          (stored_under c.keep_limits-removed.new.kept.entries) c.keep_limits-removed.ensures.fewer c.args.self.now.ids_below;
+      ids_below = below-fewer self.next_id (stored_under self.kept.entries)
+          (stored_under c.keep_limits-removed.new.kept.entries) c.keep_limits-removed.ensures.fewer self.ids_below;
+      has_room = c.keep_limits-removed.ensures.texts (string_capacity self.buffer) self.has_room;
     }

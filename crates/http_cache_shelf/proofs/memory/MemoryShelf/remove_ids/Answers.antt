@@ -1,15 +1,17 @@
--- What is left has ids that were stored.
+-- What is left has ids and texts that were stored.
+use Rattle.std.proofs.Common.{string_capacity}
 use Rattle.http_cache_shelf.specs.Memory.{stored_under}
 use Rattle.http_cache_shelf.proofs.IdLemmas.{below-removed_ids, below-equal}
 use Rattle.http_cache_shelf.proofs.memory.MemoryShelf.remove_ids.Goals as goal
 
 pub invariant_of-self : goal.invariant_of-self
 invariant_of-self c =
-    let next = c.args.self.now.next_id in
-    let old = stored_under c.args.self.now.kept.entries in
+    let self = c.args.self.now in
+    let old = stored_under self.kept.entries in
     let mid = stored_under c.remove_ids-removed.new.kept.entries in
-    let new = stored_under c.tidy.new.kept.entries in
+    let room = string_capacity self.buffer in
     record {
-      ids_below = below-equal next mid new c.tidy.ensures
-          (below-removed_ids next c.as_str.result.now c.args.ids.now old mid c.remove_ids-removed.ensures c.args.self.now.ids_below);
+      ids_below = below-equal self.next_id mid (stored_under c.tidy.new.kept.entries) c.tidy.ensures.stored
+          (below-removed_ids self.next_id c.as_str.result.now c.args.ids.now old mid c.remove_ids-removed.ensures.stored self.ids_below);
+      has_room = c.tidy.ensures.texts room (c.remove_ids-removed.ensures.texts room self.has_room);
     }

@@ -4,12 +4,16 @@ use Rattle.std.specs.Map.{lookup}
 use Rattle.std.specs.Option.{option_copied_mut}
 use Rattle.http_cache_shelf.specs.Memory.{is_text}
 use Rattle.http_cache_shelf.proofs.BoundsLemmas.{shortened}
+use Rattle.http_cache_shelf.proofs.TextLemmas.{texts-written}
 use Rattle.http_cache_shelf.proofs.memory.bounds.shorten.Goals as goal
 
-pub returns-in-Some : goal.returns-in-Some
-returns-in-Some c =
+pub returns-in-Some-clause-shortened : goal.returns-in-Some-clause-shortened
+returns-in-Some-clause-shortened c =
     let text = c.args.text.now in
     let es = c.args.kept.now.entries in
     let found : lookup (is_text text) es ≡ Some c.in-Some.list.now =
     sym c.get_mut.ensures.value ∙ ap option_copied_mut c.in-Some.is in
     shortened text c.args.stay es c.in-Some.list.now c.shorten.new.self found c.shorten.ensures
+
+pub returns-in-Some-clause-texts : goal.returns-in-Some-clause-texts
+returns-in-Some-clause-texts c = texts-written (is_text c.args.text.now) c.args.kept.now.entries c.shorten.new.self

@@ -1,5 +1,7 @@
 -- The order of use doesn't change what is stored.
 use Rattle.http_cache_shelf.proofs.MapLemmas.{stored_under-promoted, is_last_used-promoted}
+use Rattle.http_cache_shelf.specs.Memory.{is_text}
+use Rattle.http_cache_shelf.proofs.TextLemmas.{texts-promoted}
 use Rattle.http_cache_shelf.proofs.memory.map.promote.Goals as goal
 
 pub returns-clause-stored : goal.returns-clause-stored
@@ -7,3 +9,6 @@ returns-clause-stored c = rw c.promote-is_kept.ensures.entries (stored_under-pro
 
 pub returns-clause-first : goal.returns-clause-first
 returns-clause-first c = rw c.promote-is_kept.ensures.entries (is_last_used-promoted c.args.text.now c.args.kept.now.entries)
+
+pub returns-clause-texts : goal.returns-clause-texts
+returns-clause-texts c = rw c.promote-is_kept.ensures.entries (texts-promoted (is_text c.args.text.now) c.args.kept.now.entries)

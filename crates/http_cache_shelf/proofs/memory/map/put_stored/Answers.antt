@@ -8,6 +8,7 @@ use Rattle.http_cache_shelf.specs.Memory.{seen_of, all_seen, is_text, stored_und
 use Rattle.http_cache_shelf.specs.declared.memory.list.StoredList.{StoredList}
 use Rattle.http_cache_shelf.proofs.MapLemmas.{written-on-top, written-same}
 use Rattle.http_cache_shelf.proofs.Outcomes.{on-ok, on-err}
+use Rattle.http_cache_shelf.proofs.TextLemmas.{texts-written}
 use Rattle.http_cache_shelf.proofs.memory.map.put_stored.Goals as goal
 
 pub returns-clause-ok : goal.returns-clause-ok
@@ -37,3 +38,6 @@ returns-clause-kept c =
     on-err c.put_first.result (all_seen w ≡ all_seen v)
     (stored_under (set_value (is_text text) (promoted (is_text text) es) w) ≡ stored_under es)
     (written-same text es v w found) c.put_first.ensures.kept
+
+pub returns-clause-texts : goal.returns-clause-texts
+returns-clause-texts c = λ most own h. texts-written (is_text c.args.text.now) c.args.kept.now.entries c.put_first.new.self most h

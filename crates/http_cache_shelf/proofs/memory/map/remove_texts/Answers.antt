@@ -14,8 +14,10 @@ loop-target-preserved c =
     let item = c.target-item.result in
     let old = stored_under c.args.kept.now.entries in
     let new = stored_under c.remove_text-more.new.kept.entries in
-    let own : c.as_str.result.now ≡ text_of (get_or ts at item) = search rules in
-    subst (λ (these : List (List ℕ)). RemovesThese these old new)
-    (ap (λ (x : List ℕ). map text_of (take at ts) ++ x ∷ []) own ∙ sym (map_more text_of ts at item (omega arith)))
-    (removes-more (map text_of (take at ts)) c.as_str.result.now old (stored_under c.loop-target.kept.entries) new
-    c.loop-target.invariant c.remove_text-more.ensures)
+    let own : c.as_str.result.now ≡ text_of (get_or ts at item) = search rules in (
+      subst (λ (these : List (List ℕ)). RemovesThese these old new)
+          (ap (λ (x : List ℕ). map text_of (take at ts) ++ x ∷ []) own ∙ sym (map_more text_of ts at item (omega arith)))
+          (removes-more (map text_of (take at ts)) c.as_str.result.now old (stored_under c.loop-target.kept.entries) new
+          c.loop-target.invariant.0 c.remove_text-more.ensures.stored),
+      λ most h. c.remove_text-more.ensures.texts most (c.loop-target.invariant.1 most h),
+    )

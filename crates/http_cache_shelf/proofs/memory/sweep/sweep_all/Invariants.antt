@@ -2,7 +2,7 @@
 use Rattle.std.proofs.Common.{◌-◌, length, string_capacity}
 use Rattle.http_cache_shelf.specs.Memory.{AreTextsWithin}
 use Rattle.http_cache_shelf.proofs.SweepLemmas.{Sweeping}
-use Rattle.http_cache_shelf.proofs.memory.sweep.sweep_each.Given as goal
+use Rattle.http_cache_shelf.proofs.memory.sweep.sweep_all.Given as goal
 
 abbrev pub invariant-loop-swept : goal.invariant-loop-swept
 invariant-loop-swept l =

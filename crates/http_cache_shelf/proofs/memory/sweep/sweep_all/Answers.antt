@@ -1,7 +1,7 @@
 -- One entry more is swept in each turn.
 use Rattle.std.proofs.Common.{◌≡◌, ◌-◌, ◌+◌, arith, length, string_capacity}
 use Rattle.http_cache_shelf.proofs.SweepLemmas.{sweep-start, sweep-step, sweep-end, within-turned}
-use Rattle.http_cache_shelf.proofs.memory.sweep.sweep_each.Goals as goal
+use Rattle.http_cache_shelf.proofs.memory.sweep.sweep_all.Goals as goal
 
 pub loop-swept-init : goal.loop-swept-init
 loop-swept-init c =
@@ -23,8 +23,8 @@ loop-swept-preserved c =
           c.sweep_last-more.ensures.turned c.sweep_last-more.ensures.capacity c.loop-swept.invariant.1,
     )
 
-pub returns : goal.returns
-returns c =
+pub returns-clause-swept : goal.returns-clause-swept
+returns-clause-swept c =
     let es = c.args.kept.now.entries in
     let count : c.len-count.result ≡ length es = c.len-count.ensures.len in
     let none : length es - c.loop-swept._swept ≡ 0 = omega arith in

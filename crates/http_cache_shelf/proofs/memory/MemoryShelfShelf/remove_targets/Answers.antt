@@ -1,0 +1,15 @@
+-- What is left has ids and texts that were stored.
+use Rattle.std.proofs.Common.{string_capacity, map}
+use Rattle.http_cache_shelf.specs.Target.{text_of}
+use Rattle.http_cache_shelf.specs.Memory.{stored_under}
+use Rattle.http_cache_shelf.proofs.IdLemmas.{below-removed}
+use Rattle.http_cache_shelf.proofs.memory.MemoryShelfShelf.remove_targets.Goals as goal
+
+pub invariant_of-self : goal.invariant_of-self
+invariant_of-self c =
+    let self = c.args.self.now in
+    record {
+      ids_below = below-removed self.next_id (map text_of c.args.targets.now) (stored_under self.kept.entries)
+          (stored_under c.remove_texts-removed.new.kept.entries) c.remove_texts-removed.ensures.stored self.ids_below;
+      has_room = c.remove_texts-removed.ensures.texts (string_capacity self.buffer) self.has_room;
+    }
