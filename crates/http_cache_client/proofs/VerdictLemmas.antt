@@ -1,5 +1,5 @@
 -- An answer of one of the responses that a look-up shows is of a response that is stored.
-use Rattle.std.proofs.Common.{◌≡◌, ◌⊎◌, ◌<◌, ◌+◌, ℕ, zero, suc, List, [], ◌∷◌, length, get_or, sym, ap, subst, ◌∙◌, inl, inr, arith}
+use Rattle.std.proofs.Common.{◌≡◌, ◌<◌, ℕ, zero, suc, List, [], ◌∷◌, length, get_or, ap, subst, ◌∙◌, inl, inr, arith}
 use Rattle.std.specs.Prelude.{Contains}
 use Rattle.std.proofs.lemmas.List.Elements.{Contains-append_right, Contains-get_or}
 use Rattle.http_cache_semantics.specs.Headers.{Headers}
@@ -33,7 +33,7 @@ stored_status all stored text status shows of =
       one = shown.0;
       among = shown.1;
       is = elim of.is [
-        inl same ↦ inl (same ∙ ap (λ e. e.status) shown.2.exchange)
+        | inl same ↦ inl (same ∙ ap (λ e. e.status) shown.2.exchange)
         | inr known ↦ inr known
       ];
     }

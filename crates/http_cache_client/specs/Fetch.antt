@@ -1,5 +1,5 @@
 -- What an origin is sent for a request (RFC 9111, section 4.3.3).
-use Rattle.std.specs.Prelude.{◌≡◌, ◌⊎◌, ⊤, ℕ, ℤ, List, [], Option, Some, None}
+use Rattle.std.specs.Prelude.{◌≡◌, ◌⊎◌, ⊤, ℕ, ℤ, List, [], Option, Some}
 use Rattle.http.specs.Request.{head_of as head_of_request, body_of}
 use Rattle.http.specs.Response.{head_of}
 use Rattle.http.specs.declared.request.Request.{Request}

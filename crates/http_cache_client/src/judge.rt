@@ -25,11 +25,7 @@ pub(crate) enum Selected<'a> {
 fn is_mismatch(reason: Reason<'_>) -> bool {
     matches!(
         reason,
-        Reason::Target
-            | Reason::Host
-            | Reason::OtherOfGetAndHead
-            | Reason::Method
-            | Reason::Vary(_)
+        Reason::Target | Reason::Host | Reason::OtherOfGetAndHead | Reason::Method | Reason::Vary(_)
     )
 }
 

@@ -66,11 +66,7 @@ struct Lines {
     failed: HeaderValue,
 }
 
-fn lines_of(
-    alloc: Global,
-    headers: &HeaderMap,
-    member: &Member<'_>,
-) -> Result<Lines, AllocError> {
+fn lines_of(alloc: Global, headers: &HeaderMap, member: &Member<'_>) -> Result<Lines, AllocError> {
     let stored = Member {
         stored: true,
         ..*member
@@ -481,7 +477,10 @@ impl<S: Shelf + Drop> Client<S> {
             → renewal.reply.head.status ≡ 304)) }
         ensures here { IfOk result (λ answer. IfSome answer (λ sent. ¬ (IsElsewhere (body_of sent)))) }
     {
-        let Renewal { mut reply, mut plan } = renewal;
+        let Renewal {
+            mut reply,
+            mut plan,
+        } = renewal;
         match self.body_of(alloc, target, &mut reply) {
             Ok(Some(body)) => {
                 plan.left = Some(reply.left);

@@ -37,7 +37,11 @@ pub(crate) fn generated<'a>(cache: &'a str, detail: &'a str) -> Member<'a> {
 }
 
 /// The client's member for a request that was sent.
-pub(crate) fn forwarded<'a>(cache: &'a str, why: &'a Why, status: Option<StatusCode>) -> Member<'a> {
+pub(crate) fn forwarded<'a>(
+    cache: &'a str,
+    why: &'a Why,
+    status: Option<StatusCode>,
+) -> Member<'a> {
     Member {
         cache,
         outcome: CacheOutcome::Forwarded(why.forward),

@@ -1,5 +1,5 @@
 -- What a validation leaves off is absent from it.
-use Rattle.std.proofs.Common.{◌≡◌, ℕ, Bool, true, false, not, List, [], ◌∷◌, cond, bytes_eq, codes, option_map, option_copied}
+use Rattle.std.proofs.Common.{◌≡◌, ℕ, true, false, not, List, [], ◌∷◌, cond, bytes_eq, codes, option_map, option_copied}
 use Rattle.std.proofs.Common.{Option, Some, None, refl, sym, ap, ◌∙◌}
 use Rattle.std.specs.Cmp.Lexicographic.{nat_list_cmp_total}
 use Rattle.std.specs.Borrow.{Bor}
@@ -9,7 +9,7 @@ use Rattle.http_cache_semantics.specs.Headers.{Headers, first, set}
 use Rattle.http_cache_semantics.proofs.HeadersLemmas.{ties}
 use Rattle.http_cache_semantics.specs.Filter.{is_spelled}
 use Rattle.http_cache_semantics.specs.Forwarding.{without_named, forwarded_headers}
-use Rattle.http_cache_messages.specs.Outgoing.{removed_fields, set_if_some, with_validators, validating, HasOnly, IsClean}
+use Rattle.http_cache_messages.specs.Outgoing.{removed_fields, set_if_some, validating, IsClean}
 
 -- what a reference shows
 pub bytes-copied : (o : Option (Bor FieldValue))

@@ -1,5 +1,5 @@
 -- The request that validates a stored response (RFC 9111, section 4.3.1).
-use Rattle.std.specs.Prelude.{◌≡◌, ℕ, List, [], ◌∷◌, Option, Some, None, codes, option_map, All}
+use Rattle.std.specs.Prelude.{◌≡◌, ℕ, List, [], ◌∷◌, Option, Some, None, codes, option_map}
 use Rattle.std.specs.FinMap as fin
 use Rattle.http_cache_semantics.specs.Headers.{Headers, first, set, IsAbsent}
 use Rattle.http_cache_semantics.specs.Forwarding.{without_named, forwarded_headers}

@@ -1,5 +1,5 @@
 -- A fresh response that is sent has its status.
-use Rattle.std.proofs.Common.{◌≡◌, Option, Some, subst}
+use Rattle.std.proofs.Common.{Option, Some, subst}
 use Rattle.http_cache_client.specs.Reply.{IsReplyOf}
 use Rattle.http_cache_client.specs.declared.reply.Reply.{Reply}
 use Rattle.http_cache_client.proofs.ask.decide.Goals as goal

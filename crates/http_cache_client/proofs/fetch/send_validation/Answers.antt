@@ -1,6 +1,5 @@
 -- The request of a token is sent without a body.
-use Rattle.std.proofs.Common.{◌≡◌, Ok, Err, IfOk, OnErr, Some, None, sym, subst, ◌∙◌}
-use Rattle.http.specs.Request.{head_of}
+use Rattle.std.proofs.Common.{Ok, Err, IfOk, OnErr, Some, None, sym, subst, ◌∙◌}
 use Rattle.http.specs.declared.request.Parts.{Parts}
 use Rattle.http_cache_messages.specs.Outgoing.{IsClean}
 use Rattle.http_cache_fields.specs.Headers.{headers_of}
@@ -19,7 +18,7 @@ returns-clause-response g c =
     (Some (received.0, received.1.nanosecond)) c.send.new.self)
     → IfOk r (λ received. HasSentValidation g.O.Origin.sent c.args.origin.now c.send.new.self
     (Some (received.0, received.1.nanosecond)))) [
-      Ok received ↦ λ sent. record {
+      | Ok received ↦ λ sent. record {
         validation = c.from_parts-asking.result;
         validating = validating;
         was_sent = sent;
@@ -38,7 +37,7 @@ returns-clause-no_response g c =
     (elim c.send.result as (λ r. OnErr r (g.O.Origin.sent c.args.origin.now c.from_parts-asking.result None
     c.send.new.self)
     → OnErr r (HasSentValidation g.O.Origin.sent c.args.origin.now c.send.new.self None)) [
-      Ok received ↦ λ sent. sent
+      | Ok received ↦ λ sent. sent
       | Err cause ↦ λ sent. record {
         validation = c.from_parts-asking.result;
         validating = validating;

@@ -1,7 +1,7 @@
 -- What is passed on, without what is taken off, and with the stored validators.
-use Rattle.std.proofs.Common.{◌≡◌, ap, sym, subst, ◌∙◌}
+use Rattle.std.proofs.Common.{ap, sym, subst, ◌∙◌}
 use Rattle.http.specs.Request.{head_of}
-use Rattle.http_cache_semantics.specs.Headers.{Headers, headers_of}
+use Rattle.http_cache_semantics.specs.Headers.{headers_of}
 use Rattle.http_cache_semantics.specs.Forwarding.{without_named, forwarded_headers}
 use Rattle.http_cache_messages.specs.Outgoing.{removed_fields, with_validators, validating, IsClean}
 use Rattle.http_cache_messages.proofs.OutgoingLemmas.{IsClean-validating}

@@ -1,11 +1,11 @@
 -- A 304 is for the request's own condition, or is what was received for the request.
-use Rattle.std.proofs.Common.{◌≡◌, sym, ◌∙◌, inl, inr}
+use Rattle.std.proofs.Common.{sym, ◌∙◌, inl, inr}
 use Rattle.http_cache_client.proofs.client.Client.forward.Goals as goal
 
 pub returns-in_ok-answer-in-Ok-clause-conditional : goal.returns-in_ok-answer-in-Ok-clause-conditional
 returns-in_ok-answer-in-Ok-clause-conditional g c is =
     elim (c.in_ok-answer-in-Ok.ensures.conditional (sym c.with_bytes.ensures ∙ is)) [
-      inl own ↦ inl own
+      | inl own ↦ inl own
       | inr received ↦ inr (
         c.args.origin.now,
         c.in-Ok.response,
