@@ -1,8 +1,10 @@
 //! Faults that an earlier caching client had, each as a list of requests that showed it.
-use crate::scripted::{MemoryClient, at, check, new_client, request_of, response_of, values_of};
+use crate::scripted::{
+    MemoryClient, at, check, new_client, received_text, request_of, validation_at, values_of,
+};
 use bytes::Bytes;
-use http::{Request, Response};
-use http_cache_client::{Body, Decision, Received, Times, Validation};
+use http::Request;
+use http_cache_client::{Decision, Times};
 use jiff::Timestamp;
 use std::alloc::Global;
 use std::process::Abort;
@@ -58,7 +60,10 @@ fn values_in_hit(
 ) -> Result<String, Fail> {
     match client.ask(alloc, request, now)? {
         Decision::Answer(answer) => values_of(alloc, answer.headers(), name),
-        _ => Err("no hit")?,
+        other => {
+            drop(other);
+            Err("no hit")?
+        }
     }
 }
 
@@ -75,41 +80,6 @@ fn a_hit_has_both_of_two_lines_of_vary(rt: HostRuntime) -> Result<(), Fail> {
     Ok(())
 }
 
-// The validation of what is stored for a request.
-fn validation_of(
-    alloc: Global,
-    client: &mut MemoryClient,
-    request: &Request<Bytes>,
-    now: Timestamp,
-) -> Result<Validation, Fail> {
-    match client.ask(alloc, request, now)? {
-        Decision::Validate(validation) => Ok(validation),
-        _ => Err("no validation")?,
-    }
-}
-
-fn response_with_body(alloc: Global, text: &str) -> Result<Response<Body>, Fail> {
-    let (head, body) = response_of(alloc, text)?.ok_or("no response")?.into_parts();
-    Ok(Response::from_parts(head, Body::Here(body)))
-}
-
-// Whether the response to a validation, at 22 seconds, confirms nothing.
-fn confirms_nothing(
-    alloc: Global,
-    client: &mut MemoryClient,
-    validation: &mut Validation,
-    request: &Request<Bytes>,
-    text: &str,
-) -> Result<bool, Fail> {
-    let response = response_with_body(alloc, text)?;
-    let times = Times {
-        sent: at(20)?,
-        received: at(22)?,
-    };
-    let received = client.receive(alloc, validation, request, response, times)?;
-    Ok(matches!(received, Received::Again(_)))
-}
-
 #[test]
 fn a_late_response_changes_no_other_target(rt: HostRuntime) -> Result<(), Fail> {
     let mut client = new_client(rt.alloc())?;
@@ -118,11 +88,23 @@ fn a_late_response_changes_no_other_target(rt: HostRuntime) -> Result<(), Fail> 
         0|GET /b||200 ^ Cache-Control: max-age=100 ~ ETag: "1" ^ two|200 two|C; fwd=uri-miss; fwd-status=200; stored; ttl=100|GET"#;
     check(&rt, rt.alloc(), &mut client, stored)?;
     let asking = request_of(rt.alloc(), "GET /a", "")?;
-    let mut validation = validation_of(rt.alloc(), &mut client, &asking, at(20)?)?;
+    let mut validation = validation_at(rt.alloc(), &mut client, &asking, at(20)?)?;
     let changed = "21|POST /a||200 ^^ done|200 done|C; fwd=method; fwd-status=200|POST";
     check(&rt, rt.alloc(), &mut client, changed)?;
     let late = r#"304 ^ ETag: "1" ~ Cache-Control: no-store"#;
-    assert!(rt; confirms_nothing(rt.alloc(), &mut client, &mut validation, &asking, late)?);
+    let times = Times {
+        sent: at(20)?,
+        received: at(22)?,
+    };
+    let text = received_text(
+        rt.alloc(),
+        &mut client,
+        &mut validation,
+        &asking,
+        late,
+        times,
+    )?;
+    assert_eq!(rt; text.as_str(), "again");
     let left = "23|GET /b||none|200 two|C; hit; ttl=77|
         23|GET /a||404 ^ Cache-Control: no-store ^ gone|404 gone|C; fwd=uri-miss; fwd-status=404|GET";
     check(&rt, rt.alloc(), &mut client, left)

@@ -7,7 +7,7 @@
 use bytes::Bytes;
 use http::header::CACHE_STATUS;
 use http::{HeaderMap, Method, Request, Response, Uri, Version, request};
-use http_cache_client::{Client, FetchError, Origin};
+use http_cache_client::{Body, Client, Decision, FetchError, Origin, Received, Times, Validation};
 use http_cache_semantics::CacheOptions;
 use http_cache_semantics::directives::GetHeaderStr;
 use http_cache_shelf::{Limits, MemoryShelf};
@@ -198,6 +198,76 @@ fn check_row(
     let done = done(alloc, client, row)?;
     assert_eq!(rt; done.as_str(), due.as_str(), "at {row}");
     Ok(())
+}
+
+// The validation of a decision, if it has one.
+fn validation_in(decision: Decision) -> Option<Validation> {
+    match decision {
+        Decision::Validate(validation) => Some(validation),
+        Decision::Stale { answer, due } => {
+            drop(answer);
+            Some(due)
+        }
+        Decision::Answer(answer) => {
+            drop(answer);
+            None
+        }
+        Decision::Forward(token) => {
+            drop(token);
+            None
+        }
+    }
+}
+
+/// Returns the validation that is due of a request which is asked at a time.
+pub fn validation_at(
+    alloc: Global,
+    client: &mut MemoryClient,
+    request: &Request<Bytes>,
+    now: Timestamp,
+) -> Result<Validation, Fail> {
+    let decision = client.ask(alloc, request, now)?;
+    Ok(validation_in(decision).ok_or("no validation")?)
+}
+
+fn response_with_body(alloc: Global, text: &str) -> Result<Response<Body>, Fail> {
+    let (head, body) = response_of(alloc, text)?.ok_or("no response")?.into_parts();
+    Ok(Response::from_parts(head, Body::Here(body)))
+}
+
+fn text_of_answer(alloc: Global, answer: Response<Body>) -> Result<String, Fail> {
+    let (head, body) = answer.into_parts();
+    match body {
+        Body::Here(bytes) => text_of(alloc, &Response::from_parts(head, bytes)),
+        Body::Elsewhere(_) => {
+            drop(head);
+            Err("the body is elsewhere")?
+        }
+    }
+}
+
+fn text_of_received(alloc: Global, received: Received) -> Result<String, Fail> {
+    match received {
+        Received::Answer(answer) => text_of_answer(alloc, answer),
+        Received::Again(token) => {
+            drop(token);
+            Ok(String::from_str(alloc, "again")?)
+        }
+    }
+}
+
+/// Returns the text of what a client makes of the response to a validation: the answer, or `again`.
+pub fn received_text(
+    alloc: Global,
+    client: &mut MemoryClient,
+    validation: &mut Validation,
+    request: &Request<Bytes>,
+    text: &str,
+    times: Times,
+) -> Result<String, Fail> {
+    let response = response_with_body(alloc, text)?;
+    let received = client.receive(alloc, validation, request, response, times)?;
+    text_of_received(alloc, received)
 }
 
 /// Asks by each row in turn, and compares what was done with what the row says.
