@@ -256,15 +256,18 @@ fn text_of_received(alloc: Global, received: Received) -> Result<String, Fail> {
     }
 }
 
-/// Returns the text of what a client makes of the response to a validation: the answer, or `again`.
-pub fn received_text(
+// What a client makes of the response to a validation, which is sent at 20 and received at 22 seconds.
+fn received_text(
     alloc: Global,
     client: &mut MemoryClient,
     validation: &mut Validation,
     request: &Request<Bytes>,
     text: &str,
-    times: Times,
 ) -> Result<String, Fail> {
+    let times = Times {
+        sent: at(20)?,
+        received: at(22)?,
+    };
     let response = response_with_body(alloc, text)?;
     let received = client.receive(alloc, validation, request, response, times)?;
     text_of_received(alloc, received)
@@ -281,4 +284,45 @@ pub fn check(
         check_row(rt, alloc, client, row)?;
     }
     Ok(())
+}
+
+// The token is used after other rows were asked.
+fn late_text(
+    rt: &impl Abort,
+    alloc: Global,
+    client: &mut MemoryClient,
+    validation: &mut Validation,
+    request: &Request<Bytes>,
+    rows: &str,
+    text: &str,
+) -> Result<String, Fail> {
+    check(rt, alloc, client, rows)?;
+    received_text(alloc, client, validation, request, text)
+}
+
+fn text_for(
+    rt: &impl Abort,
+    alloc: Global,
+    client: &mut MemoryClient,
+    request: &Request<Bytes>,
+    rows: &str,
+    text: &str,
+) -> Result<String, Fail> {
+    let now = at(20)?;
+    let mut validation = validation_at(alloc, client, request, now)?;
+    late_text(rt, alloc, client, &mut validation, request, rows, text)
+}
+
+/// Returns the text of what a client makes of a response: the answer, or `again`. The response is to a validation for
+/// `/a`, which is sent at 20 seconds, and is received at 22, after the client was asked by rows.
+// Each function here owns one thing and hands it on at once, since the prover follows it along each way out.
+pub fn text_after(
+    rt: &impl Abort,
+    alloc: Global,
+    client: &mut MemoryClient,
+    rows: &str,
+    text: &str,
+) -> Result<String, Fail> {
+    let request = request_of(alloc, "GET /a", "")?;
+    text_for(rt, alloc, client, &request, rows, text)
 }

@@ -1,6 +1,6 @@
 //! What a client hands out for a request that is sent, and takes back with the response.
 use crate::scripted::{
-    MemoryClient, at, check, new_client, received_text, request_of, response_of, text_of,
+    MemoryClient, at, check, new_client, request_of, response_of, text_after, text_of,
     validation_at,
 };
 use bytes::Bytes;
@@ -23,13 +23,6 @@ const STORED_FOR_LONGER: &str =
 // The response to a validation that confirms either.
 const CONFIRMS: &str = r#"304 ^ ETag: "1""#;
 
-fn times(sent: i64, received: i64) -> Result<Times, Fail> {
-    Ok(Times {
-        sent: at(sent)?,
-        received: at(received)?,
-    })
-}
-
 fn client_with(rt: &impl Abort, alloc: Global, rows: &str) -> Result<MemoryClient, Fail> {
     let mut client = new_client(alloc)?;
     check(rt, alloc, &mut client, rows)?;
@@ -40,48 +33,41 @@ fn number_of(validation: &Validation) -> Result<u64, Fail> {
     Ok(validation.id().ok_or("a spent token")?.number())
 }
 
-// The number of the stored response that is validated for a request.
-fn number_at(
+fn number_for(
     alloc: Global,
     client: &mut MemoryClient,
     request: &Request<Bytes>,
     now: Timestamp,
 ) -> Result<u64, Fail> {
-    number_of(&validation_at(alloc, client, request, now)?)
+    let validation = validation_at(alloc, client, request, now)?;
+    number_of(&validation)
+}
+
+// The number of the stored response that is validated at a time.
+fn number_at(alloc: Global, client: &mut MemoryClient, now: Timestamp) -> Result<u64, Fail> {
+    let request = request_of(alloc, "GET /a", "")?;
+    number_for(alloc, client, &request, now)
 }
 
 #[test]
 fn ids_are_never_reused(rt: HostRuntime) -> Result<(), Fail> {
-    let asking = request_of(rt.alloc(), "GET /a", "")?;
     let mut client = client_with(&rt, rt.alloc(), STORED)?;
-    let first = number_at(rt.alloc(), &mut client, &asking, at(20)?)?;
+    let first = number_at(rt.alloc(), &mut client, at(20)?)?;
     let rows = r#"21|POST /a||200 ^^ done|200 done|C; fwd=method; fwd-status=200|POST
         22|GET /a||200 ^ Cache-Control: max-age=10 ~ ETag: "1" ^ one|200 one|C; fwd=uri-miss; fwd-status=200; stored; ttl=10|GET"#;
     check(&rt, rt.alloc(), &mut client, rows)?;
-    let second = number_at(rt.alloc(), &mut client, &asking, at(60)?)?;
+    let second = number_at(rt.alloc(), &mut client, at(60)?)?;
     assert!(rt; first < second);
     Ok(())
 }
 
 #[test]
 fn a_validation_of_what_was_replaced_confirms_nothing(rt: HostRuntime) -> Result<(), Fail> {
-    let asking = request_of(rt.alloc(), "GET /a", "")?;
     let mut client = client_with(&rt, rt.alloc(), STORED)?;
-    let mut validation = validation_at(rt.alloc(), &mut client, &asking, at(20)?)?;
-    let row =
+    let meanwhile =
         r#"21|GET /a||200 ^ Cache-Control: max-age=10 ~ ETag: "1" ^ two|200 two|C; fwd=stale; fwd-status=200; stored; ttl=10|GET "1""#;
-    check(&rt, rt.alloc(), &mut client, row)?;
-    let times = times(20, 22)?;
-    let text = received_text(
-        rt.alloc(),
-        &mut client,
-        &mut validation,
-        &asking,
-        CONFIRMS,
-        times,
-    )?;
+    let text = text_after(&rt, rt.alloc(), &mut client, meanwhile, CONFIRMS)?;
     assert_eq!(rt; text.as_str(), "again");
-    assert!(rt; validation.id().is_none());
     check(
         &rt,
         rt.alloc(),
@@ -100,7 +86,7 @@ fn text_of_stale(alloc: Global, decision: &Decision) -> Result<String, Fail> {
     Ok(format!(in alloc; "{answer}|{}", tag.unwrap_or("none"))?)
 }
 
-fn stale_text(
+fn stale_text_for(
     alloc: Global,
     client: &mut MemoryClient,
     request: &Request<Bytes>,
@@ -110,16 +96,18 @@ fn stale_text(
     text_of_stale(alloc, &decision)
 }
 
+fn stale_text(alloc: Global, client: &mut MemoryClient, now: Timestamp) -> Result<String, Fail> {
+    let request = request_of(alloc, "GET /a", "")?;
+    stale_text_for(alloc, client, &request, now)
+}
+
 #[test]
 fn a_stale_answer_comes_with_the_validation_that_is_due(rt: HostRuntime) -> Result<(), Fail> {
-    let asking = request_of(rt.alloc(), "GET /a", "")?;
     let mut client = client_with(&rt, rt.alloc(), STORED_FOR_LONGER)?;
-    let text = stale_text(rt.alloc(), &mut client, &asking, at(20)?)?;
+    let text = stale_text(rt.alloc(), &mut client, at(20)?)?;
     let wanted = r#"200 one|C; hit; ttl=-10; detail="stale-while-revalidate"|"1""#;
     assert_eq!(rt; text.as_str(), wanted);
-    let mut due = validation_at(rt.alloc(), &mut client, &asking, at(20)?)?;
-    let times = times(20, 22)?;
-    let text = received_text(rt.alloc(), &mut client, &mut due, &asking, CONFIRMS, times)?;
+    let text = text_after(&rt, rt.alloc(), &mut client, "", CONFIRMS)?;
     assert_eq!(rt;
         text.as_str(),
         "200 one|C; fwd=stale; fwd-status=304; stored; ttl=8"
@@ -146,13 +134,25 @@ fn text_without_response(
     }
 }
 
+fn text_of_failure_for(
+    alloc: Global,
+    client: &mut MemoryClient,
+    request: &Request<Bytes>,
+) -> Result<String, Fail> {
+    let now = at(20)?;
+    let mut token = validation_at(alloc, client, request, now)?.into_forwarded();
+    text_without_response(alloc, client, &mut token, request, now)
+}
+
+fn text_of_failure(alloc: Global, client: &mut MemoryClient) -> Result<String, Fail> {
+    let request = request_of(alloc, "GET /a", "")?;
+    text_of_failure_for(alloc, client, &request)
+}
+
 // What answers a request at 20 seconds whose validation has no response, once some rows are stored.
 fn text_after_failure(rt: &impl Abort, alloc: Global, rows: &str) -> Result<String, Fail> {
-    let asking = request_of(alloc, "GET /a", "")?;
-    let now = at(20)?;
     let mut client = client_with(rt, alloc, rows)?;
-    let mut token = validation_at(alloc, &mut client, &asking, now)?.into_forwarded();
-    text_without_response(alloc, &mut client, &mut token, &asking, now)
+    text_of_failure(alloc, &mut client)
 }
 
 #[test]
@@ -208,19 +208,37 @@ fn accepted_text(
     client: &mut MemoryClient,
     token: &mut Forwarded,
     request: &Request<Bytes>,
-    times: Times,
+    now: Timestamp,
 ) -> Result<String, Fail> {
+    let times = Times {
+        sent: now,
+        received: now,
+    };
     let response = response_elsewhere(alloc)?;
     let answer = client.accept(alloc, token, request, response, times)?;
     text_of_elsewhere(alloc, &answer)
 }
 
+fn accepted_text_for(
+    alloc: Global,
+    client: &mut MemoryClient,
+    request: &Request<Bytes>,
+) -> Result<String, Fail> {
+    let now = at(0)?;
+    let mut token = forwarded_at(alloc, client, request, now)?;
+    accepted_text(alloc, client, &mut token, request, now)
+}
+
+// What a client makes of a response whose body the caller keeps.
+fn text_of_accepted(alloc: Global, client: &mut MemoryClient) -> Result<String, Fail> {
+    let request = request_of(alloc, "GET /a", "")?;
+    accepted_text_for(alloc, client, &request)
+}
+
 #[test]
 fn a_body_that_is_kept_elsewhere_is_never_stored(rt: HostRuntime) -> Result<(), Fail> {
-    let asking = request_of(rt.alloc(), "GET /a", "")?;
     let mut client = new_client(rt.alloc())?;
-    let mut token = forwarded_at(rt.alloc(), &mut client, &asking, at(0)?)?;
-    let text = accepted_text(rt.alloc(), &mut client, &mut token, &asking, times(0, 0)?)?;
+    let text = text_of_accepted(rt.alloc(), &mut client)?;
     assert_eq!(rt; text.as_str(), "4|C; fwd=uri-miss; fwd-status=200");
     assert!(rt; client.shelf().is_empty());
     let row =
