@@ -1,8 +1,8 @@
 //! Faults that an earlier caching client had, each as a list of requests that showed it.
-use crate::scripted::{MemoryClient, at, check, new_client, request_of, response_of, values_of};
+use crate::scripted::{MemoryClient, at, check, new_client, request_of, text_after, values_of};
 use bytes::Bytes;
-use http::{Request, Response};
-use http_cache_client::{Body, Decision, Received, Times, Validation};
+use http::Request;
+use http_cache_client::Decision;
 use jiff::Timestamp;
 use std::alloc::Global;
 use std::process::Abort;
@@ -48,18 +48,29 @@ fn a_truncated_body_is_not_stored(rt: HostRuntime) -> Result<(), Fail> {
     check_new(&rt, rt.alloc(), rows)
 }
 
-// The values of a field in the answer that `ask` returns.
-fn values_in_hit(
+// The values of Vary in a decision that is an answer.
+fn vary_in(alloc: Global, decision: &Decision) -> Result<String, Fail> {
+    match decision {
+        Decision::Answer(answer) => values_of(alloc, answer.headers(), "vary"),
+        _ => Err("no hit")?,
+    }
+}
+
+fn vary_for(
     alloc: Global,
     client: &mut MemoryClient,
     request: &Request<Bytes>,
     now: Timestamp,
-    name: &str,
 ) -> Result<String, Fail> {
-    match client.ask(alloc, request, now)? {
-        Decision::Answer(answer) => values_of(alloc, answer.headers(), name),
-        _ => Err("no hit")?,
-    }
+    let decision = client.ask(alloc, request, now)?;
+    vary_in(alloc, &decision)
+}
+
+// The values of Vary in a hit at 2 seconds.
+fn vary_of_hit(alloc: Global, client: &mut MemoryClient) -> Result<String, Fail> {
+    let now = at(2)?;
+    let request = request_of(alloc, "GET /a", "A: a ~ B: b")?;
+    vary_for(alloc, client, &request, now)
 }
 
 #[test]
@@ -69,45 +80,9 @@ fn a_hit_has_both_of_two_lines_of_vary(rt: HostRuntime) -> Result<(), Fail> {
         r#"0|GET /a|A: a ~ B: b|200 ^ Cache-Control: max-age=10 ~ Vary: A ~ Vary: B ^ one|200 one|C; fwd=uri-miss; fwd-status=200; stored; ttl=10|GET
         1|GET /a|A: a ~ B: c|404 ^ Cache-Control: no-store ^ other|404 other|C; fwd=vary-miss; fwd-status=404; detail="B"|GET"#;
     check(&rt, rt.alloc(), &mut client, rows)?;
-    let asking = request_of(rt.alloc(), "GET /a", "A: a ~ B: b")?;
-    let vary = values_in_hit(rt.alloc(), &mut client, &asking, at(2)?, "vary")?;
+    let vary = vary_of_hit(rt.alloc(), &mut client)?;
     assert_eq!(rt; vary.as_str(), "A, B");
     Ok(())
-}
-
-// The validation of what is stored for a request.
-fn validation_of(
-    alloc: Global,
-    client: &mut MemoryClient,
-    request: &Request<Bytes>,
-    now: Timestamp,
-) -> Result<Validation, Fail> {
-    match client.ask(alloc, request, now)? {
-        Decision::Validate(validation) => Ok(validation),
-        _ => Err("no validation")?,
-    }
-}
-
-fn response_with_body(alloc: Global, text: &str) -> Result<Response<Body>, Fail> {
-    let (head, body) = response_of(alloc, text)?.ok_or("no response")?.into_parts();
-    Ok(Response::from_parts(head, Body::Here(body)))
-}
-
-// Whether the response to a validation, at 22 seconds, confirms nothing.
-fn confirms_nothing(
-    alloc: Global,
-    client: &mut MemoryClient,
-    validation: &mut Validation,
-    request: &Request<Bytes>,
-    text: &str,
-) -> Result<bool, Fail> {
-    let response = response_with_body(alloc, text)?;
-    let times = Times {
-        sent: at(20)?,
-        received: at(22)?,
-    };
-    let received = client.receive(alloc, validation, request, response, times)?;
-    Ok(matches!(received, Received::Again(_)))
 }
 
 #[test]
@@ -117,12 +92,10 @@ fn a_late_response_changes_no_other_target(rt: HostRuntime) -> Result<(), Fail> 
         r#"0|GET /a||200 ^ Cache-Control: max-age=10 ~ ETag: "1" ^ one|200 one|C; fwd=uri-miss; fwd-status=200; stored; ttl=10|GET
         0|GET /b||200 ^ Cache-Control: max-age=100 ~ ETag: "1" ^ two|200 two|C; fwd=uri-miss; fwd-status=200; stored; ttl=100|GET"#;
     check(&rt, rt.alloc(), &mut client, stored)?;
-    let asking = request_of(rt.alloc(), "GET /a", "")?;
-    let mut validation = validation_of(rt.alloc(), &mut client, &asking, at(20)?)?;
-    let changed = "21|POST /a||200 ^^ done|200 done|C; fwd=method; fwd-status=200|POST";
-    check(&rt, rt.alloc(), &mut client, changed)?;
+    let meanwhile = "21|POST /a||200 ^^ done|200 done|C; fwd=method; fwd-status=200|POST";
     let late = r#"304 ^ ETag: "1" ~ Cache-Control: no-store"#;
-    assert!(rt; confirms_nothing(rt.alloc(), &mut client, &mut validation, &asking, late)?);
+    let text = text_after(&rt, rt.alloc(), &mut client, meanwhile, late)?;
+    assert_eq!(rt; text.as_str(), "again");
     let left = "23|GET /b||none|200 two|C; hit; ttl=77|
         23|GET /a||404 ^ Cache-Control: no-store ^ gone|404 gone|C; fwd=uri-miss; fwd-status=404|GET";
     check(&rt, rt.alloc(), &mut client, left)

@@ -7,7 +7,7 @@
 use bytes::Bytes;
 use http::header::CACHE_STATUS;
 use http::{HeaderMap, Method, Request, Response, Uri, Version, request};
-use http_cache_client::{Client, FetchError, Origin};
+use http_cache_client::{Body, Client, Decision, FetchError, Origin, Received, Times, Validation};
 use http_cache_semantics::CacheOptions;
 use http_cache_semantics::directives::GetHeaderStr;
 use http_cache_shelf::{Limits, MemoryShelf};
@@ -200,6 +200,79 @@ fn check_row(
     Ok(())
 }
 
+// The validation of a decision, if it has one.
+fn validation_in(decision: Decision) -> Option<Validation> {
+    match decision {
+        Decision::Validate(validation) => Some(validation),
+        Decision::Stale { answer, due } => {
+            drop(answer);
+            Some(due)
+        }
+        Decision::Answer(answer) => {
+            drop(answer);
+            None
+        }
+        Decision::Forward(token) => {
+            drop(token);
+            None
+        }
+    }
+}
+
+/// Returns the validation that is due of a request which is asked at a time.
+pub fn validation_at(
+    alloc: Global,
+    client: &mut MemoryClient,
+    request: &Request<Bytes>,
+    now: Timestamp,
+) -> Result<Validation, Fail> {
+    let decision = client.ask(alloc, request, now)?;
+    Ok(validation_in(decision).ok_or("no validation")?)
+}
+
+fn response_with_body(alloc: Global, text: &str) -> Result<Response<Body>, Fail> {
+    let (head, body) = response_of(alloc, text)?.ok_or("no response")?.into_parts();
+    Ok(Response::from_parts(head, Body::Here(body)))
+}
+
+fn text_of_answer(alloc: Global, answer: Response<Body>) -> Result<String, Fail> {
+    let (head, body) = answer.into_parts();
+    match body {
+        Body::Here(bytes) => text_of(alloc, &Response::from_parts(head, bytes)),
+        Body::Elsewhere(_) => {
+            drop(head);
+            Err("the body is elsewhere")?
+        }
+    }
+}
+
+fn text_of_received(alloc: Global, received: Received) -> Result<String, Fail> {
+    match received {
+        Received::Answer(answer) => text_of_answer(alloc, answer),
+        Received::Again(token) => {
+            drop(token);
+            Ok(String::from_str(alloc, "again")?)
+        }
+    }
+}
+
+// What a client makes of the response to a validation, which is sent at 20 and received at 22 seconds.
+fn received_text(
+    alloc: Global,
+    client: &mut MemoryClient,
+    validation: &mut Validation,
+    request: &Request<Bytes>,
+    text: &str,
+) -> Result<String, Fail> {
+    let times = Times {
+        sent: at(20)?,
+        received: at(22)?,
+    };
+    let response = response_with_body(alloc, text)?;
+    let received = client.receive(alloc, validation, request, response, times)?;
+    text_of_received(alloc, received)
+}
+
 /// Asks by each row in turn, and compares what was done with what the row says.
 pub fn check(
     rt: &impl Abort,
@@ -211,4 +284,45 @@ pub fn check(
         check_row(rt, alloc, client, row)?;
     }
     Ok(())
+}
+
+// The token is used after other rows were asked.
+fn late_text(
+    rt: &impl Abort,
+    alloc: Global,
+    client: &mut MemoryClient,
+    validation: &mut Validation,
+    request: &Request<Bytes>,
+    rows: &str,
+    text: &str,
+) -> Result<String, Fail> {
+    check(rt, alloc, client, rows)?;
+    received_text(alloc, client, validation, request, text)
+}
+
+fn text_for(
+    rt: &impl Abort,
+    alloc: Global,
+    client: &mut MemoryClient,
+    request: &Request<Bytes>,
+    rows: &str,
+    text: &str,
+) -> Result<String, Fail> {
+    let now = at(20)?;
+    let mut validation = validation_at(alloc, client, request, now)?;
+    late_text(rt, alloc, client, &mut validation, request, rows, text)
+}
+
+/// Returns the text of what a client makes of a response: the answer, or `again`. The response is to a validation for
+/// `/a`, which is sent at 20 seconds, and is received at 22, after the client was asked by rows.
+// Each function here owns one thing and hands it on at once, since the prover follows it along each way out.
+pub fn text_after(
+    rt: &impl Abort,
+    alloc: Global,
+    client: &mut MemoryClient,
+    rows: &str,
+    text: &str,
+) -> Result<String, Fail> {
+    let request = request_of(alloc, "GET /a", "")?;
+    text_for(rt, alloc, client, &request, rows, text)
 }
