@@ -7,7 +7,9 @@ use std::test::Fail;
 use test_cases::fixtures::{after, policy};
 
 const FRESH: &str = "Cache-Control: max-age=100";
+
 const SPENT: &str = "Cache-Control: max-age=1, must-revalidate";
+
 const TAGGED: &str = "Cache-Control: max-age=1, must-revalidate ~ ETag: \"1\"";
 
 fn target(alloc: Global, uri: &str) -> Result<Target, Fail> {
@@ -29,7 +31,9 @@ fn put(
 ) -> Result<Option<ResponseId>, Fail> {
     let target = target(alloc, uri)?;
     let body = Bytes::from_static(body.as_bytes());
-    shelf.put(&target, &[], policy(alloc, lines)?, body).map_err(|_| failed())
+    shelf
+        .put(&target, &[], policy(alloc, lines)?, body)
+        .map_err(|_| failed())
 }
 
 // How many responses a look-up finds for a URI.
@@ -106,7 +110,12 @@ fn oldest_variant_is_evicted(rt: HostRuntime) -> Result<(), Fail> {
     let _third = put(alloc, &mut shelf, "http://a/1", FRESH, "x")?;
     assert_eq!(rt; found(alloc, &mut shelf, "http://a/1")?, 2);
     let target = target(alloc, "http://a/1")?;
-    assert!(rt; shelf.found(&target).iter().all(|stored| Some(stored.id) != first));
+    assert!(rt;
+        shelf
+            .found(&target)
+            .iter()
+            .all(|stored| Some(stored.id) != first)
+    );
     Ok(())
 }
 
