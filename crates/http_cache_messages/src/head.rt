@@ -4,10 +4,11 @@
 //! have beside what was received, is decided here.
 ghost use Rattle.std.specs.Prelude.{◌≡◌, OnOk};
 
-use http::header::{AGE, CONNECTION, DATE, EXPIRES};
+use http::header::{AGE, CONNECTION, CONTENT_LENGTH, DATE, EXPIRES, TRANSFER_ENCODING};
 use http::{HeaderMap, HeaderName, HeaderValue};
-use http_cache_fields::headers::{contains_key, first_text, insert};
+use http_cache_fields::headers::{contains_key, first_text, insert, remove};
 use http_cache_fields::pieces::pieces_under;
+use http_cache_fields::text::number;
 use http_cache_semantics::CacheError;
 use http_cache_semantics::forwarding::{forwarded_headers, http_date, joined_headers};
 use httpdate::HttpDate;
@@ -149,6 +150,30 @@ fn fix_expires(alloc: Global, headers: &mut HeaderMap) -> Result<(), CacheError>
     insert(headers, EXPIRES, HeaderValue::from_static("0"))
 }
 
+// Leaves one Content-Length of several that are equal, and none that a received Transfer-Encoding
+// overrides (RFC 9110, section 8.6; RFC 9112, section 6.3).
+fn fix_length(
+    alloc: Global,
+    headers: &mut HeaderMap,
+    received: &HeaderMap,
+) -> Result<(), CacheError> {
+    if contains_key(received, TRANSFER_ENCODING) {
+        remove(headers, CONTENT_LENGTH);
+        return Ok(());
+    }
+    let mut lengths = pieces_under(received, CONTENT_LENGTH);
+    let (Some(first), Some(_)) = (lengths.next(), lengths.next()) else {
+        return Ok(());
+    };
+    match number(first) {
+        Some(length) => {
+            let value = HeaderValue::from_u64(alloc, length)?;
+            insert(headers, CONTENT_LENGTH, value)
+        }
+        None => Ok(()),
+    }
+}
+
 // Whether a name is of a field that the rules read.
 fn is_read_by_rules(name: &str) -> bool {
     READ_BY_RULES
@@ -163,8 +188,8 @@ fn names_rules(headers: &HeaderMap) -> bool {
 }
 
 /// Returns the head of a response as it is stored: without the fields of one connection (RFC 9111,
-/// section 3.1), with one line a field, with a Date, with dates in the form that the library reads, and
-/// with the age that the response had at `sent`.
+/// section 3.1), with one line a field, with one Content-Length, with a Date, with dates in the form that
+/// the library reads, and with the age that the response had at `sent`.
 ///
 /// `sent` is the time at which the request was sent, and the response time of the policy. The age is
 /// the greater of the received Age and of the whole seconds from Date to `sent`. The age at a later
@@ -193,6 +218,7 @@ pub fn stored_head(
     if !contains_key(&head, DATE) {
         return Err(CacheError::DateNotPrintable);
     }
+    fix_length(alloc, &mut head, headers)?;
     fix_date(alloc, &mut head, DATE)?;
     fix_expires(alloc, &mut head)?;
     let age = received_age(headers).max(apparent_age(headers, sent));

@@ -3,7 +3,6 @@ use crate::scripted::{MemoryClient, at, check, new_client, request_of, text_afte
 use bytes::Bytes;
 use http::Request;
 use http_cache_client::Decision;
-use jiff::Timestamp;
 use std::alloc::Global;
 use std::process::Abort;
 use std::test::Fail;
@@ -48,40 +47,41 @@ fn a_truncated_body_is_not_stored(rt: HostRuntime) -> Result<(), Fail> {
     check_new(&rt, rt.alloc(), rows)
 }
 
-// The values of Vary in a decision that is an answer.
-fn vary_in(alloc: Global, decision: &Decision) -> Result<String, Fail> {
+// The values of a field in a decision that is an answer.
+fn values_in(alloc: Global, decision: &Decision, name: &str) -> Result<String, Fail> {
     match decision {
-        Decision::Answer(answer) => values_of(alloc, answer.headers(), "vary"),
+        Decision::Answer(answer) => values_of(alloc, answer.headers(), name),
         _ => Err("no hit")?,
     }
 }
 
-fn vary_for(
+fn values_for(
     alloc: Global,
     client: &mut MemoryClient,
     request: &Request<Bytes>,
-    now: Timestamp,
+    name: &str,
 ) -> Result<String, Fail> {
-    let decision = client.ask(alloc, request, now)?;
-    vary_in(alloc, &decision)
+    let decision = client.ask(alloc, request, at(2)?)?;
+    values_in(alloc, &decision, name)
 }
 
-// The values of Vary in a hit at 2 seconds.
-fn vary_of_hit(alloc: Global, client: &mut MemoryClient) -> Result<String, Fail> {
-    let now = at(2)?;
+// The values of a field in a hit at 2 seconds.
+fn values_of_hit(alloc: Global, client: &mut MemoryClient, name: &str) -> Result<String, Fail> {
     let request = request_of(alloc, "GET /a", "A: a ~ B: b")?;
-    vary_for(alloc, client, &request, now)
+    values_for(alloc, client, &request, name)
 }
 
 #[test]
-fn a_hit_has_both_of_two_lines_of_vary(rt: HostRuntime) -> Result<(), Fail> {
+fn a_hit_has_both_of_two_lines_of_vary_and_one_length(rt: HostRuntime) -> Result<(), Fail> {
     let mut client = new_client(rt.alloc())?;
     let rows =
-        r#"0|GET /a|A: a ~ B: b|200 ^ Cache-Control: max-age=10 ~ Vary: A ~ Vary: B ^ one|200 one|C; fwd=uri-miss; fwd-status=200; stored; ttl=10|GET
+        r#"0|GET /a|A: a ~ B: b|200 ^ Cache-Control: max-age=10 ~ Vary: A ~ Vary: B ~ Content-Length: 3 ~ Content-Length: 3 ^ one|200 one|C; fwd=uri-miss; fwd-status=200; stored; ttl=10|GET
         1|GET /a|A: a ~ B: c|404 ^ Cache-Control: no-store ^ other|404 other|C; fwd=vary-miss; fwd-status=404; detail="B"|GET"#;
     check(&rt, rt.alloc(), &mut client, rows)?;
-    let vary = vary_of_hit(rt.alloc(), &mut client)?;
+    let vary = values_of_hit(rt.alloc(), &mut client, "vary")?;
     assert_eq!(rt; vary.as_str(), "A, B");
+    let length = values_of_hit(rt.alloc(), &mut client, "content-length")?;
+    assert_eq!(rt; length.as_str(), "3");
     Ok(())
 }
 
