@@ -7,9 +7,11 @@ ghost use Rattle.http_cache_client.specs.Reply.{IsConditionalReply, IsReplyOf};
 
 use bytes::Bytes;
 use http::header::{
-    AGE, CACHE_CONTROL, CACHE_STATUS, CONTENT_LOCATION, DATE, ETAG, EXPIRES, LAST_MODIFIED, VARY,
+    AGE, CACHE_CONTROL, CACHE_STATUS, CONTENT_LOCATION, DATE, ETAG, EXPIRES, IF_MODIFIED_SINCE,
+    IF_NONE_MATCH, LAST_MODIFIED, VARY,
 };
-use http::{HeaderMap, HeaderName, StatusCode, response};
+use http::{HeaderMap, HeaderName, HeaderValue, Request, StatusCode, Version, response};
+use http_cache_fields::headers::{contains_key, copy_of_map, insert};
 use http_cache_messages::asking::Incoming;
 use http_cache_semantics::explain::TimeLeft;
 use http_cache_semantics::{CacheError, CachePolicy};
@@ -70,6 +72,34 @@ pub(crate) fn not_modified(
     })
 }
 
+// The stored head at a time. It has no field of one connection, since none was stored (RFC 9111,
+// section 3.1).
+fn head_at(
+    alloc: Global,
+    policy: &CachePolicy,
+    now: Timestamp,
+) -> Result<response::Parts, CacheError>
+    ensures { IfOk result (λ head. head.status ≡ policy.now.status) }
+{
+    let mut headers = copy_of_map(policy.stored_headers())?;
+    let age = HeaderValue::from_u64(alloc, policy.age(now).as_secs())?;
+    insert(&mut headers, AGE, age)?;
+    Ok(response::Parts {
+        status: policy.stored_status(),
+        version: Version::HTTP_11,
+        headers,
+    })
+}
+
+// Whether a stored response makes the request's own condition false, if it has one.
+fn is_known(policy: &CachePolicy, request: &Request<Bytes>) -> bool
+    ensures { result ≡ true → is_conditional (headers_of (head_of request.now).headers) ≡ true }
+{
+    let headers = request.headers();
+    (contains_key(headers, IF_NONE_MATCH) || contains_key(headers, IF_MODIFIED_SINCE))
+        && policy.is_not_modified_for(request)
+}
+
 /// What is left of the lifetime of a stored response.
 pub(crate) fn left_of(policy: &CachePolicy, now: Timestamp) -> TimeLeft {
     TimeLeft::of(policy.freshness().lifetime, policy.age(now))
@@ -98,13 +128,13 @@ impl Reply {
             (IsConditionalReply (headers_of (head_of incoming.now.request.now).headers)) }
         ensures stored { IfOk result (IsReplyOf id.0 policy.now.status) }
     {
-        let head = match policy.response_at(alloc, now) {
+        let head = match head_at(alloc, policy, now) {
             Ok(head) if head.status != StatusCode::NOT_MODIFIED => head,
             Err(CacheError::Memory) => return Err(AllocError),
             _ => return Ok(None),
         };
         let left = left_of(policy, now);
-        let is_known = policy.is_not_modified_for(incoming.request());
+        let is_known = is_known(policy, incoming.request());
         Ok(Some(Reply {
             id,
             head: if is_known {

@@ -84,6 +84,14 @@ fn earlier_members(alloc: Global, headers: &HeaderMap) -> Result<String, AllocEr
     Ok(line)
 }
 
+// A line as a value.
+fn value_of(line: String) -> Result<HeaderValue, AllocError> {
+    match HeaderValue::from_string(line) {
+        Ok(value) => Ok(value),
+        Err(HeaderValueError::OutOfMemory | HeaderValueError::Invalid) => Err(AllocError),
+    }
+}
+
 /// The value of Cache-Status with a member after those of earlier caches, on one line (RFC 9211,
 /// section 2).
 pub(crate) fn line_of(
@@ -91,13 +99,13 @@ pub(crate) fn line_of(
     headers: &HeaderMap,
     member: &Member<'_>,
 ) -> Result<HeaderValue, AllocError> {
-    let mut line = earlier_members(alloc, headers)?;
     let text = or_out_of_memory(member.text(alloc))?;
-    line.push_str(text.as_str())?;
-    match HeaderValue::from_string(line) {
-        Ok(value) => Ok(value),
-        Err(HeaderValueError::OutOfMemory | HeaderValueError::Invalid) => Err(AllocError),
+    if !contains_key(headers, CACHE_STATUS) {
+        return value_of(text);
     }
+    let mut line = earlier_members(alloc, headers)?;
+    line.push_str(text.as_str())?;
+    value_of(line)
 }
 
 /// Puts a value of Cache-Status in place of the earlier lines. A full map stays without it.
