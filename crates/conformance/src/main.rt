@@ -1,5 +1,5 @@
-//! Runs cases of conformance through `Client::fetch`, in virtual time: JSON on standard input, and a line of JSON
-//! for each step on standard output. `tests/conformance/README.md` says what both have.
+//! Runs cases of conformance through `Client::fetch`, in virtual time: JSON on standard input, and a line
+//! of JSON for each step on standard output. `tests/conformance/README.md` says what both have.
 #![tactic(auto)]
 
 mod case;

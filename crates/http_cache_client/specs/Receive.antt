@@ -26,8 +26,8 @@ MayBeStored request response =
 abbrev pub HasCondition : Request (List ℕ) → Type 0
 HasCondition request = is_conditional (headers_of (head_of_request request).headers) ≡ true
 
--- a stored response that was confirmed answers with a 304 only a request with a condition, and nothing
--- new is stored for it
+-- for a stored response that was confirmed a 304 is sent only to a request with a condition, and nothing
+-- new is stored
 abbrev pub IsRenewalFor : Request (List ℕ) → Option Renewal → Type 0
 IsRenewalFor request renewal =
     IfSome renewal (λ r. (r.reply.head.status ≡ 304 → HasCondition request)

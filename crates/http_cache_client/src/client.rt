@@ -26,7 +26,7 @@ pub struct Client<S: Drop> {
     pub(crate) shelf: S,
 }
 
-/// What a change of the shelf came to.
+/// The outcome of a change of the shelf.
 #[derive(Clone, Copy, Debug, PartialEq, Eq)]
 pub(crate) enum Settled {
     /// A response is stored.

@@ -59,7 +59,7 @@ fn stale_reply(
     Reply::of(alloc, one, incoming, now)
 }
 
-// The values of Cache-Status for what a change may come to.
+// The values of Cache-Status for the outcomes of a change.
 #[derive(Drop)]
 struct Lines {
     stored: HeaderValue,
@@ -82,7 +82,7 @@ fn lines_of(alloc: Global, headers: &HeaderMap, member: &Member<'_>) -> Result<L
     })
 }
 
-// The value of Cache-Status for what a change came to, if it is another than that no response is stored.
+// The value of Cache-Status for the outcome of a change, unless it is that no response is stored.
 fn line_for(lines: Lines, settled: Settled, says_stored: bool) -> Option<HeaderValue> {
     let Lines { stored, failed } = lines;
     match settled {
@@ -92,7 +92,7 @@ fn line_for(lines: Lines, settled: Settled, says_stored: bool) -> Option<HeaderV
     }
 }
 
-// The response to a request that was sent: why that was sent, the status, and the time of receipt.
+// What Cache-Status says of a response: why its request was sent, its status, and when it was received.
 #[derive(Clone, Copy)]
 struct Receipt<'a> {
     why: &'a Why,

@@ -1,7 +1,7 @@
 //! A request as stored responses are asked by it.
 //!
 //! It relies on the joined field lines of the library, and knows nothing of a shelf.
-ghost use Rattle.std.specs.Prelude.{◌≡◌, ◌↔◌, ◌||◌, IsTrue, IfOk, codes, bytes_eq};
+ghost use Rattle.std.specs.Prelude.{◌≡◌, ◌||◌, IfOk, codes, bytes_eq};
 ghost use Rattle.http.specs.Request.{head_of};
 ghost use Rattle.http_cache_fields.specs.Directives.{cache_control, has};
 ghost use Rattle.http_cache_fields.specs.Headers.{headers_of};

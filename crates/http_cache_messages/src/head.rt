@@ -2,7 +2,6 @@
 //!
 //! It relies on the library's joined field lines and dates. What a stored head must not have, or must
 //! have beside what was received, is decided here.
-ghost use Rattle.std.specs.Prelude.{◌≡◌, OnOk};
 
 use http::header::{AGE, CONNECTION, CONTENT_LENGTH, DATE, EXPIRES, TRANSFER_ENCODING};
 use http::{HeaderMap, HeaderName, HeaderValue};

@@ -1,4 +1,4 @@
-//! Calls that fail only for want of memory.
+//! Calls whose only error is out of memory.
 ghost use Rattle.std.specs.Prelude.{◌≡◌, Ok, IfOk};
 
 use http_cache_semantics::CacheError;

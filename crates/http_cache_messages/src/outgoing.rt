@@ -1,5 +1,5 @@
 //! The request that validates a stored response (RFC 9111, section 4.3.1).
-ghost use Rattle.std.specs.Prelude.{◌≡◌, ◌⊎◌, map, option_map, codes, IfOk, IfErr, OnOk};
+ghost use Rattle.std.specs.Prelude.{◌≡◌, map, option_map, IfOk, OnOk};
 ghost use Rattle.http.specs.Request.{head_of};
 ghost use Rattle.http_cache_semantics.specs.Forwarding.{without_named};
 ghost use Rattle.http_cache_semantics.specs.Headers.{headers_of, first};

@@ -1,4 +1,4 @@
--- One condition behind the other.
+-- One condition is added after the other.
 use Rattle.std.proofs.Common.{codes, ◌∙◌}
 use Rattle.http_cache_semantics.specs.Headers.{headers_of}
 use Rattle.http_cache_messages.specs.Outgoing.{set_if_some}
