@@ -1,13 +1,17 @@
 -- An answer of one of the responses that a look-up shows is of a response that is stored.
-use Rattle.std.proofs.Common.{◌≡◌, ◌<◌, ℕ, zero, suc, List, [], ◌∷◌, length, get_or, ap, subst, ◌∙◌, inl, inr, arith}
+use Rattle.std.proofs.Common.{◌≡◌, ◌<◌, ℕ, zero, suc, List, [], ◌∷◌, length, get_or, ap, sym, subst, ◌∙◌, inl, inr, arith}
 use Rattle.std.specs.Prelude.{Contains}
 use Rattle.std.proofs.lemmas.List.Elements.{Contains-append_right, Contains-get_or}
-use Rattle.http_cache_semantics.specs.Headers.{Headers}
 use Rattle.http_cache_shelf.specs.Shelf.{StoredByTarget, StoredSeen, ShowsAll, IsShownAs}
 use Rattle.http_cache_shelf.specs.declared.shelf.StoredResponse.{StoredResponse}
+use Rattle.http_cache_semantics.specs.Headers.{Headers}
 use Rattle.http_cache_client.specs.Ask.{IsStoredStatus, HasStoredStatus, IsVerdictOf, IsVerdictIn}
+use Rattle.http_cache_client.specs.Ask.{IsDecisionOf, IsAnswered}
 use Rattle.http_cache_client.specs.declared.ask.Verdict.{Verdict}
-use Rattle.http_cache_client.specs.declared.ask.Verdict.TheVariants.{Use, UseWhile, Validate, Forward, NotCached}
+use Rattle.http_cache_client.specs.declared.ask.Verdict.TheVariants.{UseWhile, Validate, Forward}
+use Rattle.http_cache_client.specs.declared.tokens.Decision.{Decision}
+use Rattle.http_cache_client.specs.declared.tokens.Decision.TheVariants.{Answer, Stale}
+use Rattle.http_cache_client.specs.declared.tokens.Decision.TheVariants as decision
 
 -- what is shown at a position is one of what is stored
 shown_at : (all : List StoredResponse) (seen : List StoredSeen) (one : StoredResponse) (k : ℕ)
@@ -24,7 +28,7 @@ shown_at (x ∷ xs) (y ∷ ys) one (suc k) shows within at =
     (rest.0, Contains-append_right (y ∷ []) ys rest.0 rest.1, rest.2)
 
 -- the status of one of them is that of a stored response
-stored_status : (all : List StoredResponse) (stored : StoredByTarget) (text : List ℕ) (status : ℕ)
+pub stored_status : (all : List StoredResponse) (stored : StoredByTarget) (text : List ℕ) (status : ℕ)
     → ShowsAll all (stored text) → IsStoredStatus all status → HasStoredStatus stored status
 stored_status all stored text status shows of =
     let shown = shown_at all (stored text) of.one of.among.0 shows of.among.1 of.among.2 in
@@ -38,25 +42,17 @@ stored_status all stored text status shows of =
       ];
     }
 
-pub IsVerdictIn-found : (all : List StoredResponse) (stored : StoredByTarget) (text : List ℕ)
-    (request : Headers) (v : Verdict)
-    → ShowsAll all (stored text) → IsVerdictOf all request v → IsVerdictIn stored request v
-IsVerdictIn-found all stored text request (Use reply) shows of =
+pub IsVerdictIn-found : (all : List StoredResponse) (stored : StoredByTarget) (text : List ℕ) (v : Verdict)
+    → ShowsAll all (stored text) → IsVerdictOf all v → IsVerdictIn stored v
+IsVerdictIn-found all stored text (UseWhile reply due) shows of =
     stored_status all stored text reply.head.status shows of
-IsVerdictIn-found all stored text request (UseWhile reply due) shows of =
-    stored_status all stored text reply.head.status shows of
-IsVerdictIn-found all stored text request (Validate validation) shows of = tt
-IsVerdictIn-found all stored text request (Forward forwarded) shows of = tt
-IsVerdictIn-found all stored text request NotCached shows of = of
+IsVerdictIn-found all stored text (Validate validation) shows of = tt
+IsVerdictIn-found all stored text (Forward forwarded) shows of = tt
 
--- none is among no responses
-none_among : (stored : StoredByTarget) (status : ℕ) → IsStoredStatus [] status → HasStoredStatus stored status
-none_among stored status of = absurd (omega (arith, of.among.1))
-
-pub IsVerdictIn-none : (stored : StoredByTarget) (request : Headers) (v : Verdict)
-    → IsVerdictOf [] request v → IsVerdictIn stored request v
-IsVerdictIn-none stored request (Use reply) of = none_among stored reply.head.status of
-IsVerdictIn-none stored request (UseWhile reply due) of = none_among stored reply.head.status of
-IsVerdictIn-none stored request (Validate validation) of = tt
-IsVerdictIn-none stored request (Forward forwarded) of = tt
-IsVerdictIn-none stored request NotCached of = of
+-- a decision that sends a stored response is an answer of it
+pub answered_by : (stored : StoredByTarget) (request : Headers) (status : ℕ) (d : Decision)
+    → HasStoredStatus stored status → IsDecisionOf status d → IsAnswered stored request d
+answered_by stored request status (Answer answer) has of = inl (subst (HasStoredStatus stored) (sym of) has)
+answered_by stored request status (Stale answer due) has of = subst (HasStoredStatus stored) (sym of.0) has
+answered_by stored request status (decision.Validate validation) has of = tt
+answered_by stored request status (decision.Forward token) has of = tt

@@ -23,7 +23,7 @@ IsOfStore (Forward _) = ⊥
 -- the request of a validation has the stored validators as its only conditions, and no field of a body
 -- or of a range (RFC 9111, section 4.3.1)
 abbrev pub IsCleanValidation : Validation → Type 0
-IsCleanValidation v = (stored : Headers) × IsClean stored (headers_of v.request.headers)
+IsCleanValidation v = (stored : Headers) × IsClean stored (headers_of v.request.value.headers)
 
 -- each validation is clean
 abbrev pub IsCleanDecision : Decision → Type 0
@@ -33,11 +33,9 @@ IsCleanDecision (Validate validation) = IsCleanValidation validation
 IsCleanDecision (Forward _) = ⊤
 
 abbrev pub IsCleanVerdict : Verdict → Type 0
-IsCleanVerdict (verdict.Use _) = ⊤
 IsCleanVerdict (verdict.UseWhile _ due) = IsCleanValidation due
 IsCleanVerdict (verdict.Validate validation) = IsCleanValidation validation
 IsCleanVerdict (verdict.Forward _) = ⊤
-IsCleanVerdict verdict.NotCached = ⊤
 
 -- a 304 answers only a request with a condition (RFC 9110, section 15.4.5)
 abbrev pub IsConditionalDecision : Headers → Decision → Type 0
@@ -49,13 +47,10 @@ IsConditionalDecision request (Validate _) = ⊤
 IsConditionalDecision request (Forward _) = ⊤
 
 abbrev pub IsConditionalVerdict : Headers → Verdict → Type 0
-IsConditionalVerdict request (verdict.Use reply) =
-    reply.head.status ≡ 304 → is_conditional request ≡ true
 IsConditionalVerdict request (verdict.UseWhile reply _) =
     reply.head.status ≡ 304 → is_conditional request ≡ true
 IsConditionalVerdict request (verdict.Validate _) = ⊤
 IsConditionalVerdict request (verdict.Forward _) = ⊤
-IsConditionalVerdict request verdict.NotCached = ⊤
 
 -- a stored response has the status, or a 304 stands for it
 pub record IsStoredStatus (stored : List StoredResponse) (status : ℕ) : Type 0 where
@@ -67,13 +62,11 @@ pub record IsStoredStatus (stored : List StoredResponse) (status : ℕ) : Type 0
 abbrev pub IsOnlyIfCached : Headers → Type 0
 IsOnlyIfCached request = has (cache_control request) (codes "only-if-cached") ≡ true
 
--- an answer is of a stored response, or is the client's own to a request for a stored one only
-abbrev pub IsVerdictOf : List StoredResponse → Headers → Verdict → Type 0
-IsVerdictOf stored request (verdict.Use reply) = IsStoredStatus stored reply.head.status
-IsVerdictOf stored request (verdict.UseWhile reply _) = IsStoredStatus stored reply.head.status
-IsVerdictOf stored request (verdict.Validate _) = ⊤
-IsVerdictOf stored request (verdict.Forward _) = ⊤
-IsVerdictOf stored request verdict.NotCached = IsOnlyIfCached request
+-- an answer is of one of the stored responses
+abbrev pub IsVerdictOf : List StoredResponse → Verdict → Type 0
+IsVerdictOf stored (verdict.UseWhile reply _) = IsStoredStatus stored reply.head.status
+IsVerdictOf stored (verdict.Validate _) = ⊤
+IsVerdictOf stored (verdict.Forward _) = ⊤
 
 -- a stored response has the status, or a 304 stands for it
 pub record HasStoredStatus (stored : StoredByTarget) (status : ℕ) : Type 0 where
@@ -83,12 +76,10 @@ pub record HasStoredStatus (stored : StoredByTarget) (status : ℕ) : Type 0 whe
   pub is : (status ≡ one.exchange.status) ⊎ (status ≡ 304)
 
 -- so it is of what is stored for some target
-abbrev pub IsVerdictIn : StoredByTarget → Headers → Verdict → Type 0
-IsVerdictIn stored request (verdict.Use reply) = HasStoredStatus stored reply.head.status
-IsVerdictIn stored request (verdict.UseWhile reply _) = HasStoredStatus stored reply.head.status
-IsVerdictIn stored request (verdict.Validate _) = ⊤
-IsVerdictIn stored request (verdict.Forward _) = ⊤
-IsVerdictIn stored request verdict.NotCached = IsOnlyIfCached request
+abbrev pub IsVerdictIn : StoredByTarget → Verdict → Type 0
+IsVerdictIn stored (verdict.UseWhile reply _) = HasStoredStatus stored reply.head.status
+IsVerdictIn stored (verdict.Validate _) = ⊤
+IsVerdictIn stored (verdict.Forward _) = ⊤
 
 -- an answer is of a stored response, or is a 504 to a request for a stored one only
 abbrev pub IsAnswered : StoredByTarget → Headers → Decision → Type 0

@@ -1,11 +1,12 @@
 //! What is done with a request.
-ghost use Rattle.std.specs.Prelude.{◌≡◌, true, List, IfOk, Contains};
+ghost use Rattle.std.specs.Prelude.{◌≡◌, ℕ, true, List, IfOk, Contains};
 ghost use Rattle.http.specs.Request.{head_of};
 ghost use Rattle.http.specs.Response.{head_of as head_of_response};
 ghost use Rattle.http_cache_fields.specs.Headers.{headers_of};
 ghost use Rattle.http_cache_messages.specs.Asking.{is_looked_up};
 ghost use Rattle.http_cache_shelf.specs.Shelf.{KeepsAll};
 ghost use Rattle.http_cache_shelf.specs.declared.shelf.StoredResponse.{StoredResponse};
+ghost use Rattle.http_cache_client.specs.Judge.{IsSelectedOf};
 ghost use Rattle.http_cache_client.specs.Ask.{IsOfStore, IsCleanValidation, IsCleanDecision};
 ghost use Rattle.http_cache_client.specs.Ask.{IsConditionalDecision, IsCleanVerdict, IsConditionalVerdict};
 ghost use Rattle.http_cache_client.specs.Ask.{IsVerdictOf, IsVerdictIn, IsDecisionOf, IsAnswered};
@@ -26,16 +27,13 @@ use http_cache_shelf::{Shelf, StoredResponse, Target};
 use jiff::Timestamp;
 use std::alloc::{AllocError, Global};
 
-// What is done with a request, by what is stored for its target.
+// What is done with a request where no stored response may be used without validation.
 #[derive(Drop)]
 enum Verdict {
-    Use(Reply),
     // A stale response may be used while it is validated.
     UseWhile(Reply, Validation),
     Validate(Validation),
     Forward(Forwarded),
-    // Only a stored response is asked for, and none may be used.
-    NotCached,
 }
 
 // The validation of a stored response, or the client's own request if that has no validator or the
@@ -50,7 +48,7 @@ fn validation_of(
     ensures conditional { IfOk result
         (IsConditionalVerdict (headers_of (head_of incoming.now.request.now).headers)) }
     ensures answered { IfOk result (λ verdict. (all : List StoredResponse) → Contains all stored.now
-        → IsVerdictOf all (headers_of (head_of incoming.now.request.now).headers) verdict) }
+        → IsVerdictOf all verdict) }
 {
     if !has_validator(stored.policy.stored_headers()) {
         return Ok(Verdict::Forward(Forwarded::of(Some(stored.id), said)));
@@ -59,7 +57,7 @@ fn validation_of(
         Ok(request) => Ok(Verdict::Validate(Validation {
             id: Some(stored.id),
             why: said,
-            request,
+            request: Box::new(alloc, request)?,
         })),
         Err(CacheError::Memory) => Err(AllocError),
         Err(_) => Ok(Verdict::Forward(Forwarded::of(Some(stored.id), said))),
@@ -78,7 +76,7 @@ fn matching(
     ensures conditional { IfOk result
         (IsConditionalVerdict (headers_of (head_of incoming.now.request.now).headers)) }
     ensures answered { IfOk result (λ verdict. (all : List StoredResponse) → Contains all stored.now
-        → IsVerdictOf all (headers_of (head_of incoming.now.request.now).headers) verdict) }
+        → IsVerdictOf all verdict) }
 {
     let verdict = validation_of(alloc, stored, incoming, why)?;
     let asking = incoming.asking(stored.policy.stored_method());
@@ -97,51 +95,31 @@ fn matching(
     }
 }
 
-// What is done with a request, by what is stored for its target.
-fn decide(
+// What is done with a request where no stored response may be used without validation. It isn't inlined,
+// so that a hit makes no room for its values.
+#[inline(never)]
+fn otherwise(
     alloc: Global,
-    stored: &[StoredResponse],
+    selected: Selected<'_>,
     incoming: &Incoming<'_>,
     now: Timestamp,
 ) -> Result<Verdict, AllocError>
     ensures clean { IfOk result IsCleanVerdict }
     ensures conditional { IfOk result
         (IsConditionalVerdict (headers_of (head_of incoming.now.request.now).headers)) }
-    ensures answered { IfOk result
-        (IsVerdictOf stored.now (headers_of (head_of incoming.now.request.now).headers)) }
+    ensures answered { IfOk result (λ verdict. (all : List StoredResponse)
+        → IsSelectedOf all selected.entry → IsVerdictOf all verdict) }
 {
-    match select(stored, incoming, now) {
-        Selected::Fresh(one) => match Reply::of(alloc, one, incoming, now)? {
-            Some(reply) => Ok(Verdict::Use(reply)),
-            None => Ok(Verdict::Forward(Forwarded::of(None, Why::of(Forward::Miss)))),
-        },
+    let forwarded = match selected {
         Selected::Matching(one, said) => {
-            matching(alloc, one, incoming, why_of(alloc, &said)?, now)
+            return matching(alloc, one, incoming, why_of(alloc, &said)?, now);
         }
-        Selected::Other(said) => Ok(Verdict::Forward(Forwarded::of(None, why_of(alloc, &said)?))),
-        Selected::Nothing => Ok(Verdict::Forward(Forwarded::of(None, Why::of(Forward::UriMiss)))),
-    }
-}
-
-// What is done if the request asks for a stored response only (RFC 9111, section 5.2.1.7).
-fn only_if_cached(verdict: Verdict, incoming: &Incoming<'_>) -> Verdict
-    ensures clean { IsCleanVerdict verdict → IsCleanVerdict result }
-    ensures conditional { IsConditionalVerdict (headers_of (head_of incoming.now.request.now).headers) verdict
-        → IsConditionalVerdict (headers_of (head_of incoming.now.request.now).headers) result }
-    ensures answered { (all : List StoredResponse)
-        → IsVerdictOf all (headers_of (head_of incoming.now.request.now).headers) verdict
-        → IsVerdictOf all (headers_of (head_of incoming.now.request.now).headers) result }
-{
-    if !incoming.is_only_if_cached() {
-        return verdict;
-    }
-    match verdict {
-        Verdict::Use(reply) => Verdict::Use(reply),
-        other => {
-            drop(other);
-            Verdict::NotCached
-        }
-    }
+        Selected::Other(said) => Forwarded::of(None, why_of(alloc, &said)?),
+        Selected::Nothing => Forwarded::of(None, Why::of(Forward::UriMiss)),
+        // The head of a fresh one can't be sent.
+        Selected::Fresh(_) => Forwarded::of(None, Why::of(Forward::Miss)),
+    };
+    Ok(Verdict::Forward(forwarded))
 }
 
 // Why a request that isn't looked up is forwarded (RFC 9211, section 2.2).
@@ -162,31 +140,15 @@ fn past_shelf(alloc: Global) -> Result<Forwarded, AllocError> {
     })
 }
 
-impl<S: Shelf + Drop> Client<S> {
-    // What is done with a request, by what the shelf has for its target.
-    fn verdict(
-        &mut self,
-        alloc: Global,
-        target: &Target,
-        incoming: &Incoming<'_>,
-        now: Timestamp,
-    ) -> Result<Verdict, AllocError>
-        ensures kept { KeepsAll (S.stored self.old.shelf) (S.next_id self.old.shelf)
-            (S.stored self.new.shelf) (S.next_id self.new.shelf) }
-        ensures clean { IfOk result IsCleanVerdict }
-        ensures conditional { IfOk result
-            (IsConditionalVerdict (headers_of (head_of incoming.now.request.now).headers)) }
-        ensures answered { IfOk result (IsVerdictIn (S.stored self.old.shelf)
-            (headers_of (head_of incoming.now.request.now).headers)) }
-    {
-        if !self.read(alloc, target)? {
-            let forwarded = past_shelf(alloc)?;
-            return Ok(only_if_cached(Verdict::Forward(forwarded), incoming));
-        }
-        let verdict = decide(alloc, self.shelf.found(target), incoming, now)?;
-        Ok(only_if_cached(verdict, incoming))
-    }
+// What is done where the shelf has lost a body. It isn't inlined either.
+#[inline(never)]
+fn lost(alloc: Global) -> Result<Decision, AllocError>
+    ensures { IfOk result (λ decision. (status : ℕ) → IsDecisionOf status decision) }
+{
+    Ok(Decision::Forward(past_shelf(alloc)?))
+}
 
+impl<S: Shelf + Drop> Client<S> {
     // Answers with a stored response, or forwards the request if the shelf has lost its body.
     fn used(
         &mut self,
@@ -199,7 +161,7 @@ impl<S: Shelf + Drop> Client<S> {
         ensures used { IfOk result (IsDecisionOf reply.head.status) }
     {
         let Some(body) = self.body_of(alloc, target, &mut reply)? else {
-            return Ok(Decision::Forward(past_shelf(alloc)?));
+            return lost(alloc);
         };
         let member = hit(self.name.as_str(), reply.left, None);
         let answer = answer_of(alloc, reply.head, body, &member)?;
@@ -231,10 +193,12 @@ impl<S: Shelf + Drop> Client<S> {
         Ok(Decision::Stale { answer, due })
     }
 
-    // The client's own answer to a request for a stored response only.
-    fn not_cached(&self, alloc: Global) -> Result<Response<Bytes>, AllocError>
+    // The client's own answer to a request for a stored response only, in place of what would be done
+    // with another request.
+    fn not_cached(&self, alloc: Global, instead: Verdict) -> Result<Response<Bytes>, AllocError>
         ensures { IfOk result (λ answer. (head_of_response answer).status ≡ 504) }
     {
+        drop(instead);
         let member = generated(self.name.as_str(), "only-if-cached");
         let head = response::Parts {
             status: StatusCode::GATEWAY_TIMEOUT,
@@ -242,6 +206,35 @@ impl<S: Shelf + Drop> Client<S> {
             headers: HeaderMap::new(alloc),
         };
         answer_of(alloc, head, Bytes::new(), &member)
+    }
+
+    // What is done where no stored response may be used without validation.
+    #[inline(never)]
+    fn not_fresh(
+        &mut self,
+        alloc: Global,
+        target: &Target,
+        incoming: &Incoming<'_>,
+        verdict: Verdict,
+    ) -> Result<Decision, AllocError>
+        requires { IsCleanVerdict verdict }
+        ensures kept { KeepsAll (S.stored self.old.shelf) (S.next_id self.old.shelf)
+            (S.stored self.new.shelf) (S.next_id self.new.shelf) }
+        ensures clean { IfOk result IsCleanDecision }
+        ensures conditional { IsConditionalVerdict (headers_of (head_of incoming.now.request.now).headers) verdict
+            → IfOk result (IsConditionalDecision (headers_of (head_of incoming.now.request.now).headers)) }
+        ensures answered { IsVerdictIn (S.stored self.old.shelf) verdict → IfOk result
+            (IsAnswered (S.stored self.old.shelf) (headers_of (head_of incoming.now.request.now).headers)) }
+    {
+        // (RFC 9111, section 5.2.1.7)
+        if incoming.is_only_if_cached() {
+            return Ok(Decision::Answer(self.not_cached(alloc, verdict)?));
+        }
+        match verdict {
+            Verdict::UseWhile(reply, due) => self.used_while(alloc, target, reply, due),
+            Verdict::Validate(validation) => Ok(Decision::Validate(validation)),
+            Verdict::Forward(forwarded) => Ok(Decision::Forward(forwarded)),
+        }
     }
 
     // What is done with a request that is looked up.
@@ -261,13 +254,18 @@ impl<S: Shelf + Drop> Client<S> {
     {
         let request = incoming.request();
         let target = Target::of(alloc, request.uri(), request.headers())?;
-        match self.verdict(alloc, &target, incoming, now)? {
-            Verdict::Use(reply) => self.used(alloc, &target, reply),
-            Verdict::UseWhile(reply, due) => self.used_while(alloc, &target, reply, due),
-            Verdict::Validate(validation) => Ok(Decision::Validate(validation)),
-            Verdict::Forward(forwarded) => Ok(Decision::Forward(forwarded)),
-            Verdict::NotCached => Ok(Decision::Answer(self.not_cached(alloc)?)),
+        if !self.read(alloc, &target)? {
+            let verdict = Verdict::Forward(past_shelf(alloc)?);
+            return self.not_fresh(alloc, &target, incoming, verdict);
         }
+        let selected = select(self.shelf.found(&target), incoming, now);
+        if let Selected::Fresh(one) = selected
+            && let Some(reply) = Reply::of(alloc, one, incoming, now)?
+        {
+            return self.used(alloc, &target, reply);
+        }
+        let verdict = otherwise(alloc, selected, incoming, now)?;
+        self.not_fresh(alloc, &target, incoming, verdict)
     }
 
     /// Returns what is done with a request that was received at `now`: an answer from the shelf, or

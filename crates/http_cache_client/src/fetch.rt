@@ -1,9 +1,12 @@
 //! Answers requests by asking an origin at most twice.
-ghost use Rattle.std.specs.Prelude.{◌≡◌, ◌⊎◌, false, Some, None, IfOk, IfErr, OnOk, OnErr};
+ghost use Rattle.std.specs.Prelude.{◌≡◌, ◌⊎◌, true, false, Some, None, IfOk, IfErr, OnOk, OnErr};
+ghost use Rattle.http.specs.Request.{head_of as head_of_request};
 ghost use Rattle.http.specs.Response.{head_of, body_of};
+ghost use Rattle.http_cache_fields.specs.Headers.{headers_of};
 ghost use Rattle.http_cache_messages.specs.Asking.{is_looked_up};
 ghost use Rattle.http_cache_shelf.specs.Shelf.{KeepsAll};
-ghost use Rattle.http_cache_client.specs.Ask.{IsCleanValidation};
+ghost use Rattle.http_cache_client.specs.Ask.{IsOfStore, IsCleanValidation, IsCleanDecision};
+ghost use Rattle.http_cache_client.specs.Ask.{IsConditionalDecision};
 ghost use Rattle.http_cache_client.specs.Plan.{IsElsewhere};
 ghost use Rattle.http_cache_client.specs.Receive.{HasCondition};
 ghost use Rattle.http_cache_client.specs.Fetch.{Outcome, HasSentOwn, HasSentValidation, HasSentBoth, HasSent};
@@ -147,6 +150,41 @@ impl<S: Shelf + Drop> Client<S> {
         }
     }
 
+    // What a decision says is sent. It isn't inlined, so that a hit makes no room for its values.
+    #[inline(never)]
+    fn sent<O: Origin>(
+        &mut self,
+        alloc: Global,
+        origin: &mut O,
+        request: &Request<Bytes>,
+        decision: Decision,
+        now: Timestamp,
+    ) -> Result<Response<Bytes>, FetchError<O::Error>>
+    where
+        O::Error: Drop,
+        requires { IsCleanDecision decision }
+        ensures twice { HasSentTwiceAtMost O.sent origin.old origin.new request.now }
+        ensures safe { (IsOfStore decision → is_looked_up request.now ≡ true)
+            → is_looked_up request.now ≡ false → OnOk result ((outcome : Outcome)
+            × HasSentOwn O.sent origin.old origin.new request.now outcome) }
+        ensures no_response { IfErr result
+            (HasNoResponse (HasSent O.sent origin.old origin.new request.now None)) }
+        ensures conditional { IsConditionalDecision (headers_of (head_of_request request.now).headers) decision
+            → IfOk result (λ answer. (head_of answer).status ≡ 304
+            → HasCondition request.now ⊎ HasSentFor304 O.sent origin.old origin.new request.now) }
+        ensures kept { OnErr result (KeepsAll (S.stored self.old.shelf) (S.next_id self.old.shelf)
+            (S.stored self.new.shelf) (S.next_id self.new.shelf)
+            ⊎ ((outcome : Outcome)
+            × HasSentBoth O.sent origin.old origin.new request.now outcome)) }
+    {
+        match decision {
+            Decision::Answer(answer) => Ok(answer),
+            Decision::Stale { due, .. } => self.validate(alloc, origin, request, due, now),
+            Decision::Validate(token) => self.validate(alloc, origin, request, token, now),
+            Decision::Forward(token) => self.forward(alloc, origin, request, token, now),
+        }
+    }
+
     /// Returns the response to a request that was received at `now`: from the shelf if a stored
     /// response may be used, else by way of the origin (RFC 9111, section 4).
     ///
@@ -180,11 +218,10 @@ impl<S: Shelf + Drop> Client<S> {
             ⊎ ((outcome : Outcome)
             × HasSentBoth O.sent origin.old origin.new request.now outcome)) }
     {
-        match self.ask(alloc, request, now)? {
-            Decision::Answer(answer) => Ok(answer),
-            Decision::Stale { due, .. } => self.validate(alloc, origin, request, due, now),
-            Decision::Validate(token) => self.validate(alloc, origin, request, token, now),
-            Decision::Forward(token) => self.forward(alloc, origin, request, token, now),
+        match self.ask(alloc, request, now) {
+            Ok(Decision::Answer(answer)) => Ok(answer),
+            Ok(other) => self.sent(alloc, origin, request, other, now),
+            Err(_) => Err(FetchError::Memory),
         }
     }
 }

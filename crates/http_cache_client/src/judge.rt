@@ -29,7 +29,7 @@ fn is_mismatch(reason: Reason<'_>) -> bool {
     )
 }
 
-// What is found once one more is looked at.
+// What is found once one more is looked at that isn't fresh.
 fn better<'a>(
     so_far: Selected<'a>,
     stored: &'a StoredResponse,
@@ -39,7 +39,6 @@ fn better<'a>(
         → Contains all stored.now → IsSelectedOf all result }
 {
     match (so_far, said.reason) {
-        (_, None) => Selected::Fresh(stored),
         (Selected::Matching(..) | Selected::Fresh(_), _) => so_far,
         (_, Some(reason)) if !is_mismatch(reason) => Selected::Matching(stored, said),
         (Selected::Nothing, _) => Selected::Other(said),
@@ -58,7 +57,8 @@ fn explained<'a>(
     let policy = &stored.policy;
     let asking = incoming.asking(policy.stored_method());
     let said = policy.explain(&asking, now);
-    if said.reason.is_none() && policy.is_stale(now) && policy.forbids_stale() {
+    let is_stale = said.freshness.lifetime <= said.age;
+    if said.reason.is_none() && is_stale && policy.forbids_stale() {
         return Explanation {
             reason: Some(Reason::Stale(StaleReason::NotAsked)),
             ..said
@@ -78,10 +78,11 @@ pub(crate) fn select<'a>(
 {
     let mut selected = Selected::Nothing;
     for one in stored {
-        selected = better(selected, one, explained(one, incoming, now));
-        if matches!(selected, Selected::Fresh(_)) {
-            return selected;
+        let said = explained(one, incoming, now);
+        if said.reason.is_none() {
+            return Selected::Fresh(one);
         }
+        selected = better(selected, one, said);
     }
     selected
 }

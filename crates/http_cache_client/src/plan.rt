@@ -12,7 +12,7 @@ use bytes::Bytes;
 use http::{StatusCode, Version, response};
 use http_cache_messages::asking::Incoming;
 use http_cache_messages::complete::is_complete;
-use http_cache_messages::head::stored_head;
+use http_cache_messages::head::{add_cache_status, stored_head};
 use http_cache_messages::worth::is_worth_storing;
 use http_cache_semantics::explain::TimeLeft;
 use http_cache_semantics::{CacheError, CacheOptions, CachePolicy};
@@ -123,10 +123,12 @@ fn policy_of(
     options: &CacheOptions,
 ) -> Result<CachePolicy, CacheError> {
     let times = arrived.times;
+    let mut headers = stored_head(alloc, &arrived.head.headers, times.sent, times.received)?;
+    add_cache_status(&mut headers)?;
     let head = response::Parts {
         status: arrived.head.status,
         version: Version::HTTP_11,
-        headers: stored_head(alloc, &arrived.head.headers, times.sent, times.received)?,
+        headers,
     };
     let asking = arrived.incoming.as_received();
     CachePolicy::new_options(alloc, &asking, &head, times.sent, *options)

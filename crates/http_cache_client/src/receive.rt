@@ -174,7 +174,7 @@ fn renewal_by(
     ensures { IfOk result (IsRenewalFor arrived.now.incoming.now.request.now) }
 {
     let now = arrived.times.received;
-    match Reply::of_policy(alloc, id, &policy, arrived.incoming, now) {
+    match Reply::of_policy(alloc, id, &policy, None, arrived.incoming, now) {
         Ok(Some(reply)) => Ok(Some(Renewal {
             reply,
             plan: renewal_plan(alloc, target, id, ids, policy, now),

@@ -18,6 +18,7 @@ use http_cache_semantics::{CacheError, CachePolicy};
 use http_cache_shelf::{ResponseId, StoredResponse};
 use jiff::Timestamp;
 use std::alloc::{AllocError, Global};
+use std::time::Duration;
 
 // The fields of a 304 (RFC 9110, section 15.4.5; RFC 9111, section 4.3.2).
 const FIELDS_OF_304: [HeaderName; 9] = [
@@ -72,23 +73,13 @@ pub(crate) fn not_modified(
     })
 }
 
-// The stored head at a time. It has no field of one connection, since none was stored (RFC 9111,
-// section 3.1).
-fn head_at(
-    alloc: Global,
-    policy: &CachePolicy,
-    now: Timestamp,
-) -> Result<response::Parts, CacheError>
-    ensures { IfOk result (λ head. head.status ≡ policy.now.status) }
-{
+// The stored fields at an age. None is of one connection, since none such was stored (RFC 9111, section
+// 3.1).
+fn headers_at(alloc: Global, policy: &CachePolicy, age: Duration) -> Result<HeaderMap, CacheError> {
     let mut headers = copy_of_map(policy.stored_headers())?;
-    let age = HeaderValue::from_u64(alloc, policy.age(now).as_secs())?;
+    let age = HeaderValue::from_u64(alloc, age.as_secs())?;
     insert(&mut headers, AGE, age)?;
-    Ok(response::Parts {
-        status: policy.stored_status(),
-        version: Version::HTTP_11,
-        headers,
-    })
+    Ok(headers)
 }
 
 // Whether a stored response makes the request's own condition false, if it has one.
@@ -106,21 +97,37 @@ pub(crate) fn left_of(policy: &CachePolicy, now: Timestamp) -> TimeLeft {
 }
 
 // The stored body, where it is sent and at hand.
-fn body_at_hand(stored: &StoredResponse, needs_body: bool) -> Result<Option<Bytes>, AllocError> {
-    match &stored.body {
+fn body_at_hand(body: Option<&Bytes>, needs_body: bool) -> Result<Option<Bytes>, AllocError> {
+    match body {
         Some(body) if needs_body => Ok(Some(body.clone()?)),
         _ => Ok(None),
     }
 }
 
 impl Reply {
+    // The 304 in its place. It isn't inlined, so that a hit makes no room for its values.
+    #[inline(never)]
+    fn not_modified(self, alloc: Global) -> Result<Reply, AllocError>
+        ensures { IfOk result (λ reply. (reply.head.status ≡ 304) × (reply.id ≡ self.id)) }
+    {
+        let Reply { id, head, left, .. } = self;
+        Ok(Reply {
+            id,
+            head: not_modified(alloc, &head)?,
+            needs_body: false,
+            body: None,
+            left,
+        })
+    }
+
     /// What a policy says is sent at `now`: a 304 if the stored response makes the client's own
-    /// condition false, else the stored head, with the body unless the method is HEAD (RFC 9110,
-    /// sections 9.3.2 and 13.2.2). None if it can't be sent.
+    /// condition false, else the stored head, with the body, here where it is at hand, unless the method
+    /// is HEAD (RFC 9110, sections 9.3.2 and 13.2.2). None if it can't be sent.
     pub(crate) fn of_policy(
         alloc: Global,
         id: ResponseId,
         policy: &CachePolicy,
+        body: Option<&Bytes>,
         incoming: &Incoming<'_>,
         now: Timestamp,
     ) -> Result<Option<Reply>, AllocError>
@@ -128,24 +135,32 @@ impl Reply {
             (IsConditionalReply (headers_of (head_of incoming.now.request.now).headers)) }
         ensures stored { IfOk result (IsReplyOf id.0 policy.now.status) }
     {
-        let head = match head_at(alloc, policy, now) {
-            Ok(head) if head.status != StatusCode::NOT_MODIFIED => head,
+        if policy.stored_status() == StatusCode::NOT_MODIFIED {
+            return Ok(None);
+        }
+        let needs_body = !incoming.is_head();
+        let body = body_at_hand(body, needs_body)?;
+        let age = policy.age(now);
+        let headers = match headers_at(alloc, policy, age) {
+            Ok(headers) => headers,
             Err(CacheError::Memory) => return Err(AllocError),
-            _ => return Ok(None),
+            Err(_) => return Ok(None),
         };
-        let left = left_of(policy, now);
-        let is_known = is_known(policy, incoming.request());
-        Ok(Some(Reply {
+        let reply = Reply {
             id,
-            head: if is_known {
-                not_modified(alloc, &head)?
-            } else {
-                head
+            head: response::Parts {
+                status: policy.stored_status(),
+                version: Version::HTTP_11,
+                headers,
             },
-            needs_body: !is_known && !incoming.is_head(),
-            body: None,
-            left,
-        }))
+            needs_body,
+            body,
+            left: TimeLeft::of(policy.freshness().lifetime, age),
+        };
+        if is_known(policy, incoming.request()) {
+            return Ok(Some(reply.not_modified(alloc)?));
+        }
+        Ok(Some(reply))
     }
 
     /// What is sent of a stored response at `now`, with its body if that is sent and at hand.
@@ -159,11 +174,7 @@ impl Reply {
             (IsConditionalReply (headers_of (head_of incoming.now.request.now).headers)) }
         ensures stored { IfOk result (IsReplyOf stored.now.id.0 stored.now.policy.status) }
     {
-        let Some(mut reply) = Reply::of_policy(alloc, stored.id, &stored.policy, incoming, now)?
-        else {
-            return Ok(None);
-        };
-        reply.body = body_at_hand(stored, reply.needs_body)?;
-        Ok(Some(reply))
+        let body = stored.body.as_ref();
+        Reply::of_policy(alloc, stored.id, &stored.policy, body, incoming, now)
     }
 }

@@ -72,11 +72,14 @@ pub(crate) fn shelf_failed(alloc: Global) -> Result<Why, AllocError> {
     })
 }
 
-// The members of earlier caches, each with a comma after it. A line that isn't text is no member.
+// The members of earlier caches, each with a comma after it. A line that isn't text, or is empty, is no
+// member.
 fn earlier_members(alloc: Global, headers: &HeaderMap) -> Result<String, AllocError> {
     let mut line = String::new(alloc);
     for value in headers.get_all(CACHE_STATUS).iter() {
-        if let Ok(text) = value.to_str() {
+        if let Ok(text) = value.to_str()
+            && !text.is_empty()
+        {
             line.push_str(text)?;
             line.push_str(", ")?;
         }
@@ -100,10 +103,10 @@ pub(crate) fn line_of(
     member: &Member<'_>,
 ) -> Result<HeaderValue, AllocError> {
     let text = or_out_of_memory(member.text(alloc))?;
-    if !contains_key(headers, CACHE_STATUS) {
+    let mut line = earlier_members(alloc, headers)?;
+    if line.is_empty() {
         return value_of(text);
     }
-    let mut line = earlier_members(alloc, headers)?;
     line.push_str(text.as_str())?;
     value_of(line)
 }
@@ -124,6 +127,7 @@ pub(crate) fn replace_line(headers: &mut HeaderMap, line: HeaderValue) {
 }
 
 /// A head and a body with a member of Cache-Status.
+#[inline(always)]
 pub(crate) fn answer_of(
     alloc: Global,
     mut head: response::Parts,

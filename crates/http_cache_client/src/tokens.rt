@@ -54,7 +54,8 @@ pub struct Validation {
     // The stored response; None once the token is spent.
     pub(crate) id: Option<ResponseId>,
     pub(crate) why: Why,
-    pub(crate) request: request::Parts,
+    // In a box, since a token is moved with what is done with other requests.
+    pub(crate) request: Box<request::Parts>,
 }
 
 impl Forwarded {
@@ -75,16 +76,16 @@ impl Validation {
 
     /// Returns the head of the request to send. Its body is empty.
     pub fn request(&self) -> &request::Parts
-        ensures { result.now ≡ self.now.request }
+        ensures { result.now ≡ self.now.request.value }
     {
-        &self.request
+        &*self.request
     }
 
     /// Takes the head of the request to send out of the token.
     pub fn take_request(&mut self, alloc: Global) -> request::Parts
-        ensures { result ≡ self.old.request }
+        ensures { result ≡ self.old.request.value }
     {
-        mem::replace(&mut self.request, request::Parts::new(alloc))
+        mem::replace(&mut *self.request, request::Parts::new(alloc))
     }
 
     /// Returns the token for the client's own request, where no response was received for this one.

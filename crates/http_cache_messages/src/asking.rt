@@ -54,17 +54,12 @@ impl<'a> Incoming<'a> {
         ensures { IfOk result (λ incoming. incoming.request.now ≡ request.now) }
     {
         let headers = request.headers();
-        if headers.len() == headers.keys_len() {
-            return Ok(Incoming {
-                request,
-                joined: None,
-            });
-        }
-        let joined = or_out_of_memory(joined_headers(alloc, headers))?;
-        Ok(Incoming {
-            request,
-            joined: Some(joined),
-        })
+        let joined = if headers.len() == headers.keys_len() {
+            None
+        } else {
+            Some(or_out_of_memory(joined_headers(alloc, headers))?)
+        };
+        Ok(Incoming { request, joined })
     }
 
     /// Returns the request as received.

@@ -3,7 +3,9 @@
 //! It relies on the library's joined field lines and dates. What a stored head must not have, or must
 //! have beside what was received, is decided here.
 
-use http::header::{AGE, CONNECTION, CONTENT_LENGTH, DATE, EXPIRES, TRANSFER_ENCODING};
+use http::header::{
+    AGE, CACHE_STATUS, CONNECTION, CONTENT_LENGTH, DATE, EXPIRES, TRANSFER_ENCODING,
+};
 use http::{HeaderMap, HeaderName, HeaderValue};
 use http_cache_fields::headers::{contains_key, first_text, insert, remove};
 use http_cache_fields::pieces::pieces_under;
@@ -184,6 +186,19 @@ fn is_read_by_rules(name: &str) -> bool {
 // (RFC 9110, section 7.6.1).
 fn names_rules(headers: &HeaderMap) -> bool {
     pieces_under(headers, CONNECTION).any(|name| is_read_by_rules(name))
+}
+
+/// Adds an empty Cache-Status to a head that has none, so that an answer with the head replaces a value
+/// and its copy doesn't grow.
+///
+/// # Errors
+///
+/// `HeaderMapFull` if there is no room for it, and `Memory` if there is not enough memory.
+pub fn add_cache_status(headers: &mut HeaderMap) -> Result<(), CacheError> {
+    if contains_key(headers, CACHE_STATUS) {
+        return Ok(());
+    }
+    insert(headers, CACHE_STATUS, HeaderValue::from_static(""))
 }
 
 /// Returns the head of a response as it is stored: without the fields of one connection (RFC 9111,

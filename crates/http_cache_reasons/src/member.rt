@@ -13,6 +13,9 @@ use std::fmt::Write;
 
 const GREATEST_INTEGER: u128 = 999_999_999_999_999;
 
+// Room for the bytes of most members, so that the text doesn't grow.
+const USUAL_LENGTH: usize = 64;
+
 /// Why a cache forwards a request (RFC 9211, section 2.2).
 #[derive(Clone, Copy, Debug, PartialEq, Eq)]
 pub enum Forward {
@@ -176,7 +179,7 @@ impl Member<'_> {
         ensures grammar { IfOk result (λ text. IsItem (string_bytes text)) }
         ensures only_memory { IsOkUnless result CacheError.Memory }
     {
-        let mut text = String::new(alloc);
+        let mut text = String::with_capacity(alloc, USUAL_LENGTH)?;
         push_name(&mut text, self.cache)?;
         push_outcome(&mut text, self.outcome)?;
         push_status(&mut text, self.forward_status)?;

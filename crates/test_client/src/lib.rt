@@ -1,4 +1,4 @@
-//! Tests of the caching client. Nothing here is for use.
+//! Tests of the caching client and of its shelf in memory. Nothing here is for use.
 #![tactic(auto)]
 
 #[cfg(test)]
@@ -6,6 +6,10 @@ mod faults;
 #[cfg(test)]
 mod fetch;
 #[cfg(test)]
+mod limits;
+#[cfg(test)]
 mod scripted;
+#[cfg(test)]
+mod targets;
 #[cfg(test)]
 mod tokens;

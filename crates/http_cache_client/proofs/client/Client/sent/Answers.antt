@@ -1,6 +1,6 @@
 -- While a stale response could be used, its validation is waited for.
 use Rattle.std.proofs.Common.{inr}
-use Rattle.http_cache_client.proofs.client.Client.fetch.Goals as goal
+use Rattle.http_cache_client.proofs.client.Client.sent.Goals as goal
 
 pub returns-in-Stale-clause-twice : goal.returns-in-Stale-clause-twice
 returns-in-Stale-clause-twice g c = inr (c.validate.ensures.sent.0, inr c.validate.ensures.sent.1)

@@ -1,0 +1,173 @@
+//! What a shelf in memory stores within its limits, which responses it evicts, and what is left after a sweep.
+//!
+//! A case has a limit in its first line, and a step in each line after it: what is done, the path of a target, the headers
+//! of a response, its body, and the outcome. That of `put` is the id of the response or `no`, that of `find` the ids found,
+//! that of `sweep` how many responses are removed, and that of `count` how many are stored.
+use bytes::Bytes;
+use http::{HeaderMap, Uri};
+use http_cache_shelf::{Limits, MemoryShelf, Shelf, ShelfError, StoredResponse, Target};
+use std::alloc::Global;
+use std::process::Abort;
+use std::test::Fail;
+use test_cases::fixtures::{after, field, policy};
+
+fn cases() -> [&'static str; 7] {
+    [
+        "responses 2
+         put|/1|Cache-Control: max-age=100|x|0
+         put|/2|Cache-Control: max-age=100|x|1
+         put|/3|Cache-Control: max-age=100|x|2
+         count||||2
+         put|/1|Cache-Control: max-age=100|x|3
+         count||||2
+         find|/2|||
+         find|/3|||2
+         find|/1|||3",
+        // The target that was used longest ago is evicted, and not the one that was stored first.
+        "responses 2
+         put|/1|Cache-Control: max-age=100|x|0
+         put|/2|Cache-Control: max-age=100|x|1
+         find|/1|||0
+         put|/3|Cache-Control: max-age=100|x|2
+         find|/2|||
+         find|/1|||0",
+        // A head here has 24 bytes, the name and the value of its one field, so a response has 34.
+        "bytes 67
+         put|/1|Cache-Control: max-age=100|0123456789|0
+         put|/2|Cache-Control: max-age=100|0123456789|1
+         count||||1
+         find|/1|||",
+        "bytes 68
+         put|/1|Cache-Control: max-age=100|0123456789|0
+         put|/2|Cache-Control: max-age=100|0123456789|1
+         count||||2
+         put|/3|Cache-Control: max-age=100|0123456789|2
+         count||||2
+         find|/1|||
+         find|/3|||2",
+        // The oldest variant is evicted.
+        "variants 2
+         put|/1|Cache-Control: max-age=100|x|0
+         put|/1|Cache-Control: max-age=100|x|1
+         put|/1|Cache-Control: max-age=100|x|2
+         find|/1|||2 1",
+        "body 3
+         put|/1|Cache-Control: max-age=100|four|no
+         count||||0
+         put|/1|Cache-Control: max-age=100|two|0",
+        // A stale response without a validator that must be revalidated is removed. The order of use stays.
+        "responses 3
+         put|/1|Cache-Control: max-age=1, must-revalidate ~ ETag: \"1\"|x|0
+         put|/2|Cache-Control: max-age=1, must-revalidate|x|1
+         put|/3|Cache-Control: max-age=100|x|2
+         sweep||||1
+         count||||2
+         put|/4|Cache-Control: max-age=100|x|3
+         put|/5|Cache-Control: max-age=100|x|4
+         find|/1|||
+         find|/3|||2",
+    ]
+}
+
+fn limits_of(line: &str) -> Result<Limits, Fail> {
+    let (name, number) = line.split_once(' ').ok_or("no limit")?;
+    let number = number.trim().parse::<u64>()?;
+    let limits = Limits::default();
+    Ok(match name {
+        "responses" => Limits {
+            responses: number as usize,
+            ..limits
+        },
+        "variants" => Limits {
+            variants: number as usize,
+            ..limits
+        },
+        "bytes" => Limits {
+            bytes: number,
+            ..limits
+        },
+        _ => Limits {
+            body: number,
+            ..limits
+        },
+    })
+}
+
+fn target_of(alloc: Global, step: &str) -> Result<Target, Fail> {
+    let uri = Uri::from_str(alloc, field(step, 1)?)?;
+    Ok(Target::of(alloc, &uri, &HeaderMap::new(alloc))?)
+}
+
+fn done<T: Drop>(outcome: Result<T, ShelfError>) -> Result<T, Fail> {
+    match outcome {
+        Ok(value) => Ok(value),
+        Err(_) => Err("the shelf failed")?,
+    }
+}
+
+// Stores the response of a step.
+fn put(
+    alloc: Global,
+    shelf: &mut MemoryShelf,
+    target: &Target,
+    step: &str,
+) -> Result<String, Fail> {
+    let body = Bytes::copy_from_slice(alloc, field(step, 3)?.as_bytes())?;
+    let policy = policy(alloc, field(step, 2)?)?;
+    match done(shelf.put(target, &[], policy, body))? {
+        Some(id) => Ok(format!(in alloc; "{}", id.number())?),
+        None => Ok(String::from_str(alloc, "no")?),
+    }
+}
+
+fn ids_of(alloc: Global, found: &[StoredResponse]) -> Result<String, Fail> {
+    let mut text = String::new(alloc);
+    for stored in found {
+        if !text.as_str().is_empty() {
+            text.push(' ')?;
+        }
+        write!(text, "{}", stored.id.number())?;
+    }
+    Ok(text)
+}
+
+// Does what a step says, and returns the text of its outcome.
+fn outcome_of(alloc: Global, shelf: &mut MemoryShelf, step: &str) -> Result<String, Fail> {
+    match field(step, 0)? {
+        "put" => put(alloc, shelf, &target_of(alloc, step)?, step),
+        "find" => {
+            let target = target_of(alloc, step)?;
+            done(shelf.look_up(alloc, &target))?;
+            ids_of(alloc, shelf.found(&target))
+        }
+        "sweep" => {
+            let removed = done(shelf.sweep(after(10_000_000_000)?))?;
+            Ok(format!(in alloc; "{removed}")?)
+        }
+        _ => Ok(format!(in alloc; "{}", shelf.len())?),
+    }
+}
+
+fn check_step(
+    rt: &impl Abort,
+    alloc: Global,
+    shelf: &mut MemoryShelf,
+    step: &str,
+) -> Result<(), Fail> {
+    let outcome = outcome_of(alloc, shelf, step)?;
+    assert_eq!(rt; outcome.as_str(), field(step, 4)?, "at {step}");
+    Ok(())
+}
+
+#[test]
+fn shelves_within_limits(rt: HostRuntime) -> Result<(), Fail> {
+    for case in cases() {
+        let mut lines = case.lines();
+        let limits = limits_of(lines.next().ok_or("no limits")?)?;
+        let mut shelf = MemoryShelf::new(rt.alloc(), limits)?;
+        for step in lines {
+            check_step(&rt, rt.alloc(), &mut shelf, step)?;
+        }
+    }
+    Ok(())
+}
