@@ -53,8 +53,8 @@ pub fn request_of(alloc: Global, line: &str, lines: &str) -> Result<Request<Byte
     Ok(Request::from_parts(head, body))
 }
 
-/// Returns a response, or None where a text is that of none.
-pub fn response_of(alloc: Global, text: &str) -> Result<Option<Response<Bytes>>, Fail> {
+// A response, or None where a text is that of none.
+fn response_of(alloc: Global, text: &str) -> Result<Option<Response<Bytes>>, Fail> {
     if text.is_empty() || text == "none" {
         return Ok(None);
     }
@@ -219,8 +219,8 @@ fn validation_in(decision: Decision) -> Option<Validation> {
     }
 }
 
-/// Returns the validation that is due of a request which is asked at a time.
-pub fn validation_at(
+// The validation that is due of a request which is asked at a time.
+fn validation_at(
     alloc: Global,
     client: &mut MemoryClient,
     request: &Request<Bytes>,
