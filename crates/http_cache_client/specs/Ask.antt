@@ -1,6 +1,8 @@
 -- What a client does with a request (RFC 9111, section 4).
 use Rattle.std.specs.Prelude.{◌≡◌, ◌⊎◌, ℕ, List, true, ⊤, codes, Contains}
+use Rattle.http.specs.Request.{head_of as head_of_request}
 use Rattle.http.specs.Response.{head_of}
+use Rattle.http.specs.declared.request.Request.{Request}
 use Rattle.http_cache_messages.specs.Outgoing.{IsClean}
 use Rattle.http_cache_semantics.specs.Conditions.{is_conditional}
 use Rattle.http_cache_semantics.specs.Directives.{cache_control, has}
@@ -12,6 +14,10 @@ use Rattle.http_cache_client.specs.declared.ask.Verdict.TheVariants as verdict
 use Rattle.http_cache_client.specs.declared.tokens.Decision.{Decision}
 use Rattle.http_cache_client.specs.declared.tokens.Decision.TheVariants.{Answer, Stale, Validate, Forward}
 use Rattle.http_cache_client.specs.declared.tokens.Validation.{Validation}
+
+-- the header fields of a request
+abbrev pub fields_of : Request (List ℕ) → Headers
+fields_of request = headers_of (head_of_request request).headers
 
 -- it is answered from the store, or a stored response is validated
 abbrev pub IsOfStore : Decision → Type 0

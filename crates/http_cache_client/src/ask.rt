@@ -1,13 +1,11 @@
 //! What is done with a request.
 ghost use Rattle.std.specs.Prelude.{◌≡◌, ℕ, true, List, IfOk, Contains};
-ghost use Rattle.http.specs.Request.{head_of};
 ghost use Rattle.http.specs.Response.{head_of as head_of_response};
-ghost use Rattle.http_cache_fields.specs.Headers.{headers_of};
 ghost use Rattle.http_cache_messages.specs.Asking.{is_looked_up};
 ghost use Rattle.http_cache_shelf.specs.Shelf.{KeepsAll};
 ghost use Rattle.http_cache_shelf.specs.declared.shelf.StoredResponse.{StoredResponse};
 ghost use Rattle.http_cache_client.specs.Judge.{IsSelectedOf};
-ghost use Rattle.http_cache_client.specs.Ask.{IsOfStore, IsCleanValidation, IsCleanDecision};
+ghost use Rattle.http_cache_client.specs.Ask.{fields_of, IsOfStore, IsCleanValidation, IsCleanDecision};
 ghost use Rattle.http_cache_client.specs.Ask.{IsConditionalDecision, IsCleanVerdict, IsConditionalVerdict};
 ghost use Rattle.http_cache_client.specs.Ask.{IsVerdictOf, IsVerdictIn, IsDecisionOf, IsAnswered};
 
@@ -46,7 +44,7 @@ fn validation_of(
 ) -> Result<Verdict, AllocError>
     ensures clean { IfOk result IsCleanVerdict }
     ensures conditional { IfOk result
-        (IsConditionalVerdict (headers_of (head_of incoming.now.request.now).headers)) }
+        (IsConditionalVerdict (fields_of incoming.now.request.now)) }
     ensures answered { IfOk result (λ verdict. (all : List StoredResponse) → Contains all stored.now
         → IsVerdictOf all verdict) }
 {
@@ -74,7 +72,7 @@ fn matching(
 ) -> Result<Verdict, AllocError>
     ensures clean { IfOk result IsCleanVerdict }
     ensures conditional { IfOk result
-        (IsConditionalVerdict (headers_of (head_of incoming.now.request.now).headers)) }
+        (IsConditionalVerdict (fields_of incoming.now.request.now)) }
     ensures answered { IfOk result (λ verdict. (all : List StoredResponse) → Contains all stored.now
         → IsVerdictOf all verdict) }
 {
@@ -106,7 +104,7 @@ fn otherwise(
 ) -> Result<Verdict, AllocError>
     ensures clean { IfOk result IsCleanVerdict }
     ensures conditional { IfOk result
-        (IsConditionalVerdict (headers_of (head_of incoming.now.request.now).headers)) }
+        (IsConditionalVerdict (fields_of incoming.now.request.now)) }
     ensures answered { IfOk result (λ verdict. (all : List StoredResponse)
         → IsSelectedOf all selected.entry → IsVerdictOf all verdict) }
 {
@@ -221,12 +219,12 @@ impl<S: Shelf + Drop> Client<S> {
         ensures kept { KeepsAll (S.stored self.old.shelf) (S.next_id self.old.shelf)
             (S.stored self.new.shelf) (S.next_id self.new.shelf) }
         ensures clean { IfOk result IsCleanDecision }
-        ensures conditional { IsConditionalVerdict (headers_of (head_of incoming.now.request.now).headers) verdict
-            → IfOk result (IsConditionalDecision (headers_of (head_of incoming.now.request.now).headers)) }
+        ensures conditional { IsConditionalVerdict (fields_of incoming.now.request.now) verdict
+            → IfOk result (IsConditionalDecision (fields_of incoming.now.request.now)) }
         ensures answered { IsVerdictIn (S.stored self.old.shelf) verdict → IfOk result
-            (IsAnswered (S.stored self.old.shelf) (headers_of (head_of incoming.now.request.now).headers)) }
+            (IsAnswered (S.stored self.old.shelf) (fields_of incoming.now.request.now)) }
     {
-        // (RFC 9111, section 5.2.1.7)
+        // Then nothing is sent (RFC 9111, section 5.2.1.7).
         if incoming.is_only_if_cached() {
             return Ok(Decision::Answer(self.not_cached(alloc, verdict)?));
         }
@@ -248,9 +246,9 @@ impl<S: Shelf + Drop> Client<S> {
             (S.stored self.new.shelf) (S.next_id self.new.shelf) }
         ensures clean { IfOk result IsCleanDecision }
         ensures conditional { IfOk result
-            (IsConditionalDecision (headers_of (head_of incoming.now.request.now).headers)) }
+            (IsConditionalDecision (fields_of incoming.now.request.now)) }
         ensures answered { IfOk result (IsAnswered (S.stored self.old.shelf)
-            (headers_of (head_of incoming.now.request.now).headers)) }
+            (fields_of incoming.now.request.now)) }
     {
         let request = incoming.request();
         let target = Target::of(alloc, request.uri(), request.headers())?;
@@ -290,9 +288,9 @@ impl<S: Shelf + Drop> Client<S> {
         ensures safe { IfOk result (λ decision. IsOfStore decision → is_looked_up request.now ≡ true) }
         ensures clean { IfOk result IsCleanDecision }
         ensures conditional { IfOk result
-            (IsConditionalDecision (headers_of (head_of request.now).headers)) }
+            (IsConditionalDecision (fields_of request.now)) }
         ensures answered { IfOk result
-            (IsAnswered (S.stored self.old.shelf) (headers_of (head_of request.now).headers)) }
+            (IsAnswered (S.stored self.old.shelf) (fields_of request.now)) }
         ensures kept { KeepsAll (S.stored self.old.shelf) (S.next_id self.old.shelf)
             (S.stored self.new.shelf) (S.next_id self.new.shelf) }
     {

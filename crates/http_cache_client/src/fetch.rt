@@ -1,11 +1,9 @@
 //! Answers requests by asking an origin at most twice.
 ghost use Rattle.std.specs.Prelude.{◌≡◌, ◌⊎◌, true, false, Some, None, IfOk, IfErr, OnOk, OnErr};
-ghost use Rattle.http.specs.Request.{head_of as head_of_request};
 ghost use Rattle.http.specs.Response.{head_of, body_of};
-ghost use Rattle.http_cache_fields.specs.Headers.{headers_of};
 ghost use Rattle.http_cache_messages.specs.Asking.{is_looked_up};
 ghost use Rattle.http_cache_shelf.specs.Shelf.{KeepsAll};
-ghost use Rattle.http_cache_client.specs.Ask.{IsOfStore, IsCleanValidation, IsCleanDecision};
+ghost use Rattle.http_cache_client.specs.Ask.{fields_of, IsOfStore, IsCleanValidation, IsCleanDecision};
 ghost use Rattle.http_cache_client.specs.Ask.{IsConditionalDecision};
 ghost use Rattle.http_cache_client.specs.Plan.{IsElsewhere};
 ghost use Rattle.http_cache_client.specs.Receive.{HasCondition};
@@ -169,7 +167,7 @@ impl<S: Shelf + Drop> Client<S> {
             × HasSentOwn O.sent origin.old origin.new request.now outcome) }
         ensures no_response { IfErr result
             (HasNoResponse (HasSent O.sent origin.old origin.new request.now None)) }
-        ensures conditional { IsConditionalDecision (headers_of (head_of_request request.now).headers) decision
+        ensures conditional { IsConditionalDecision (fields_of request.now) decision
             → IfOk result (λ answer. (head_of answer).status ≡ 304
             → HasCondition request.now ⊎ HasSentFor304 O.sent origin.old origin.new request.now) }
         ensures kept { OnErr result (KeepsAll (S.stored self.old.shelf) (S.next_id self.old.shelf)

@@ -1,8 +1,8 @@
 //! What a shelf in memory stores within its limits, which responses it evicts, and what is left after a sweep.
 //!
 //! A case has a limit in its first line, and a step in each line after it: what is done, the path of a target, the headers
-//! of a response, its body, and the outcome. That of `put` is the id of the response or `no`, that of `find` the ids found,
-//! that of `sweep` how many responses are removed, and that of `count` how many are stored.
+//! of a response, its body, and the outcome: for `put` the id of the response or `no`, for `find` the ids found, for
+//! `sweep` how many responses are removed, and for `count` how many are stored.
 use bytes::Bytes;
 use http::{HeaderMap, Uri};
 use http_cache_shelf::{Limits, MemoryShelf, Shelf, ShelfError, StoredResponse, Target};
