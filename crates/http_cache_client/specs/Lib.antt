@@ -1,7 +1,4 @@
 -- What a caching client answers, sends and stores.
 pub mod Ask
 pub mod Fetch
-pub mod Judge
-pub mod Plan
 pub mod Receive
-pub mod Reply

@@ -1,15 +1,11 @@
 -- What a client does with the outcome of a request that was sent.
-use Rattle.std.specs.Prelude.{◌≡◌, ◌==◌, ◌||◌, true, false, ⊤, ℕ, Bool, List, Option, IfSome}
-use Rattle.http.specs.Request.{head_of as head_of_request}
+use Rattle.std.specs.Prelude.{◌≡◌, true, ⊤, ℕ, List}
 use Rattle.http.specs.Response.{head_of, body_of}
 use Rattle.http.specs.declared.request.Request.{Request}
 use Rattle.http.specs.declared.response.Response.{Response}
 use Rattle.http_cache_messages.specs.Asking.{is_looked_up}
-use Rattle.http_cache_semantics.specs.Conditions.{is_conditional}
-use Rattle.http_cache_semantics.specs.Headers.{headers_of}
-use Rattle.http_cache_client.specs.Plan.{Stores, IsElsewhere, IsWholeBody}
-use Rattle.http_cache_client.specs.declared.body.Body.{Body}
-use Rattle.http_cache_client.specs.declared.receive.Renewal.{Renewal}
+use Rattle.http_cache_plans.specs.Plan.{IsElsewhere, IsWholeBody, HasCondition}
+use Rattle.http_cache_plans.specs.declared.body.Body.{Body}
 use Rattle.http_cache_client.specs.declared.tokens.Received.{Received}
 use Rattle.http_cache_client.specs.declared.tokens.Received.TheVariants.{Answer, Again}
 
@@ -21,17 +17,6 @@ IsWholeResponse request response = IsWholeBody request (head_of response) (body_
 abbrev pub MayBeStored : Request (List ℕ) → Response Body → Type 0
 MayBeStored request response =
     (is_looked_up request ≡ true) × IsWholeResponse request response
-
--- the request has a condition (RFC 9110, section 13.1)
-abbrev pub HasCondition : Request (List ℕ) → Type 0
-HasCondition request = is_conditional (headers_of (head_of_request request).headers) ≡ true
-
--- for a stored response that was confirmed a 304 is sent only to a request with a condition, and nothing
--- new is stored
-abbrev pub IsRenewalFor : Request (List ℕ) → Option Renewal → Type 0
-IsRenewalFor request renewal =
-    IfSome renewal (λ r. (r.reply.head.status ≡ 304 → HasCondition request)
-    × ¬ (Stores r.plan.change) × (r.plan.is_known ≡ false))
 
 -- the answer after a validation is a 304 only to a request with a condition
 abbrev pub IsConditionalReceipt : Request (List ℕ) → Received → Type 0
@@ -52,7 +37,3 @@ IsAfterA304 response (Again _) = (head_of response).status ≡ 304
 abbrev pub HasBodyHere : Received → Type 0
 HasBodyHere (Answer answer) = ¬ (IsElsewhere (body_of answer))
 HasBodyHere (Again _) = ⊤
-
--- the origin server failed, so that a stale response may be used (RFC 5861, section 4)
-abbrev pub is_failure : ℕ → Bool
-is_failure status = status == 500 || status == 502 || status == 503 || status == 504

@@ -2,11 +2,11 @@
 ghost use Rattle.std.specs.Prelude.{◌≡◌, ◌⊎◌, true, IfOk, OnErr};
 ghost use Rattle.http_cache_shelf.specs.Shelf.{KeepsAll};
 ghost use Rattle.http_cache_shelf.specs.Target.{text_of};
-ghost use Rattle.http_cache_client.specs.Plan.{Stores};
+ghost use Rattle.http_cache_plans.specs.Plan.{Stores};
 
-use crate::plan::Change;
-use crate::reply::Reply;
 use bytes::Bytes;
+use http_cache_plans::plan::{Change, Settled};
+use http_cache_plans::reply::Reply;
 use http_cache_semantics::CacheOptions;
 use http_cache_shelf::{Shelf, ShelfError, Target};
 use jiff::Timestamp;
@@ -24,17 +24,6 @@ pub struct Client<S: Drop> {
     pub(crate) name: String,
     pub(crate) options: CacheOptions,
     pub(crate) shelf: S,
-}
-
-/// The outcome of a change of the shelf.
-#[derive(Clone, Copy, Debug, PartialEq, Eq)]
-pub(crate) enum Settled {
-    /// A response is stored.
-    Stored,
-    /// None is.
-    NotStored,
-    /// The shelf failed, and has what it had.
-    Failed,
 }
 
 impl<S: Shelf + Drop> Client<S> {

@@ -2,20 +2,13 @@
 #![tactic(auto)]
 
 mod ask;
-pub mod body;
 pub mod client;
 mod fetch;
-mod freshen;
-mod invalidate;
-mod judge;
 pub mod origin;
-mod plan;
 mod receive;
-mod reply;
-mod report;
 pub mod tokens;
 
-pub use body::Body;
 pub use client::Client;
+pub use http_cache_plans::{Body, Times};
 pub use origin::{FetchError, Origin};
-pub use tokens::{Decision, Forwarded, Received, Times, Validation};
+pub use tokens::{Decision, Forwarded, Received, Validation};

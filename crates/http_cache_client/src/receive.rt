@@ -1,96 +1,30 @@
 //! What is done with the outcome of a request that was sent.
 ghost use Rattle.std.specs.Prelude.{◌≡◌, ◌≢◌, ◌⊎◌, true, false, None, IfOk, IfSome, OnErr};
-ghost use Rattle.http.specs.Request.{head_of as head_of_request};
 ghost use Rattle.http.specs.Response.{head_of, body_of};
-ghost use Rattle.http_cache_fields.specs.Headers.{headers_of};
 ghost use Rattle.http_cache_shelf.specs.Shelf.{KeepsAll};
-ghost use Rattle.http_cache_client.specs.Plan.{Stores, IsElsewhere, IsWhole, IsKnownPlan};
-ghost use Rattle.http_cache_client.specs.Receive.{IsWholeResponse, MayBeStored, HasCondition, is_failure};
-ghost use Rattle.http_cache_client.specs.Receive.{IsRenewalFor, IsConditionalReceipt, KeepsBodyPlace};
-ghost use Rattle.http_cache_client.specs.Receive.{HasBodyHere, IsAfterA304};
-ghost use Rattle.http_cache_client.specs.Reply.{IsConditionalReply};
+ghost use Rattle.http_cache_plans.specs.Plan.{Stores, IsElsewhere, IsWhole, IsKnownPlan};
+ghost use Rattle.http_cache_plans.specs.Plan.{HasCondition, is_failure};
+ghost use Rattle.http_cache_client.specs.Receive.{IsWholeResponse, MayBeStored, IsConditionalReceipt};
+ghost use Rattle.http_cache_client.specs.Receive.{KeepsBodyPlace, HasBodyHere, IsAfterA304};
 
-use crate::body::Body;
-use crate::client::{Client, Settled};
-use crate::freshen::{freshened, of_id, renewed};
-use crate::invalidate::invalidated;
-use crate::plan::{Arrived, Change, Plan, plan_of};
-use crate::reply::{Reply, not_modified};
-use crate::report::{answer_of, forwarded, line_of, replace_line, set_line};
-use crate::tokens::{Forwarded, Received, Times, Validation, Why};
+use crate::client::Client;
+use crate::tokens::{Forwarded, Received, Validation};
 use bytes::Bytes;
-use http::{HeaderMap, HeaderValue, Request, Response, StatusCode};
+use http::{Request, Response, StatusCode};
 use http_cache_messages::asking::{Incoming, is_looked_up};
-use http_cache_messages::head::add_date;
-use http_cache_messages::memory::or_out_of_memory;
-use http_cache_messages::worth::is_worth_storing;
+use http_cache_plans::failure::{is_failure, stale_reply};
+use http_cache_plans::freshen::freshened;
+use http_cache_plans::invalidate::invalidated;
+use http_cache_plans::plan::{Arrived, Change, Plan, plan_of};
+use http_cache_plans::receipt::{Lines, line_for, prepared};
+use http_cache_plans::renewal::{Renewal, renewal_of};
+use http_cache_plans::report::{answer_of, forwarded, replace_line};
+use http_cache_plans::{Body, Times, Why};
 use http_cache_semantics::explain::{Forward, Member};
-use http_cache_semantics::{CacheError, CacheOptions, CachePolicy};
-use http_cache_shelf::{ResponseId, Shelf, StoredResponse, Target};
+use http_cache_shelf::{ResponseId, Shelf, Target};
 use jiff::Timestamp;
 use std::alloc::{AllocError, Global};
 use std::mem;
-
-// Whether the origin server failed, so that a stale response may be used (RFC 5861, section 4).
-fn is_failure(status: StatusCode) -> bool
-    ensures { result ≡ is_failure status }
-{
-    matches!(status.as_u16(), 500 | 502 | 503 | 504)
-}
-
-// What is sent of a stored response where the origin failed, if that is allowed (RFC 5861, section 4).
-fn stale_reply(
-    alloc: Global,
-    stored: &[StoredResponse],
-    id: ResponseId,
-    incoming: &Incoming<'_>,
-    now: Timestamp,
-) -> Result<Option<Reply>, AllocError>
-    ensures { IfOk result (IsConditionalReply
-        (headers_of (head_of_request incoming.now.request.now).headers)) }
-{
-    let Some(one) = of_id(stored, id) else {
-        return Ok(None);
-    };
-    let asking = incoming.asking(one.policy.stored_method());
-    if !one.policy.stale_use(&asking, now).if_error {
-        return Ok(None);
-    }
-    Reply::of(alloc, one, incoming, now)
-}
-
-// The values of Cache-Status for the outcomes of a change.
-#[derive(Drop)]
-struct Lines {
-    stored: HeaderValue,
-    failed: HeaderValue,
-}
-
-fn lines_of(alloc: Global, headers: &HeaderMap, member: &Member<'_>) -> Result<Lines, AllocError> {
-    let stored = Member {
-        stored: true,
-        ..*member
-    };
-    let failed = Member {
-        left: None,
-        detail: Some("shelf failed"),
-        ..*member
-    };
-    Ok(Lines {
-        stored: line_of(alloc, headers, &stored)?,
-        failed: line_of(alloc, headers, &failed)?,
-    })
-}
-
-// The value of Cache-Status for the outcome of a change, unless it is that no response is stored.
-fn line_for(lines: Lines, settled: Settled, says_stored: bool) -> Option<HeaderValue> {
-    let Lines { stored, failed } = lines;
-    match settled {
-        Settled::Stored if says_stored => Some(stored),
-        Settled::Failed => Some(failed),
-        Settled::Stored | Settled::NotStored => None,
-    }
-}
 
 // What Cache-Status says of a response: why its request was sent, its status, and when it was received.
 #[derive(Clone, Copy)]
@@ -98,123 +32,6 @@ struct Receipt<'a> {
     why: &'a Why,
     status: StatusCode,
     received: Timestamp,
-}
-
-// A response that was received, as it is sent before it is known whether it is stored: with a Date, and
-// as a 304 if it makes the client's own condition false.
-fn prepared(
-    alloc: Global,
-    response: Response<Body>,
-    member: &Member<'_>,
-    is_known: bool,
-    received: Timestamp,
-) -> Result<(Response<Body>, Lines), AllocError>
-    ensures status { IfOk result (λ made. (head_of made.0).status ≡ 304
-        → (is_known ≡ true) ⊎ ((head_of response).status ≡ 304)) }
-    ensures body { IfOk result (λ made. IsElsewhere (body_of made.0) → IsElsewhere (body_of response)) }
-{
-    let (mut head, mut body) = response.into_parts();
-    or_out_of_memory(add_date(alloc, &mut head.headers, received))?;
-    if is_known {
-        head = not_modified(alloc, &head)?;
-        body = Body::Here(Bytes::new());
-    }
-    let line = line_of(alloc, &head.headers, member)?;
-    let lines = lines_of(alloc, &head.headers, member)?;
-    set_line(&mut head.headers, line)?;
-    Ok((Response::from_parts(head, body), lines))
-}
-
-// What is sent of a stored response that a 304 confirmed, and what becomes of it.
-#[derive(Drop)]
-struct Renewal {
-    reply: Reply,
-    plan: Plan,
-}
-
-// A renewed policy takes the place of the stored one, which is removed if the renewed response may not
-// be stored.
-fn renewal_plan(
-    alloc: Global,
-    target: Target,
-    id: ResponseId,
-    ids: Vec<ResponseId>,
-    policy: CachePolicy,
-    now: Timestamp,
-) -> Plan
-    ensures stored { ¬ (Stores result.change) }
-    ensures known { result.is_known ≡ false }
-{
-    if is_worth_storing(&policy, now) {
-        let superseded = Vec::new(alloc);
-        let change = Change::Renew {
-            target,
-            superseded,
-            id,
-            policy,
-        };
-        return Plan {
-            says_stored: true,
-            ..Plan::of(change)
-        };
-    }
-    drop(policy);
-    Plan::of(Change::Remove { target, ids })
-}
-
-// The renewal by a policy. A fallible step borrows the policy, so that it is dropped in one place.
-fn renewal_by(
-    alloc: Global,
-    target: Target,
-    id: ResponseId,
-    ids: Vec<ResponseId>,
-    policy: CachePolicy,
-    arrived: &Arrived<'_>,
-) -> Result<Option<Renewal>, AllocError>
-    ensures { IfOk result (IsRenewalFor arrived.now.incoming.now.request.now) }
-{
-    let now = arrived.times.received;
-    match Reply::of_policy(alloc, id, &policy, None, arrived.incoming, now) {
-        Ok(Some(reply)) => Ok(Some(Renewal {
-            reply,
-            plan: renewal_plan(alloc, target, id, ids, policy, now),
-        })),
-        Ok(None) => {
-            drop(policy);
-            Ok(None)
-        }
-        Err(cause) => {
-            drop(policy);
-            Err(cause)
-        }
-    }
-}
-
-// The renewal of a stored response by a 304 (RFC 9111, section 4.3.4). None if that isn't for it, or
-// the stored response can't be renewed.
-fn renewal_of(
-    alloc: Global,
-    target: &Target,
-    stored: &[StoredResponse],
-    id: ResponseId,
-    arrived: &Arrived<'_>,
-    options: &CacheOptions,
-) -> Result<Option<Renewal>, AllocError>
-    ensures { IfOk result (IsRenewalFor arrived.now.incoming.now.request.now) }
-{
-    let Some(one) = of_id(stored, id) else {
-        return Ok(None);
-    };
-    if !one.policy.is_confirmed_by(arrived.head) {
-        return Ok(None);
-    }
-    let target = target.try_clone()?;
-    let ids = vec![in alloc; id]?;
-    match renewed(alloc, &one.policy, arrived, options) {
-        Ok(policy) => renewal_by(alloc, target, id, ids, policy, arrived),
-        Err(CacheError::Memory) => Err(AllocError),
-        Err(_) => Ok(None),
-    }
 }
 
 // A request that was sent, and is the client's own or a validation.

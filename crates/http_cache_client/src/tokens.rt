@@ -3,39 +3,12 @@
 //! A token holds what `Cache-Status` says of the request so far. Only a client makes tokens.
 ghost use Rattle.std.specs.Prelude.{◌≡◌};
 
-use crate::body::Body;
 use bytes::Bytes;
 use http::{Response, request};
-use http_cache_semantics::explain::Forward;
+use http_cache_plans::{Body, Why};
 use http_cache_shelf::ResponseId;
-use jiff::Timestamp;
 use std::alloc::Global;
 use std::mem;
-
-/// When a request was sent, and when its response was received.
-#[derive(Clone, Copy, Debug, PartialEq, Eq)]
-pub struct Times {
-    /// When the request was sent.
-    pub sent: Timestamp,
-    /// When the response was received.
-    pub received: Timestamp,
-}
-
-// Why a request is sent, for Cache-Status.
-#[derive(Debug, Drop)]
-pub(crate) struct Why {
-    pub forward: Forward,
-    pub detail: Option<String>,
-}
-
-impl Why {
-    pub(crate) fn of(forward: Forward) -> Why {
-        Why {
-            forward,
-            detail: None,
-        }
-    }
-}
 
 /// The client's own request is to be sent, as it is. `accept` takes its response, and
 /// `without_response` that there is none.

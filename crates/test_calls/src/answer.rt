@@ -1,4 +1,5 @@
 //! What a call of a line returns.
+use crate::explanation::{explain, storability};
 use crate::member::member;
 use crate::policy::{
     forbids_stale, is_confirmed_by, is_not_modified_for, response_at, stale_use, stored_directives,
@@ -54,6 +55,8 @@ pub fn answer_to(alloc: Global, case: &str) -> Result<String, Fail> {
         "forbids_stale" => forbids_stale(alloc, case)?,
         "is_not_modified_for" => is_not_modified_for(alloc, case)?,
         "is_confirmed_by" => is_confirmed_by(alloc, case)?,
+        "explain" => return explain(alloc, case),
+        "storability" => return storability(alloc, case),
         "response_at" => return response_at(alloc, case),
         "stored_directives" => return stored_directives(alloc, case),
         "member" => return member(alloc, case),

@@ -3,6 +3,7 @@
 #![tactic(auto)]
 
 mod answer;
+mod explanation;
 mod member;
 mod policy;
 mod shown;

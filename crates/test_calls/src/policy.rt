@@ -17,7 +17,8 @@ fn options(word: &str) -> CacheOptions {
     }
 }
 
-fn policy_of(
+/// The policy of an exchange, received at the start, by the options that a word names.
+pub fn policy_of(
     alloc: Global,
     request: &request::Parts,
     response: &response::Parts,

@@ -4,9 +4,9 @@
 #[cfg(test)]
 mod chains;
 #[cfg(test)]
-mod errors;
+mod comparisons;
 #[cfg(test)]
-mod explanations;
+mod errors;
 #[cfg(test)]
 mod own_messages;
 #[cfg(test)]

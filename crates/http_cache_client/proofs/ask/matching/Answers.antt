@@ -1,7 +1,7 @@
 -- What is sent while a stale response is validated has its status.
 use Rattle.std.proofs.Common.{Option, Some, subst}
-use Rattle.http_cache_client.specs.Reply.{IsReplyOf}
-use Rattle.http_cache_client.specs.declared.reply.Reply.{Reply}
+use Rattle.http_cache_plans.specs.Reply.{IsReplyOf}
+use Rattle.http_cache_plans.specs.declared.reply.Reply.{Reply}
 use Rattle.http_cache_client.proofs.ask.matching.Goals as goal
 
 pub returns-in-Validate-clause-answered : goal.returns-in-Validate-clause-answered

@@ -5,8 +5,8 @@ use Rattle.http_cache_fields.specs.Headers.{headers_of}
 use Rattle.http_cache_shelf.specs.Shelf.{StoredByTarget, ShowsAll}
 use Rattle.http_cache_shelf.specs.Target.{text_of}
 use Rattle.http_cache_client.specs.Ask.{IsDecisionOf, IsAnswered}
-use Rattle.http_cache_client.specs.Reply.{IsReplyOf}
-use Rattle.http_cache_client.specs.declared.reply.Reply.{Reply}
+use Rattle.http_cache_plans.specs.Reply.{IsReplyOf}
+use Rattle.http_cache_plans.specs.declared.reply.Reply.{Reply}
 use Rattle.http_cache_client.proofs.VerdictLemmas.{stored_status, answered_by, IsVerdictIn-found}
 use Rattle.http_cache_client.proofs.client.Client.asked.Goals as goal
 

@@ -1,7 +1,7 @@
 //! Which of the stored responses of a target answers a request.
 ghost use Rattle.std.specs.Prelude.{List, Contains};
 ghost use Rattle.http_cache_shelf.specs.declared.shelf.StoredResponse.{StoredResponse};
-ghost use Rattle.http_cache_client.specs.Judge.{IsSelectedOf};
+ghost use Rattle.http_cache_plans.specs.Judge.{IsSelectedOf};
 
 use http_cache_messages::asking::Incoming;
 use http_cache_semantics::explain::{Explanation, Reason, StaleReason};
@@ -10,7 +10,7 @@ use jiff::Timestamp;
 
 /// What is found among the stored responses.
 #[derive(Clone, Copy)]
-pub(crate) enum Selected<'a> {
+pub enum Selected<'a> {
     /// One that may be used without validation.
     Fresh(&'a StoredResponse),
     /// One that answers the request once it is validated, and why it has to be.
@@ -67,9 +67,9 @@ fn explained<'a>(
     said
 }
 
-/// The newest stored response that may be used, else the newest that answers the request once it is
-/// validated, else none (RFC 9111, sections 4 and 4.1).
-pub(crate) fn select<'a>(
+/// Returns the newest stored response that may be used, else the newest that answers the request once
+/// it is validated, else none (RFC 9111, sections 4 and 4.1).
+pub fn select<'a>(
     stored: &'a [StoredResponse],
     incoming: &'a Incoming<'a>,
     now: Timestamp,

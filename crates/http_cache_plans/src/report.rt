@@ -2,7 +2,6 @@
 ghost use Rattle.std.specs.Prelude.{◌≡◌, IfOk};
 ghost use Rattle.http.specs.Response.{head_of, body_of};
 
-use crate::tokens::Why;
 use bytes::Bytes;
 use http::header::{CACHE_STATUS, HeaderValueError};
 use http::{HeaderMap, HeaderValue, Response, StatusCode, response};
@@ -12,8 +11,27 @@ use http_cache_semantics::CacheError;
 use http_cache_semantics::explain::{CacheOutcome, Explanation, Forward, Member, TimeLeft};
 use std::alloc::{AllocError, Global};
 
-/// The client's member for a hit.
-pub(crate) fn hit<'a>(cache: &'a str, left: TimeLeft, detail: Option<&'a str>) -> Member<'a> {
+/// Why a request is sent, for Cache-Status.
+#[derive(Debug, Drop)]
+pub struct Why {
+    /// The word (RFC 9211, section 2.2).
+    pub forward: Forward,
+    /// The detail, if there is one.
+    pub detail: Option<String>,
+}
+
+impl Why {
+    /// Returns a word without a detail.
+    pub fn of(forward: Forward) -> Why {
+        Why {
+            forward,
+            detail: None,
+        }
+    }
+}
+
+/// Returns the client's member for a hit.
+pub fn hit<'a>(cache: &'a str, left: TimeLeft, detail: Option<&'a str>) -> Member<'a> {
     Member {
         cache,
         outcome: CacheOutcome::Hit,
@@ -24,8 +42,8 @@ pub(crate) fn hit<'a>(cache: &'a str, left: TimeLeft, detail: Option<&'a str>) -
     }
 }
 
-/// The client's member for a response that it makes itself.
-pub(crate) fn generated<'a>(cache: &'a str, detail: &'a str) -> Member<'a> {
+/// Returns the client's member for a response that it makes itself.
+pub fn generated<'a>(cache: &'a str, detail: &'a str) -> Member<'a> {
     Member {
         cache,
         outcome: CacheOutcome::Generated,
@@ -36,12 +54,8 @@ pub(crate) fn generated<'a>(cache: &'a str, detail: &'a str) -> Member<'a> {
     }
 }
 
-/// The client's member for a request that was sent.
-pub(crate) fn forwarded<'a>(
-    cache: &'a str,
-    why: &'a Why,
-    status: Option<StatusCode>,
-) -> Member<'a> {
+/// Returns the client's member for a request that was sent.
+pub fn forwarded<'a>(cache: &'a str, why: &'a Why, status: Option<StatusCode>) -> Member<'a> {
     Member {
         cache,
         outcome: CacheOutcome::Forwarded(why.forward),
@@ -52,8 +66,8 @@ pub(crate) fn forwarded<'a>(
     }
 }
 
-/// Why a request is sent, by what was found out of a stored response.
-pub(crate) fn why_of(alloc: Global, said: &Explanation<'_>) -> Result<Why, AllocError> {
+/// Returns why a request is sent, by what was found out of a stored response.
+pub fn why_of(alloc: Global, said: &Explanation<'_>) -> Result<Why, AllocError> {
     let forward = match said.outcome() {
         CacheOutcome::Forwarded(forward) => forward,
         CacheOutcome::Hit | CacheOutcome::Generated => Forward::Miss,
@@ -64,8 +78,8 @@ pub(crate) fn why_of(alloc: Global, said: &Explanation<'_>) -> Result<Why, Alloc
     })
 }
 
-/// Why a request is sent where the shelf failed.
-pub(crate) fn shelf_failed(alloc: Global) -> Result<Why, AllocError> {
+/// Returns why a request is sent where the shelf failed.
+pub fn shelf_failed(alloc: Global) -> Result<Why, AllocError> {
     Ok(Why {
         forward: Forward::Bypass,
         detail: Some(String::from_str(alloc, "shelf failed")?),
@@ -95,9 +109,9 @@ fn value_of(line: String) -> Result<HeaderValue, AllocError> {
     }
 }
 
-/// The value of Cache-Status with a member after those of earlier caches, on one line (RFC 9211,
-/// section 2).
-pub(crate) fn line_of(
+/// Returns the value of Cache-Status with a member after those of earlier caches, on one line (RFC
+/// 9211, section 2).
+pub fn line_of(
     alloc: Global,
     headers: &HeaderMap,
     member: &Member<'_>,
@@ -112,7 +126,7 @@ pub(crate) fn line_of(
 }
 
 /// Puts a value of Cache-Status in place of the earlier lines. A full map stays without it.
-pub(crate) fn set_line(headers: &mut HeaderMap, line: HeaderValue) -> Result<(), AllocError> {
+pub fn set_line(headers: &mut HeaderMap, line: HeaderValue) -> Result<(), AllocError> {
     match insert(headers, CACHE_STATUS, line) {
         Err(CacheError::Memory) => Err(AllocError),
         _ => Ok(()),
@@ -120,15 +134,15 @@ pub(crate) fn set_line(headers: &mut HeaderMap, line: HeaderValue) -> Result<(),
 }
 
 /// Puts a value of Cache-Status in place of one that is there, for which no memory is needed.
-pub(crate) fn replace_line(headers: &mut HeaderMap, line: HeaderValue) {
+pub fn replace_line(headers: &mut HeaderMap, line: HeaderValue) {
     if contains_key(headers, CACHE_STATUS) {
         replace(headers, CACHE_STATUS, line);
     }
 }
 
-/// A head and a body with a member of Cache-Status.
+/// Returns a head and a body with a member of Cache-Status.
 #[inline(always)]
-pub(crate) fn answer_of(
+pub fn answer_of(
     alloc: Global,
     mut head: response::Parts,
     body: Bytes,

@@ -2,7 +2,7 @@
 use Rattle.std.specs.Prelude.{◌≡◌, ◌⊎◌, ℕ, true, Option, IfSome}
 use Rattle.http_cache_semantics.specs.Conditions.{is_conditional}
 use Rattle.http_cache_semantics.specs.Headers.{Headers}
-use Rattle.http_cache_client.specs.declared.reply.Reply.{Reply}
+use Rattle.http_cache_plans.specs.declared.reply.Reply.{Reply}
 
 -- a 304 is sent only to a request with a condition (RFC 9110, section 15.4.5)
 abbrev pub IsConditionalReply : Headers → Option Reply → Type 0

@@ -1,6 +1,6 @@
 -- What is selected so far is one of the stored responses.
-use Rattle.http_cache_client.specs.Judge.{IsSelectedOf}
-use Rattle.http_cache_client.proofs.judge.select.Given as goal
+use Rattle.http_cache_plans.specs.Judge.{IsSelectedOf}
+use Rattle.http_cache_plans.proofs.judge.select.Given as goal
 
 abbrev pub invariant-loop-one : goal.invariant-loop-one
 invariant-loop-one l = IsSelectedOf l.stored l.selected

@@ -1,17 +1,17 @@
 -- What becomes of a response that was received.
-use Rattle.std.specs.Prelude.{◌≡◌, true, ⊤, ℕ, List, length}
+use Rattle.std.specs.Prelude.{◌≡◌, ◌==◌, ◌||◌, true, ⊤, ℕ, Bool, List, length}
 use Rattle.http.specs.Request.{head_of}
 use Rattle.http.specs.declared.response.Parts.{Parts}
 use Rattle.http.specs.declared.request.Request.{Request}
 use Rattle.http_cache_messages.specs.Complete.{is_complete}
 use Rattle.http_cache_semantics.specs.Conditions.{is_conditional}
 use Rattle.http_cache_semantics.specs.Headers.{headers_of}
-use Rattle.http_cache_client.specs.declared.body.Body.{Body}
-use Rattle.http_cache_client.specs.declared.body.Body.TheVariants.{Here, Elsewhere}
-use Rattle.http_cache_client.specs.declared.plan.Arrived.{Arrived}
-use Rattle.http_cache_client.specs.declared.plan.Change.{Change}
-use Rattle.http_cache_client.specs.declared.plan.Change.TheVariants.{Nothing, Put, Renew, Remove, RemoveTargets}
-use Rattle.http_cache_client.specs.declared.plan.Plan.{Plan}
+use Rattle.http_cache_plans.specs.declared.body.Body.{Body}
+use Rattle.http_cache_plans.specs.declared.body.Body.TheVariants.{Here, Elsewhere}
+use Rattle.http_cache_plans.specs.declared.plan.Arrived.{Arrived}
+use Rattle.http_cache_plans.specs.declared.plan.Change.{Change}
+use Rattle.http_cache_plans.specs.declared.plan.Change.TheVariants.{Nothing, Put, Renew, Remove, RemoveTargets}
+use Rattle.http_cache_plans.specs.declared.plan.Plan.{Plan}
 
 -- the change stores a new response
 abbrev pub Stores : Change → Type 0
@@ -41,3 +41,11 @@ abbrev pub IsKnownPlan : Arrived → Plan → Type 0
 IsKnownPlan a plan =
     plan.is_known ≡ true
     → is_conditional (headers_of (head_of a.incoming.now.request.now).headers) ≡ true
+
+-- the request has a condition (RFC 9110, section 13.1)
+abbrev pub HasCondition : Request (List ℕ) → Type 0
+HasCondition request = is_conditional (headers_of (head_of request).headers) ≡ true
+
+-- the origin server failed, so that a stale response may be used (RFC 5861, section 4)
+abbrev pub is_failure : ℕ → Bool
+is_failure status = status == 500 || status == 502 || status == 503 || status == 504

@@ -3,11 +3,10 @@
 //! All here is decided over what was read of the shelf, and the shelf is changed by one step at the
 //! end. After a policy is made nothing here can fail, so that a policy is dropped at few places.
 ghost use Rattle.std.specs.Prelude.{◌≡◌, true, false, IsSome, IfOk};
-ghost use Rattle.http_cache_client.specs.Plan.{Stores, IsElsewhere, IsWhole, IsKnownPlan};
+ghost use Rattle.http_cache_plans.specs.Plan.{Stores, IsElsewhere, IsWhole, IsKnownPlan};
 
 use crate::body::Body;
 use crate::reply::left_of;
-use crate::tokens::Times;
 use bytes::Bytes;
 use http::{StatusCode, Version, response};
 use http_cache_messages::asking::Incoming;
@@ -17,34 +16,62 @@ use http_cache_messages::worth::is_worth_storing;
 use http_cache_semantics::explain::TimeLeft;
 use http_cache_semantics::{CacheError, CacheOptions, CachePolicy};
 use http_cache_shelf::{ResponseId, StoredResponse, Target};
+use jiff::Timestamp;
 use std::alloc::{AllocError, Global};
 
 /// A change of the shelf.
 #[derive(Drop)]
-pub(crate) enum Change {
+pub enum Change {
+    /// None.
     Nothing,
+    /// A response is stored, and the superseded ones are removed.
     Put {
+        /// For this target.
         target: Target,
+        /// The ids of the superseded responses.
         superseded: Vec<ResponseId>,
+        /// The request and the head of the response.
         policy: CachePolicy,
+        /// The body.
         body: Bytes,
     },
+    /// A stored response has another policy, and the superseded ones are removed.
     Renew {
+        /// Of this target.
         target: Target,
+        /// The ids of the superseded responses.
         superseded: Vec<ResponseId>,
+        /// The id of the response.
         id: ResponseId,
+        /// Its new policy.
         policy: CachePolicy,
     },
+    /// Stored responses are removed.
     Remove {
+        /// Of this target.
         target: Target,
+        /// Their ids.
         ids: Vec<ResponseId>,
     },
+    /// All that is stored for these targets is removed.
     RemoveTargets(Vec<Target>),
+}
+
+/// The outcome of a change of the shelf.
+#[derive(Clone, Copy, Debug, PartialEq, Eq)]
+pub enum Settled {
+    /// A response is stored.
+    Stored,
+    /// None is.
+    NotStored,
+    /// The shelf failed, and has what it had.
+    Failed,
 }
 
 /// What becomes of a response that was received.
 #[derive(Drop)]
-pub(crate) struct Plan {
+pub struct Plan {
+    /// What is changed on the shelf.
     pub change: Change,
     /// What is left of the lifetime of the response that is stored.
     pub left: Option<TimeLeft>,
@@ -56,20 +83,33 @@ pub(crate) struct Plan {
     pub is_known: bool,
 }
 
+/// When a request was sent, and when its response was received.
+#[derive(Clone, Copy, Debug, PartialEq, Eq)]
+pub struct Times {
+    /// When the request was sent.
+    pub sent: Timestamp,
+    /// When the response was received.
+    pub received: Timestamp,
+}
+
 /// A response that was received for a request.
 #[derive(Clone, Copy)]
-pub(crate) struct Arrived<'a> {
+pub struct Arrived<'a> {
+    /// The request.
     pub incoming: &'a Incoming<'a>,
+    /// The head of the response.
     pub head: &'a response::Parts,
+    /// Its body.
     pub body: &'a Body,
     /// The stored response that it replaces.
     pub id: Option<ResponseId>,
+    /// When the request was sent and the response received.
     pub times: &'a Times,
 }
 
 impl Plan {
-    /// A change that stores nothing of what was received.
-    pub(crate) fn of(change: Change) -> Plan
+    /// Returns a plan for a change that stores nothing of the received response.
+    pub fn of(change: Change) -> Plan
         ensures change { result.change ≡ change }
         ensures known { result.is_known ≡ false }
     {
@@ -82,8 +122,8 @@ impl Plan {
         }
     }
 
-    /// Nothing is changed, for a reason or for none.
-    pub(crate) fn nothing(detail: Option<&'static str>) -> Plan
+    /// Returns a plan that changes nothing, with a reason for Cache-Status if there is one.
+    pub fn nothing(detail: Option<&'static str>) -> Plan
         ensures change { result.change ≡ Change.Nothing }
         ensures known { result.is_known ≡ false }
     {
@@ -217,10 +257,10 @@ fn unfit(cause: CacheError) -> Result<Plan, AllocError>
     }
 }
 
-/// What becomes of a response to a request that is looked up: it is stored if it was received whole and
-/// may be stored (RFC 9111, sections 3 and 3.3), in place of what is stored and matches the request,
-/// which is removed even where the new response isn't stored.
-pub(crate) fn plan_of(
+/// Returns what becomes of the response to a request that is looked up: it is stored if it was received
+/// whole and may be stored (RFC 9111, sections 3 and 3.3), in place of what is stored and matches the
+/// request, which is removed even where the new response isn't stored.
+pub fn plan_of(
     alloc: Global,
     target: Target,
     stored: &[StoredResponse],

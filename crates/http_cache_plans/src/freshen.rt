@@ -1,39 +1,14 @@
 //! Stored responses that a response confirms: a 304, or a response to HEAD.
 ghost use Rattle.std.specs.Prelude.{IfOk, IfSome};
-ghost use Rattle.http_cache_client.specs.Plan.{Stores};
+ghost use Rattle.http_cache_plans.specs.Plan.{Stores};
 
 use crate::plan::{Arrived, Change};
+use crate::renewal::{of_id, renewed};
 use http::header::{CONTENT_LENGTH, ETAG, LAST_MODIFIED};
-use http::{HeaderMap, HeaderName, Method, StatusCode, Version, response};
-use http_cache_messages::head::stored_head;
-use http_cache_semantics::forwarding::updated_headers;
-use http_cache_semantics::{CacheError, CacheOptions, CachePolicy};
+use http::{HeaderMap, HeaderName, Method, StatusCode};
+use http_cache_semantics::{CacheError, CacheOptions};
 use http_cache_shelf::{ResponseId, StoredResponse, Target};
 use std::alloc::{AllocError, Global};
-
-/// The stored response of an id.
-pub(crate) fn of_id(stored: &[StoredResponse], id: ResponseId) -> Option<&StoredResponse> {
-    stored.iter().find(|one| one.id == id)
-}
-
-/// The policy of a stored response that was confirmed, of the time at which its validation was sent:
-/// with the fields that were received, new names too (RFC 9111, sections 3.2 and 4.3.4).
-pub(crate) fn renewed(
-    alloc: Global,
-    policy: &CachePolicy,
-    arrived: &Arrived<'_>,
-    options: &CacheOptions,
-) -> Result<CachePolicy, CacheError> {
-    let times = arrived.times;
-    let new = stored_head(alloc, &arrived.head.headers, times.sent, times.received)?;
-    let head = response::Parts {
-        status: policy.stored_status(),
-        version: Version::HTTP_11,
-        headers: updated_headers(alloc, policy.stored_headers(), &new)?,
-    };
-    let asking = arrived.incoming.asking(policy.stored_method());
-    CachePolicy::new_options(alloc, &asking, &head, times.sent, *options)
-}
 
 // What a response to HEAD says of a response that is stored for GET.
 #[derive(Clone, Copy, PartialEq, Eq)]
@@ -125,9 +100,9 @@ fn renewal(
     }
 }
 
-/// What a response to HEAD changes of what is stored for GET: what it confirms is renewed, and what
-/// differs from it is removed (RFC 9111, section 4.3.5). None if it says nothing of any.
-pub(crate) fn freshened(
+/// Returns what a response to HEAD changes of what is stored for GET: what it confirms is renewed, and
+/// what differs from it is removed (RFC 9111, section 4.3.5). None if it says nothing of any.
+pub fn freshened(
     alloc: Global,
     target: &Target,
     stored: &[StoredResponse],

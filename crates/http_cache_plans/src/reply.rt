@@ -3,7 +3,7 @@ ghost use Rattle.std.specs.Prelude.{◌≡◌, IfOk, true};
 ghost use Rattle.http.specs.Request.{head_of};
 ghost use Rattle.http_cache_fields.specs.Headers.{headers_of};
 ghost use Rattle.http_cache_semantics.specs.Conditions.{is_conditional};
-ghost use Rattle.http_cache_client.specs.Reply.{IsConditionalReply, IsReplyOf};
+ghost use Rattle.http_cache_plans.specs.Reply.{IsConditionalReply, IsReplyOf};
 
 use bytes::Bytes;
 use http::header::{
@@ -35,13 +35,16 @@ const FIELDS_OF_304: [HeaderName; 9] = [
 
 /// What is sent of a stored response.
 #[derive(Drop)]
-pub(crate) struct Reply {
+pub struct Reply {
+    /// The id of the stored response.
     pub id: ResponseId,
+    /// The head that is sent.
     pub head: response::Parts,
     /// Whether the stored body is sent too.
     pub needs_body: bool,
     /// The stored body, where it is sent and the shelf has it at hand.
     pub body: Option<Bytes>,
+    /// What is left of the lifetime.
     pub left: TimeLeft,
 }
 
@@ -55,11 +58,8 @@ fn copy_lines(from: &HeaderMap, name: &HeaderName, to: &mut HeaderMap) -> Result
     Ok(())
 }
 
-/// The head of a 304 in place of another head.
-pub(crate) fn not_modified(
-    alloc: Global,
-    head: &response::Parts,
-) -> Result<response::Parts, AllocError>
+/// Returns the head of a 304 in place of another head.
+pub fn not_modified(alloc: Global, head: &response::Parts) -> Result<response::Parts, AllocError>
     ensures { IfOk result (λ parts. parts.status ≡ 304) }
 {
     let mut headers = HeaderMap::new(alloc);
@@ -91,8 +91,8 @@ fn is_known(policy: &CachePolicy, request: &Request<Bytes>) -> bool
         && policy.is_not_modified_for(request)
 }
 
-/// What is left of the lifetime of a stored response.
-pub(crate) fn left_of(policy: &CachePolicy, now: Timestamp) -> TimeLeft {
+/// Returns what is left of the lifetime of a stored response.
+pub fn left_of(policy: &CachePolicy, now: Timestamp) -> TimeLeft {
     TimeLeft::of(policy.freshness().lifetime, policy.age(now))
 }
 
@@ -120,10 +120,10 @@ impl Reply {
         })
     }
 
-    /// What a policy says is sent at `now`: a 304 if the stored response makes the client's own
-    /// condition false, else the stored head, with the body, here where it is at hand, unless the method
-    /// is HEAD (RFC 9110, sections 9.3.2 and 13.2.2). None if it can't be sent.
-    pub(crate) fn of_policy(
+    /// Returns what a policy says is sent at `now`: a 304 if the stored response makes the client's own
+    /// condition false, else the stored head, with the body, here where it is at hand, unless the
+    /// method is HEAD (RFC 9110, sections 9.3.2 and 13.2.2). None if it can't be sent.
+    pub fn of_policy(
         alloc: Global,
         id: ResponseId,
         policy: &CachePolicy,
@@ -163,8 +163,8 @@ impl Reply {
         Ok(Some(reply))
     }
 
-    /// What is sent of a stored response at `now`, with its body if that is sent and at hand.
-    pub(crate) fn of(
+    /// Returns what is sent of a stored response at `now`, with its body if that is sent and at hand.
+    pub fn of(
         alloc: Global,
         stored: &StoredResponse,
         incoming: &Incoming<'_>,

@@ -1,7 +1,6 @@
 //! What the response to an unsafe request removes.
 ghost use Rattle.std.specs.Prelude.{◌≡◌, true, false, IfOk};
-ghost use Rattle.http_cache_client.specs.Plan.{Stores};
-ghost use Rattle.http_cache_client.specs.Receive.{is_failure};
+ghost use Rattle.http_cache_plans.specs.Plan.{Stores, is_failure};
 
 use crate::plan::Change;
 use bytes::Bytes;
@@ -34,10 +33,10 @@ fn add_named(
     }
 }
 
-/// What the response to a request that isn't looked up removes: what is stored for the target of an
-/// unsafe request, and for Location and Content-Location of the same origin, if the response isn't an
-/// error (RFC 9111, section 4.4).
-pub(crate) fn invalidated(
+/// Returns what the response to a request that isn't looked up removes: what is stored for the target
+/// of an unsafe request, and for Location and Content-Location of the same origin, if the response
+/// isn't an error (RFC 9111, section 4.4).
+pub fn invalidated(
     alloc: Global,
     request: &Request<Bytes>,
     head: &response::Parts,

@@ -1,8 +1,8 @@
 -- Which of the stored responses of a target answers a request.
 use Rattle.std.specs.Prelude.{⊤, List, Contains}
 use Rattle.http_cache_shelf.specs.declared.shelf.StoredResponse.{StoredResponse}
-use Rattle.http_cache_client.specs.declared.judge.Selected.{Selected}
-use Rattle.http_cache_client.specs.declared.judge.Selected.TheVariants.{Fresh, Matching, Other, Nothing}
+use Rattle.http_cache_plans.specs.declared.judge.Selected.{Selected}
+use Rattle.http_cache_plans.specs.declared.judge.Selected.TheVariants.{Fresh, Matching, Other, Nothing}
 
 -- what is selected is one of the stored responses
 abbrev pub IsSelectedOf : List StoredResponse → Selected → Type 0

@@ -12,7 +12,7 @@ pub enum Body {
 
 impl From<Bytes> for Body {
     ghost use Rattle.std.specs.Prelude.{◌≡◌};
-    ghost use Rattle.http_cache_client.specs.declared.body.Body.TheVariants.{Here};
+    ghost use Rattle.http_cache_plans.specs.declared.body.Body.TheVariants.{Here};
 
     ghost from_gives = { λ bytes body. body ≡ Here bytes };
 

@@ -1,0 +1,44 @@
+//! What is done where the origin server failed.
+ghost use Rattle.std.specs.Prelude.{◌≡◌, IfOk};
+ghost use Rattle.http.specs.Request.{head_of};
+ghost use Rattle.http_cache_fields.specs.Headers.{headers_of};
+ghost use Rattle.http_cache_plans.specs.Plan.{is_failure};
+ghost use Rattle.http_cache_plans.specs.Reply.{IsConditionalReply};
+
+use crate::renewal::of_id;
+use crate::reply::Reply;
+use http::StatusCode;
+use http_cache_messages::asking::Incoming;
+use http_cache_shelf::{ResponseId, StoredResponse};
+use jiff::Timestamp;
+use std::alloc::{AllocError, Global};
+
+/// Returns whether the origin server failed, so that a stale response may be used (RFC 5861, section
+/// 4).
+pub fn is_failure(status: StatusCode) -> bool
+    ensures { result ≡ is_failure status }
+{
+    matches!(status.as_u16(), 500 | 502 | 503 | 504)
+}
+
+/// Returns what is sent of a stored response where the origin server failed, if that is allowed (RFC
+/// 5861, section 4).
+pub fn stale_reply(
+    alloc: Global,
+    stored: &[StoredResponse],
+    id: ResponseId,
+    incoming: &Incoming<'_>,
+    now: Timestamp,
+) -> Result<Option<Reply>, AllocError>
+    ensures { IfOk result (IsConditionalReply
+        (headers_of (head_of incoming.now.request.now).headers)) }
+{
+    let Some(one) = of_id(stored, id) else {
+        return Ok(None);
+    };
+    let asking = incoming.asking(one.policy.stored_method());
+    if !one.policy.stale_use(&asking, now).if_error {
+        return Ok(None);
+    }
+    Reply::of(alloc, one, incoming, now)
+}

@@ -1,0 +1,133 @@
+//! Stored responses that a 304 confirms.
+ghost use Rattle.std.specs.Prelude.{◌≡◌, false, IfOk};
+ghost use Rattle.http_cache_plans.specs.Plan.{Stores};
+ghost use Rattle.http_cache_plans.specs.Renewal.{IsRenewalFor};
+
+use crate::plan::{Arrived, Change, Plan};
+use crate::reply::Reply;
+use http::{Version, response};
+use http_cache_messages::head::stored_head;
+use http_cache_messages::worth::is_worth_storing;
+use http_cache_semantics::forwarding::updated_headers;
+use http_cache_semantics::{CacheError, CacheOptions, CachePolicy};
+use http_cache_shelf::{ResponseId, StoredResponse, Target};
+use jiff::Timestamp;
+use std::alloc::{AllocError, Global};
+
+/// Returns the stored response of an id.
+pub fn of_id(stored: &[StoredResponse], id: ResponseId) -> Option<&StoredResponse> {
+    stored.iter().find(|one| one.id == id)
+}
+
+/// Returns the policy of a stored response that was confirmed, of the time at which its validation was
+/// sent: with the fields that were received, new names too (RFC 9111, sections 3.2 and 4.3.4).
+pub fn renewed(
+    alloc: Global,
+    policy: &CachePolicy,
+    arrived: &Arrived<'_>,
+    options: &CacheOptions,
+) -> Result<CachePolicy, CacheError> {
+    let times = arrived.times;
+    let new = stored_head(alloc, &arrived.head.headers, times.sent, times.received)?;
+    let head = response::Parts {
+        status: policy.stored_status(),
+        version: Version::HTTP_11,
+        headers: updated_headers(alloc, policy.stored_headers(), &new)?,
+    };
+    let asking = arrived.incoming.asking(policy.stored_method());
+    CachePolicy::new_options(alloc, &asking, &head, times.sent, *options)
+}
+
+/// What is sent of a stored response that a 304 confirmed, and what becomes of it.
+#[derive(Drop)]
+pub struct Renewal {
+    /// What is sent.
+    pub reply: Reply,
+    /// What becomes of the stored response.
+    pub plan: Plan,
+}
+
+// A renewed policy takes the place of the stored one, which is removed if the renewed response may not
+// be stored.
+fn renewal_plan(
+    alloc: Global,
+    target: Target,
+    id: ResponseId,
+    ids: Vec<ResponseId>,
+    policy: CachePolicy,
+    now: Timestamp,
+) -> Plan
+    ensures stored { ¬ (Stores result.change) }
+    ensures known { result.is_known ≡ false }
+{
+    if is_worth_storing(&policy, now) {
+        let superseded = Vec::new(alloc);
+        let change = Change::Renew {
+            target,
+            superseded,
+            id,
+            policy,
+        };
+        return Plan {
+            says_stored: true,
+            ..Plan::of(change)
+        };
+    }
+    drop(policy);
+    Plan::of(Change::Remove { target, ids })
+}
+
+// The renewal by a policy. A fallible step borrows the policy, so that it is dropped in one place.
+fn renewal_by(
+    alloc: Global,
+    target: Target,
+    id: ResponseId,
+    ids: Vec<ResponseId>,
+    policy: CachePolicy,
+    arrived: &Arrived<'_>,
+) -> Result<Option<Renewal>, AllocError>
+    ensures { IfOk result (IsRenewalFor arrived.now.incoming.now.request.now) }
+{
+    let now = arrived.times.received;
+    match Reply::of_policy(alloc, id, &policy, None, arrived.incoming, now) {
+        Ok(Some(reply)) => Ok(Some(Renewal {
+            reply,
+            plan: renewal_plan(alloc, target, id, ids, policy, now),
+        })),
+        Ok(None) => {
+            drop(policy);
+            Ok(None)
+        }
+        Err(cause) => {
+            drop(policy);
+            Err(cause)
+        }
+    }
+}
+
+/// Returns the renewal of a stored response by a 304 (RFC 9111, section 4.3.4), or None if that isn't
+/// for it, or the stored response can't be renewed.
+pub fn renewal_of(
+    alloc: Global,
+    target: &Target,
+    stored: &[StoredResponse],
+    id: ResponseId,
+    arrived: &Arrived<'_>,
+    options: &CacheOptions,
+) -> Result<Option<Renewal>, AllocError>
+    ensures { IfOk result (IsRenewalFor arrived.now.incoming.now.request.now) }
+{
+    let Some(one) = of_id(stored, id) else {
+        return Ok(None);
+    };
+    if !one.policy.is_confirmed_by(arrived.head) {
+        return Ok(None);
+    }
+    let target = target.try_clone()?;
+    let ids = vec![in alloc; id]?;
+    match renewed(alloc, &one.policy, arrived, options) {
+        Ok(policy) => renewal_by(alloc, target, id, ids, policy, arrived),
+        Err(CacheError::Memory) => Err(AllocError),
+        Err(_) => Ok(None),
+    }
+}
