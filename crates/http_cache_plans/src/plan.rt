@@ -12,7 +12,7 @@ use http::{StatusCode, Version, response};
 use http_cache_messages::asking::Incoming;
 use http_cache_messages::complete::is_complete;
 use http_cache_messages::head::{add_cache_status, stored_head};
-use http_cache_messages::worth::is_worth_storing;
+use http_cache_messages::worth::{can_be_used_again, is_worth_storing};
 use http_cache_semantics::explain::TimeLeft;
 use http_cache_semantics::{CacheError, CacheOptions, CachePolicy};
 use http_cache_shelf::{ResponseId, StoredResponse, Target};
@@ -137,19 +137,25 @@ impl Plan {
     }
 }
 
-// The stored responses to the same method that a request matches, and the one that it replaces.
+// Whether a stored response gives way to the received one: it is the one that is replaced, or is to the
+// same method and matches the request, or can't be used again.
+fn gives_way(stored: &StoredResponse, arrived: &Arrived<'_>) -> bool {
+    let asking = arrived.incoming.as_received();
+    let is_same_method = *stored.policy.stored_method() == *arrived.incoming.request().method();
+    let is_replaced = arrived.id == Some(stored.id);
+    is_same_method && (is_replaced || stored.policy.matches_request(&asking))
+        || !can_be_used_again(&stored.policy, arrived.times.received)
+}
+
+// The stored responses that give way to the received one.
 fn superseded(
     alloc: Global,
     stored: &[StoredResponse],
     arrived: &Arrived<'_>,
 ) -> Result<Vec<ResponseId>, AllocError> {
-    let asking = arrived.incoming.as_received();
-    let method = arrived.incoming.request().method();
     let mut ids = Vec::new(alloc);
     for one in stored {
-        let is_same_method = *one.policy.stored_method() == *method;
-        let is_replaced = arrived.id == Some(one.id);
-        if is_same_method && (is_replaced || one.policy.matches_request(&asking)) {
+        if gives_way(one, arrived) {
             ids.push(one.id)?;
         }
     }
@@ -258,8 +264,8 @@ fn unfit(cause: CacheError) -> Result<Plan, AllocError>
 }
 
 /// Returns what becomes of the response to a request that is looked up: it is stored if it was received
-/// whole and may be stored (RFC 9111, sections 3 and 3.3), in place of what is stored and matches the
-/// request, which is removed even where the new response isn't stored.
+/// whole and may be stored (RFC 9111, sections 3 and 3.3). What is stored and matches the request, or
+/// can't be used again, is removed, even if the new response isn't stored.
 pub fn plan_of(
     alloc: Global,
     target: Target,

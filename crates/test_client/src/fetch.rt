@@ -58,3 +58,17 @@ fn answers_of_a_client(rt: HostRuntime) -> Result<(), Fail> {
     }
     Ok(())
 }
+
+// The first variant can neither be validated nor used stale once the second is asked for.
+fn spent() -> &'static str {
+    r#"0|GET /s|A: a|200 ^ Cache-Control: max-age=1, must-revalidate ~ Vary: A ^ one|200 one|C; fwd=uri-miss; fwd-status=200; stored; ttl=1|GET
+       5|GET /s|A: b|200 ^ Cache-Control: max-age=9 ~ Vary: A ^ two|200 two|C; fwd=vary-miss; fwd-status=200; stored; ttl=9; detail="A"|GET"#
+}
+
+#[test]
+fn what_cannot_be_used_again_is_removed(rt: HostRuntime) -> Result<(), Fail> {
+    let mut client = new_client(rt.alloc())?;
+    check(&rt, rt.alloc(), &mut client, spent())?;
+    assert_eq!(rt; client.shelf().len(), 1);
+    Ok(())
+}
