@@ -1,5 +1,6 @@
 -- Lemmas on what is stored.
 mod BoundsLemmas
+mod EndingLemmas
 mod IdLemmas
 mod ListLemmas
 mod Lookups

@@ -2,11 +2,15 @@
 //!
 //! Two requests have equal targets exactly where their texts are equal. Origins and references are
 //! resolved here and nowhere else.
-ghost use Rattle.std.specs.Prelude.{◌≡◌, IfOk};
-ghost use Rattle.http_cache_shelf.specs.Target.{text_of};
+ghost use Rattle.std.specs.Prelude.{◌≡◌, ◌++◌, IfOk, codes, option_copied, string_bytes};
+ghost use Rattle.http_uri.specs.ByteClasses.{lowercase};
+ghost use Rattle.http_cache_semantics.specs.Headers.{headers_of};
+ghost use Rattle.http_cache_shelf.specs.Target.{text_of, target_text, without_ending, without_default_port};
+ghost use Rattle.http_cache_shelf.specs.Target.{scheme_of, authority_of, text_after};
 
 use http::header::HOST;
 use http::{HeaderMap, Uri};
+use http_cache_fields::headers::first_text;
 use http_uri::UriError;
 use std::alloc::{AllocError, Global};
 
@@ -28,26 +32,33 @@ struct Origin<'a> {
     authority: &'a str,
 }
 
+fn without_ending<'a>(text: &'a str, ending: &str) -> &'a str
+    ensures { result.now ≡ without_ending ending.now text.now }
+{
+    text.strip_suffix(ending).unwrap_or(text)
+}
+
 // An authority without the default port of its scheme, which names the same origin (RFC 9110, section
 // 4.2.3).
-fn without_default_port<'a>(scheme: &str, authority: &'a str) -> &'a str {
-    let port = match scheme {
-        "http" => ":80",
-        "https" => ":443",
-        _ => return authority,
-    };
-    authority.strip_suffix(port).unwrap_or(authority)
+fn without_default_port<'a>(scheme: &str, authority: &'a str) -> &'a str
+    ensures { result.now ≡ without_default_port scheme.now authority.now }
+{
+    match scheme {
+        "http" => without_ending(authority, ":80"),
+        "https" => without_ending(authority, ":443"),
+        _ => authority,
+    }
 }
 
 impl<'a> Origin<'a> {
-    fn of(uri: &'a Uri, headers: &'a HeaderMap) -> Origin<'a> {
+    fn of(uri: &'a Uri, headers: &'a HeaderMap) -> Origin<'a>
+        ensures scheme { result.scheme.now ≡ scheme_of uri.now }
+        ensures authority { result.authority.now ≡ authority_of uri.now (headers_of headers.now) }
+    {
         let scheme = uri.scheme_str().unwrap_or("");
         let authority = match uri.authority() {
             Some(authority) => authority.as_str(),
-            None => match headers.get(HOST) {
-                Some(host) => host.to_str().unwrap_or(""),
-                None => "",
-            },
+            None => first_text(headers, HOST).unwrap_or(""),
         };
         Origin {
             scheme,
@@ -68,7 +79,10 @@ impl<'a> Origin<'a> {
     }
 
     // The text before a path, with room for as many bytes more.
-    fn prefix(self, alloc: Global, room: usize) -> Result<String, AllocError> {
+    fn prefix(self, alloc: Global, room: usize) -> Result<String, AllocError>
+        ensures { IfOk result (λ text. string_bytes text
+            ≡ lowercase (self.entry.scheme.now ++ codes "//" ++ self.entry.authority.now)) }
+    {
         let length = self.scheme.len().saturating_add(self.authority.len());
         let mut text = String::with_capacity(alloc, length.saturating_add(room).saturating_add(4))?;
         text.push_str(self.scheme)?;
@@ -79,7 +93,11 @@ impl<'a> Origin<'a> {
     }
 
     // The target of a path and a query. An empty path is `/` (RFC 9110, section 4.2.3).
-    fn target(self, alloc: Global, path: &str, query: Option<&str>) -> Result<Target, AllocError> {
+    fn target(self, alloc: Global, path: &str, query: Option<&str>) -> Result<Target, AllocError>
+        ensures { IfOk result (λ target. text_of target ≡ text_after
+            (self.entry.scheme.now ++ codes "//" ++ self.entry.authority.now)
+            path.now (option_copied query.entry)) }
+    {
         let room = path.len().saturating_add(query.map_or(0, str::len));
         let mut text = self.prefix(alloc, room)?;
         text.push_str(if path.is_empty() { "/" } else { path })?;
@@ -183,7 +201,11 @@ impl Target {
     /// # Errors
     ///
     /// Returns `AllocError` when out of memory.
-    pub fn of(alloc: Global, uri: &Uri, headers: &HeaderMap) -> Result<Target, AllocError> {
+    #[tactic(auto, unfolding(crate::specs::Target::target_text))]
+    pub fn of(alloc: Global, uri: &Uri, headers: &HeaderMap) -> Result<Target, AllocError>
+        ensures text { IfOk result (λ target. text_of target
+            ≡ target_text uri.now (headers_of headers.now)) }
+    {
         Origin::of(uri, headers).target(alloc, uri.path(), uri.query())
     }
 

@@ -1,0 +1,67 @@
+//! Tells how long a hit takes over a shelf of so many responses with bodies of 1 kB.
+//!
+//! `bench_shelf memory COUNT HITS` stores so many in memory, asks for some of them, and prints how many
+//! nanoseconds a hit took. Without arguments it prints nothing.
+#![tactic(auto)]
+
+mod hits;
+mod pages;
+
+use hits::{answered, requests};
+use http_cache_client::Client;
+use http_cache_semantics::CacheOptions;
+use http_cache_shelf::{Limits, MemoryShelf, Shelf};
+use pages::fill;
+use std::env;
+use std::time::Instant;
+
+fn limits() -> Limits {
+    Limits {
+        responses: usize::MAX,
+        bytes: u64::MAX,
+        ..Limits::default()
+    }
+}
+
+// Prints the mean nanoseconds of so many hits on a shelf of so many pages.
+fn tell_hits<S: Shelf + Drop>(
+    rt: &HostRuntime,
+    shelf: S,
+    count: u64,
+    hits: u64,
+) -> anyhow::Result<()> {
+    let name = String::from_str(rt.alloc(), "bench")?;
+    let mut client = Client::new(shelf, CacheOptions::default(), name);
+    let requests = requests(rt.alloc(), count, hits)?;
+    let begun = Instant::now(rt)?;
+    let answered = answered(rt.alloc(), &mut client, requests.as_slice())?;
+    let nanos = begun.elapsed(rt)?.as_nanos();
+    let mean = nanos.checked_div(u128::from(hits)).unwrap_or(0);
+    println!(rt; "answered {answered} hit_ns {mean}")?;
+    Ok(())
+}
+
+fn in_memory(rt: &HostRuntime, count: u64, hits: u64) -> anyhow::Result<()> {
+    let mut shelf = MemoryShelf::new(rt.alloc(), limits())?;
+    let begun = Instant::now(rt)?;
+    let stored = fill(rt.alloc(), &mut shelf, count)?;
+    let nanos = begun.elapsed(rt)?.as_nanos();
+    println!(rt; "stored {stored} fill_ns {nanos}")?;
+    tell_hits(rt, shelf, count, hits)
+}
+
+fn main(rt: HostRuntime) -> anyhow::Result<()> {
+    let mut words = env::args(&rt)?;
+    let _program = words.next();
+    let (Some(kind), Some(count), Some(hits)) = (words.next(), words.next(), words.next()) else {
+        return Ok(());
+    };
+    let (count, hits) = (
+        count.as_str().parse::<u64>()?,
+        hits.as_str().parse::<u64>()?,
+    );
+    match kind.as_str() {
+        "memory" => in_memory(&rt, count, hits),
+        _ => anyhow::bail!("bench_shelf: no such shelf"),
+    }
+}
