@@ -6,6 +6,7 @@ use Rattle.http.specs.declared.request.Request.{Request}
 use Rattle.http_cache_messages.specs.Complete.{is_complete}
 use Rattle.http_cache_semantics.specs.Conditions.{is_conditional}
 use Rattle.http_cache_semantics.specs.Headers.{headers_of}
+use Rattle.http_cache_shelf.specs.Target.{text_of}
 use Rattle.http_cache_plans.specs.declared.body.Body.{Body}
 use Rattle.http_cache_plans.specs.declared.body.Body.TheVariants.{Here, Elsewhere}
 use Rattle.http_cache_plans.specs.declared.plan.Arrived.{Arrived}
@@ -20,6 +21,14 @@ Stores (Put _ _ _ _) = ⊤
 Stores (Renew _ _ _ _) = ⊥
 Stores (Remove _ _) = ⊥
 Stores (RemoveTargets _) = ⊥
+
+-- the change is of the target of a text, or removes all that is stored for some targets
+abbrev pub IsChangeOf : List ℕ → Change → Type 0
+IsChangeOf own Nothing = ⊤
+IsChangeOf own (Put target _ _ _) = text_of target ≡ own
+IsChangeOf own (Renew target _ _ _) = text_of target ≡ own
+IsChangeOf own (Remove target _) = text_of target ≡ own
+IsChangeOf own (RemoveTargets _) = ⊤
 
 -- the caller keeps the body
 abbrev pub IsElsewhere : Body → Type 0

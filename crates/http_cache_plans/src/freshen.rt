@@ -1,6 +1,7 @@
 //! Stored responses that a response confirms: a 304, or a response to HEAD.
 ghost use Rattle.std.specs.Prelude.{IfOk, IfSome};
-ghost use Rattle.http_cache_plans.specs.Plan.{Stores};
+ghost use Rattle.http_cache_plans.specs.Plan.{Stores, IsChangeOf};
+ghost use Rattle.http_cache_shelf.specs.Target.{text_of};
 
 use crate::plan::{Arrived, Change};
 use crate::renewal::{of_id, renewed};
@@ -86,7 +87,8 @@ fn renewal(
     arrived: &Arrived<'_>,
     options: &CacheOptions,
 ) -> Result<Change, AllocError>
-    ensures { IfOk result (λ change. ¬ (Stores change)) }
+    ensures stored { IfOk result (λ change. ¬ (Stores change)) }
+    ensures target { IfOk result (IsChangeOf (text_of target)) }
 {
     match renewed(alloc, &stored.policy, arrived, options) {
         Ok(policy) => Ok(Change::Renew {
@@ -109,7 +111,8 @@ pub fn freshened(
     arrived: &Arrived<'_>,
     options: &CacheOptions,
 ) -> Result<Option<Change>, AllocError>
-    ensures { IfOk result (λ change. IfSome change (λ c. ¬ (Stores c))) }
+    ensures stored { IfOk result (λ change. IfSome change (λ c. ¬ (Stores c))) }
+    ensures target { IfOk result (λ change. IfSome change (IsChangeOf (text_of target.now))) }
 {
     if !arrived.incoming.is_head() || arrived.head.status != StatusCode::OK {
         return Ok(None);

@@ -1,6 +1,6 @@
 //! What the response to an unsafe request removes.
-ghost use Rattle.std.specs.Prelude.{◌≡◌, true, false, IfOk};
-ghost use Rattle.http_cache_plans.specs.Plan.{Stores, is_failure};
+ghost use Rattle.std.specs.Prelude.{◌≡◌, true, false, ℕ, List, IfOk};
+ghost use Rattle.http_cache_plans.specs.Plan.{Stores, IsChangeOf, is_failure};
 
 use crate::plan::Change;
 use bytes::Bytes;
@@ -42,6 +42,7 @@ pub fn invalidated(
     head: &response::Parts,
 ) -> Result<Change, AllocError>
     ensures stored { IfOk result (λ change. ¬ (Stores change)) }
+    ensures target { (own : List ℕ) → IfOk result (IsChangeOf own) }
     ensures failure { is_failure head.now.status ≡ true
         → IfOk result (λ change. change ≡ Change.Nothing) }
 {

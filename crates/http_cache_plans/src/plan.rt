@@ -3,7 +3,8 @@
 //! All here is decided over what was read of the shelf, and the shelf is changed by one step at the
 //! end. After a policy is made nothing here can fail, so that a policy is dropped at few places.
 ghost use Rattle.std.specs.Prelude.{◌≡◌, true, false, IsSome, IfOk};
-ghost use Rattle.http_cache_plans.specs.Plan.{Stores, IsElsewhere, IsWhole, IsKnownPlan};
+ghost use Rattle.http_cache_plans.specs.Plan.{Stores, IsChangeOf, IsElsewhere, IsWhole, IsKnownPlan};
+ghost use Rattle.http_cache_shelf.specs.Target.{text_of};
 
 use crate::body::Body;
 use crate::reply::left_of;
@@ -191,6 +192,7 @@ fn plan_for(
     requires { IsSome body → IsWhole arrived.now }
     ensures whole { Stores result.change → IsWhole arrived.now }
     ensures known { IsKnownPlan arrived.now result }
+    ensures target { IsChangeOf (text_of target) result.change }
 {
     let now = arrived.times.received;
     let is_known = policy.is_not_modified_for(arrived.incoming.request());
@@ -275,6 +277,7 @@ pub fn plan_of(
 ) -> Result<Plan, AllocError>
     ensures whole { IfOk result (λ plan. Stores plan.change → IsWhole arrived.now) }
     ensures known { IfOk result (IsKnownPlan arrived.now) }
+    ensures target { IfOk result (λ plan. IsChangeOf (text_of target) plan.change) }
 {
     let status = arrived.head.status;
     if status == StatusCode::NOT_MODIFIED || status == StatusCode::PARTIAL_CONTENT {

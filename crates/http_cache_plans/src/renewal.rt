@@ -1,6 +1,7 @@
 //! Stored responses that a 304 confirms.
-ghost use Rattle.std.specs.Prelude.{◌≡◌, false, IfOk};
-ghost use Rattle.http_cache_plans.specs.Plan.{Stores};
+ghost use Rattle.std.specs.Prelude.{◌≡◌, false, IfOk, IfSome};
+ghost use Rattle.http_cache_plans.specs.Plan.{Stores, IsChangeOf};
+ghost use Rattle.http_cache_shelf.specs.Target.{text_of};
 ghost use Rattle.http_cache_plans.specs.Renewal.{IsRenewalFor};
 
 use crate::plan::{Arrived, Change, Plan};
@@ -59,6 +60,7 @@ fn renewal_plan(
 ) -> Plan
     ensures stored { ¬ (Stores result.change) }
     ensures known { result.is_known ≡ false }
+    ensures target { IsChangeOf (text_of target) result.change }
 {
     if is_worth_storing(&policy, now) {
         let superseded = Vec::new(alloc);
@@ -86,7 +88,9 @@ fn renewal_by(
     policy: CachePolicy,
     arrived: &Arrived<'_>,
 ) -> Result<Option<Renewal>, AllocError>
-    ensures { IfOk result (IsRenewalFor arrived.now.incoming.now.request.now) }
+    ensures renewal { IfOk result (IsRenewalFor arrived.now.incoming.now.request.now) }
+    ensures target { IfOk result (λ renewal. IfSome renewal
+        (λ r. IsChangeOf (text_of target) r.plan.change)) }
 {
     let now = arrived.times.received;
     match Reply::of_policy(alloc, id, &policy, None, arrived.incoming, now) {
@@ -115,7 +119,9 @@ pub fn renewal_of(
     arrived: &Arrived<'_>,
     options: &CacheOptions,
 ) -> Result<Option<Renewal>, AllocError>
-    ensures { IfOk result (IsRenewalFor arrived.now.incoming.now.request.now) }
+    ensures renewal { IfOk result (IsRenewalFor arrived.now.incoming.now.request.now) }
+    ensures target { IfOk result (λ renewal. IfSome renewal
+        (λ r. IsChangeOf (text_of target.now) r.plan.change)) }
 {
     let Some(one) = of_id(stored, id) else {
         return Ok(None);
