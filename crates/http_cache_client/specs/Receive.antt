@@ -1,9 +1,12 @@
 -- What a client does with the outcome of a request that was sent.
 use Rattle.std.specs.Prelude.{◌≡◌, true, ⊤, ℕ, List}
+use Rattle.http.specs.Request.{head_of as head_of_request}
 use Rattle.http.specs.Response.{head_of, body_of}
 use Rattle.http.specs.declared.request.Request.{Request}
 use Rattle.http.specs.declared.response.Response.{Response}
 use Rattle.http_cache_messages.specs.Asking.{is_looked_up}
+use Rattle.http_cache_semantics.specs.Headers.{headers_of}
+use Rattle.http_cache_shelf.specs.Target.{target_text}
 use Rattle.http_cache_plans.specs.Plan.{IsElsewhere, IsWholeBody, HasCondition}
 use Rattle.http_cache_plans.specs.declared.body.Body.{Body}
 use Rattle.http_cache_client.specs.declared.tokens.Received.{Received}
@@ -17,6 +20,10 @@ IsWholeResponse request response = IsWholeBody request (head_of response) (body_
 abbrev pub MayBeStored : Request (List ℕ) → Response Body → Type 0
 MayBeStored request response =
     (is_looked_up request ≡ true) × IsWholeResponse request response
+
+-- the text of the target of a request
+abbrev pub own_text : Request (List ℕ) → List ℕ
+own_text request = target_text (head_of_request request).uri (headers_of (head_of_request request).headers)
 
 -- the answer after a validation is a 304 only to a request with a condition
 abbrev pub IsConditionalReceipt : Request (List ℕ) → Received → Type 0

@@ -1,8 +1,8 @@
 //! A caching client: its shelf, its name and its options.
-ghost use Rattle.std.specs.Prelude.{◌≡◌, ◌⊎◌, true, IfOk, OnErr};
-ghost use Rattle.http_cache_shelf.specs.Shelf.{KeepsAll};
+ghost use Rattle.std.specs.Prelude.{◌≡◌, ◌⊎◌, ℕ, List, true, IfOk, OnErr};
+ghost use Rattle.http_cache_shelf.specs.Shelf.{KeepsAll, KeepsOthers};
 ghost use Rattle.http_cache_shelf.specs.Target.{text_of};
-ghost use Rattle.http_cache_plans.specs.Plan.{Stores};
+ghost use Rattle.http_cache_plans.specs.Plan.{Stores, IsChangeOf};
 
 use bytes::Bytes;
 use http_cache_plans::plan::{Change, Settled};
@@ -110,6 +110,8 @@ impl<S: Shelf + Drop> Client<S> {
         ensures kept { OnErr result (KeepsAll (S.stored self.old.shelf) (S.next_id self.old.shelf)
             (S.stored self.new.shelf) (S.next_id self.new.shelf)) }
         ensures stored { Stores change ⊎ (S.next_id self.new.shelf ≡ S.next_id self.old.shelf) }
+        ensures others { (own : List ℕ) → IsChangeOf own change
+            → KeepsOthers (S.stored self.old.shelf) (S.stored self.new.shelf) own }
         ensures unchanged { change ≡ Change.Nothing
             → KeepsAll (S.stored self.old.shelf) (S.next_id self.old.shelf)
             (S.stored self.new.shelf) (S.next_id self.new.shelf) }
@@ -162,6 +164,8 @@ impl<S: Shelf + Drop> Client<S> {
         ensures kept { OnErr result (KeepsAll (S.stored self.old.shelf) (S.next_id self.old.shelf)
             (S.stored self.new.shelf) (S.next_id self.new.shelf)) }
         ensures stored { Stores change ⊎ (S.next_id self.new.shelf ≡ S.next_id self.old.shelf) }
+        ensures others { (own : List ℕ) → IsChangeOf own change
+            → KeepsOthers (S.stored self.old.shelf) (S.stored self.new.shelf) own }
         ensures unchanged { change ≡ Change.Nothing
             → KeepsAll (S.stored self.old.shelf) (S.next_id self.old.shelf)
             (S.stored self.new.shelf) (S.next_id self.new.shelf) }

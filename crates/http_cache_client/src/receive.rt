@@ -1,11 +1,12 @@
 //! What is done with the outcome of a request that was sent.
-ghost use Rattle.std.specs.Prelude.{◌≡◌, ◌≢◌, ◌⊎◌, true, false, None, IfOk, IfSome, OnErr};
+ghost use Rattle.std.specs.Prelude.{◌≡◌, ◌≢◌, ◌⊎◌, ℕ, List, true, false, None, IfOk, IfSome, OnErr};
 ghost use Rattle.http.specs.Response.{head_of, body_of};
-ghost use Rattle.http_cache_shelf.specs.Shelf.{KeepsAll};
-ghost use Rattle.http_cache_plans.specs.Plan.{Stores, IsElsewhere, IsWhole, IsKnownPlan};
+ghost use Rattle.http_cache_shelf.specs.Shelf.{KeepsAll, KeepsOthers};
+ghost use Rattle.http_cache_shelf.specs.Target.{text_of};
+ghost use Rattle.http_cache_plans.specs.Plan.{Stores, IsChangeOf, IsElsewhere, IsWhole, IsKnownPlan};
 ghost use Rattle.http_cache_plans.specs.Plan.{HasCondition, is_failure};
 ghost use Rattle.http_cache_client.specs.Receive.{IsWholeResponse, MayBeStored, IsConditionalReceipt};
-ghost use Rattle.http_cache_client.specs.Receive.{KeepsBodyPlace, HasBodyHere, IsAfterA304};
+ghost use Rattle.http_cache_client.specs.Receive.{own_text, KeepsBodyPlace, HasBodyHere, IsAfterA304};
 
 use crate::client::Client;
 use crate::tokens::{Forwarded, Received, Validation};
@@ -54,6 +55,8 @@ impl<S: Shelf + Drop> Client<S> {
         ensures kept { OnErr result (KeepsAll (S.stored self.old.shelf) (S.next_id self.old.shelf)
             (S.stored self.new.shelf) (S.next_id self.new.shelf)) }
         ensures stored { Stores plan.change ⊎ (S.next_id self.new.shelf ≡ S.next_id self.old.shelf) }
+        ensures others { (own : List ℕ) → IsChangeOf own plan.change
+            → KeepsOthers (S.stored self.old.shelf) (S.stored self.new.shelf) own }
         ensures unchanged { plan.change ≡ Change.Nothing
             → KeepsAll (S.stored self.old.shelf) (S.next_id self.old.shelf)
             (S.stored self.new.shelf) (S.next_id self.new.shelf) }
@@ -84,6 +87,8 @@ impl<S: Shelf + Drop> Client<S> {
         ensures kept { OnErr result (KeepsAll (S.stored self.old.shelf) (S.next_id self.old.shelf)
             (S.stored self.new.shelf) (S.next_id self.new.shelf)) }
         ensures stored { Stores plan.change ⊎ (S.next_id self.new.shelf ≡ S.next_id self.old.shelf) }
+        ensures others { (own : List ℕ) → IsChangeOf own plan.change
+            → KeepsOthers (S.stored self.old.shelf) (S.stored self.new.shelf) own }
         ensures unchanged { plan.change ≡ Change.Nothing
             → KeepsAll (S.stored self.old.shelf) (S.next_id self.old.shelf)
             (S.stored self.new.shelf) (S.next_id self.new.shelf) }
@@ -153,6 +158,7 @@ impl<S: Shelf + Drop> Client<S> {
             (S.stored self.new.shelf) (S.next_id self.new.shelf) }
         ensures whole { IfOk result (λ plan. Stores plan.change → IsWhole arrived.now) }
         ensures known { IfOk result (IsKnownPlan arrived.now) }
+        ensures target { IfOk result (λ plan. IsChangeOf (text_of target) plan.change) }
     {
         if !self.read(alloc, &target)? {
             return Ok(Plan::nothing(Some("shelf failed")));
@@ -176,6 +182,8 @@ impl<S: Shelf + Drop> Client<S> {
     ) -> Result<Response<Body>, AllocError>
         ensures kept { OnErr result (KeepsAll (S.stored self.old.shelf) (S.next_id self.old.shelf)
             (S.stored self.new.shelf) (S.next_id self.new.shelf)) }
+        ensures others { KeepsOthers (S.stored self.old.shelf) (S.stored self.new.shelf)
+            (text_of target) }
         ensures complete { IsWholeResponse incoming.now.request.now response
             ⊎ (S.next_id self.new.shelf ≡ S.next_id self.old.shelf) }
         ensures status { IfOk result (λ sent. (head_of sent).status ≡ 304
@@ -191,10 +199,11 @@ impl<S: Shelf + Drop> Client<S> {
             id: pending.id,
             times,
         };
-        let mut plan = self.planned(alloc, target, &arrived)?;
-        if pending.is_own {
-            plan.is_known = false;
-        }
+        let plan = self.planned(alloc, target, &arrived)?;
+        let plan = Plan {
+            is_known: plan.is_known && !pending.is_own,
+            ..plan
+        };
         let receipt = Receipt {
             why: pending.why,
             status: head.status,
@@ -215,6 +224,8 @@ impl<S: Shelf + Drop> Client<S> {
     ) -> Result<Response<Body>, AllocError>
         ensures kept { OnErr result (KeepsAll (S.stored self.old.shelf) (S.next_id self.old.shelf)
             (S.stored self.new.shelf) (S.next_id self.new.shelf)) }
+        ensures others { KeepsOthers (S.stored self.old.shelf) (S.stored self.new.shelf)
+            (own_text incoming.now.request.now) }
         ensures complete { IsWholeResponse incoming.now.request.now response
             ⊎ (S.next_id self.new.shelf ≡ S.next_id self.old.shelf) }
         ensures failure { is_failure (head_of response).status ≡ true → pending.now.id ≢ None
@@ -262,6 +273,8 @@ impl<S: Shelf + Drop> Client<S> {
     ) -> Result<Forwarded, AllocError>
         ensures kept { OnErr result (KeepsAll (S.stored self.old.shelf) (S.next_id self.old.shelf)
             (S.stored self.new.shelf) (S.next_id self.new.shelf)) }
+        ensures others { KeepsOthers (S.stored self.old.shelf) (S.stored self.new.shelf)
+            (text_of target) }
         ensures stored { S.next_id self.new.shelf ≡ S.next_id self.old.shelf }
         ensures unspent { OnErr result (validation.new.id ≡ validation.old.id) }
     {
@@ -284,11 +297,14 @@ impl<S: Shelf + Drop> Client<S> {
     ) -> Result<Option<Response<Body>>, AllocError>
         requires stored { ¬ (Stores renewal.plan.change) }
         requires known { renewal.plan.is_known ≡ false }
+        requires target { IsChangeOf (text_of target.now) renewal.plan.change }
         ensures kept { OnErr result (KeepsAll (S.stored self.old.shelf) (S.next_id self.old.shelf)
             (S.stored self.new.shelf) (S.next_id self.new.shelf)) }
         ensures lost { IfOk result (λ answer. answer ≡ None
             → KeepsAll (S.stored self.old.shelf) (S.next_id self.old.shelf)
             (S.stored self.new.shelf) (S.next_id self.new.shelf)) }
+        ensures others { KeepsOthers (S.stored self.old.shelf) (S.stored self.new.shelf)
+            (text_of target.now) }
         ensures stored { S.next_id self.new.shelf ≡ S.next_id self.old.shelf }
         ensures status { IfOk result (λ answer. IfSome answer (λ sent. (head_of sent).status ≡ 304
             → renewal.reply.head.status ≡ 304)) }
@@ -329,6 +345,8 @@ impl<S: Shelf + Drop> Client<S> {
     ) -> Result<Received, AllocError>
         ensures kept { OnErr result (KeepsAll (S.stored self.old.shelf) (S.next_id self.old.shelf)
             (S.stored self.new.shelf) (S.next_id self.new.shelf)) }
+        ensures others { KeepsOthers (S.stored self.old.shelf) (S.stored self.new.shelf)
+            (own_text incoming.now.request.now) }
         ensures stored { S.next_id self.new.shelf ≡ S.next_id self.old.shelf }
         ensures conditional { IfOk result (IsConditionalReceipt incoming.now.request.now) }
         ensures here { IfOk result HasBodyHere }
@@ -392,6 +410,8 @@ impl<S: Shelf + Drop> Client<S> {
     ) -> Result<Received, AllocError>
         ensures kept { OnErr result (KeepsAll (S.stored self.old.shelf) (S.next_id self.old.shelf)
             (S.stored self.new.shelf) (S.next_id self.new.shelf)) }
+        ensures others { KeepsOthers (S.stored self.old.shelf) (S.stored self.new.shelf)
+            (own_text request.now) }
         ensures complete { IsWholeResponse request.now response
             ⊎ (S.next_id self.new.shelf ≡ S.next_id self.old.shelf) }
         ensures failure { is_failure (head_of response).status ≡ true → validation.old.id ≢ None
@@ -439,6 +459,8 @@ impl<S: Shelf + Drop> Client<S> {
     ) -> Result<Response<Body>, AllocError>
         ensures kept { OnErr result (KeepsAll (S.stored self.old.shelf) (S.next_id self.old.shelf)
             (S.stored self.new.shelf) (S.next_id self.new.shelf)) }
+        ensures others { KeepsOthers (S.stored self.old.shelf) (S.stored self.new.shelf)
+            (own_text request.now) }
         ensures complete { MayBeStored request.now response
             ⊎ (S.next_id self.new.shelf ≡ S.next_id self.old.shelf) }
         ensures failure { is_failure (head_of response).status ≡ true → token.old.id ≢ None
@@ -476,6 +498,8 @@ impl<S: Shelf + Drop> Client<S> {
     ) -> Result<Response<Body>, AllocError>
         ensures kept { OnErr result (KeepsAll (S.stored self.old.shelf) (S.next_id self.old.shelf)
             (S.stored self.new.shelf) (S.next_id self.new.shelf)) }
+        ensures others { KeepsOthers (S.stored self.old.shelf) (S.stored self.new.shelf)
+            (own_text request.now) }
         ensures stored { S.next_id self.new.shelf ≡ S.next_id self.old.shelf }
         ensures failure { is_failure (head_of response).status ≡ true
             → KeepsAll (S.stored self.old.shelf) (S.next_id self.old.shelf)

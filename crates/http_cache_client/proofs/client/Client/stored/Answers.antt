@@ -1,0 +1,11 @@
+-- Nothing has changed before the change that is made.
+use Rattle.std.proofs.Common.{subst}
+use Rattle.http_cache_shelf.specs.Shelf.{StoredByTarget, KeepsOthers}
+use Rattle.http_cache_shelf.specs.Target.{text_of}
+use Rattle.http_cache_client.proofs.client.Client.stored.Goals as goal
+
+pub returns-clause-others : goal.returns-clause-others
+returns-clause-others g c =
+    let own = text_of c.args.target in
+    let Keeps : StoredByTarget → Type 0 = λ old. KeepsOthers old (g.S.Shelf.stored c.finish.new.self.shelf) own in
+    subst Keeps c.in_ok-plan.ensures.kept.stored (c.finish.ensures.others own c.in_ok-plan.ensures.target)
