@@ -2,7 +2,8 @@
 ghost use Rattle.std.specs.Prelude.{◌≡◌, ◌⊎◌, true, false, Some, None, IfOk, IfErr, OnOk, OnErr};
 ghost use Rattle.http.specs.Response.{head_of, body_of};
 ghost use Rattle.http_cache_messages.specs.Asking.{is_looked_up};
-ghost use Rattle.http_cache_shelf.specs.Shelf.{KeepsAll};
+ghost use Rattle.http_cache_shelf.specs.Shelf.{KeepsAll, KeepsOthers};
+ghost use Rattle.http_cache_client.specs.Receive.{own_text};
 ghost use Rattle.http_cache_client.specs.Ask.{fields_of, IsOfStore, IsCleanValidation, IsCleanDecision};
 ghost use Rattle.http_cache_client.specs.Ask.{IsConditionalDecision};
 ghost use Rattle.http_cache_plans.specs.Plan.{IsElsewhere, HasCondition};
@@ -95,6 +96,8 @@ impl<S: Shelf + Drop> Client<S> {
             (HasNoResponse (HasSentOwn O.sent origin.old origin.new request.now None)) }
         ensures conditional { IfOk result (λ answer. (head_of answer).status ≡ 304
             → HasCondition request.now ⊎ HasSentFor304 O.sent origin.old origin.new request.now) }
+        ensures others { KeepsOthers (S.stored self.old.shelf) (S.stored self.new.shelf)
+            (own_text request.now) }
         ensures kept { OnErr result (KeepsAll (S.stored self.old.shelf) (S.next_id self.old.shelf)
             (S.stored self.new.shelf) (S.next_id self.new.shelf)) }
     {
@@ -129,6 +132,8 @@ impl<S: Shelf + Drop> Client<S> {
             (HasNoResponse (HasSent O.sent origin.old origin.new request.now None)) }
         ensures conditional { IfOk result (λ answer. (head_of answer).status ≡ 304
             → HasCondition request.now ⊎ HasSentFor304 O.sent origin.old origin.new request.now) }
+        ensures others { KeepsOthers (S.stored self.old.shelf) (S.stored self.new.shelf)
+            (own_text request.now) }
         ensures kept { OnErr result (KeepsAll (S.stored self.old.shelf) (S.next_id self.old.shelf)
             (S.stored self.new.shelf) (S.next_id self.new.shelf)
             ⊎ ((outcome : Outcome)
@@ -169,6 +174,8 @@ impl<S: Shelf + Drop> Client<S> {
         ensures conditional { IsConditionalDecision (fields_of request.now) decision
             → IfOk result (λ answer. (head_of answer).status ≡ 304
             → HasCondition request.now ⊎ HasSentFor304 O.sent origin.old origin.new request.now) }
+        ensures others { KeepsOthers (S.stored self.old.shelf) (S.stored self.new.shelf)
+            (own_text request.now) }
         ensures kept { OnErr result (KeepsAll (S.stored self.old.shelf) (S.next_id self.old.shelf)
             (S.stored self.new.shelf) (S.next_id self.new.shelf)
             ⊎ ((outcome : Outcome)
@@ -210,6 +217,8 @@ impl<S: Shelf + Drop> Client<S> {
             (HasNoResponse (HasSent O.sent origin.old origin.new request.now None)) }
         ensures conditional { IfOk result (λ answer. (head_of answer).status ≡ 304
             → HasCondition request.now ⊎ HasSentFor304 O.sent origin.old origin.new request.now) }
+        ensures others { KeepsOthers (S.stored self.old.shelf) (S.stored self.new.shelf)
+            (own_text request.now) }
         ensures kept { OnErr result (KeepsAll (S.stored self.old.shelf) (S.next_id self.old.shelf)
             (S.stored self.new.shelf) (S.next_id self.new.shelf)
             ⊎ ((outcome : Outcome)
