@@ -1,9 +1,14 @@
 -- Lemmas on what is stored.
 mod BoundsLemmas
+mod FitLemmas
+mod HeldLemmas
 mod IdLemmas
 mod ListLemmas
 mod Lookups
 mod MapLemmas
 mod Outcomes
+mod SizeLemmas
+mod Sums
 mod SweepLemmas
 mod TextLemmas
+mod Totals
