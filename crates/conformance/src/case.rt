@@ -11,18 +11,23 @@ use http_cache_shelf::{Limits, MemoryShelf};
 use jiff::Timestamp;
 use serde_json::{Value, json};
 use std::alloc::{AllocError, Global};
+use std::hash::RandomState;
 
 // The client's name in Cache-Status.
 const NAME: &str = "ours";
 
 // A client with nothing stored, of the kind of cache that the case names.
-fn client_for(alloc: Global, case: &Value) -> Result<Client<MemoryShelf>, AllocError> {
+fn client_for(
+    alloc: Global,
+    hasher: RandomState,
+    case: &Value,
+) -> Result<Client<MemoryShelf>, AllocError> {
     let options = CacheOptions {
         shared: case.get("shared").and_then(Value::as_bool).unwrap_or(true),
         ..CacheOptions::default()
     };
     let name = String::from_str(alloc, NAME)?;
-    let shelf = MemoryShelf::new(alloc, Limits::default())?;
+    let shelf = MemoryShelf::new(alloc, hasher, Limits::default())?;
     Ok(Client::new(shelf, options, name))
 }
 
@@ -96,12 +101,12 @@ fn line_of(
 }
 
 /// Returns the lines of a case, one for each of its steps.
-pub fn lines_of(alloc: Global, case: &Value) -> Result<String, AllocError> {
+pub fn lines_of(alloc: Global, hasher: RandomState, case: &Value) -> Result<String, AllocError> {
     let mut lines = String::new(alloc);
     let Some(steps) = case.get("steps").and_then(Value::as_array) else {
         return Ok(lines);
     };
-    let mut client = client_for(alloc, case)?;
+    let mut client = client_for(alloc, hasher, case)?;
     let id = text_under(case, "id");
     let mut number: u64 = 0;
     for step in steps {

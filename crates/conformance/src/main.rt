@@ -9,6 +9,7 @@ mod text;
 
 use case::lines_of;
 use serde_json::Value;
+use std::hash::RandomState;
 use std::io::Read;
 
 fn main(rt: HostRuntime) -> anyhow::Result<()> {
@@ -19,8 +20,9 @@ fn main(rt: HostRuntime) -> anyhow::Result<()> {
     let Some(cases) = input.get("cases").and_then(Value::as_array) else {
         anyhow::bail!("conformance: no list of cases");
     };
+    let hasher = RandomState::new(&rt)?;
     for case in cases {
-        let lines = lines_of(alloc, case)?;
+        let lines = lines_of(alloc, hasher, case)?;
         print!(rt; "{lines}")?;
     }
     Ok(())

@@ -8,6 +8,7 @@ use http_cache_semantics::CacheOptions;
 use http_cache_shelf::{Limits, MemoryShelf};
 use jiff::Timestamp;
 use std::alloc::Global;
+use std::hash::RandomState;
 
 // In the place of the network: a page that is fresh for ten seconds, and the time of its response.
 #[derive(Drop)]
@@ -36,7 +37,7 @@ impl Origin for Site {
 fn main(rt: HostRuntime) -> anyhow::Result<()> {
     let alloc = rt.alloc();
     let name = String::from_str(alloc, "first_answer")?;
-    let shelf = MemoryShelf::new(alloc, Limits::default())?;
+    let shelf = MemoryShelf::new(alloc, RandomState::new(&rt)?, Limits::default())?;
     let mut client = Client::new(shelf, CacheOptions::default(), name);
     let mut site = Site {
         alloc,

@@ -18,7 +18,7 @@ fn main(rt: HostRuntime) -> io::Result<()> {
     let alloc = rt.alloc();
     let clock = StepClock::new();
     let name = String::from_str(alloc, "first_proxy")?;
-    let shelf = MemoryShelf::new(alloc, Limits::default())?;
+    let shelf = MemoryShelf::new(alloc, RandomState::new(&rt)?, Limits::default())?;
     let mut proxy = Proxy {
         alloc,
         client: Client::new(shelf, CacheOptions::default(), name),

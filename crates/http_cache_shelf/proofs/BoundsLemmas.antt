@@ -1,18 +1,24 @@
 -- What the limits leave.
-use Rattle.std.proofs.Common.{◌≤◌, ◌<◌, ◌≡◌, arith, ℕ, ◌-◌, Bool, true, false, List, [], ◌∷◌, ◌++◌, length, take, drop, cond, bytes_eq, Option, Some, refl, sym, ap, subst, ◌∙◌, inl, inr, ◌⊎◌, append-nil, append_assoc}
+use Rattle.std.proofs.Common.{◌≤◌, ◌<◌, ◌+◌, ◌≡◌, arith, ℕ, ◌-◌, Bool, true, false, List, [], ◌∷◌, ◌++◌, length, take, drop, cond, bytes_eq, Option, Some, refl, sym, ap, subst, ◌∙◌, inl, inr, ◌⊎◌, append-nil, append_assoc}
 use Rattle.std.specs.Option.{option_map_or}
 use Rattle.std.specs.declared.string.String.{String}
-use Rattle.std.specs.Map.{lookup, set_value}
+use Rattle.std.specs.Map.{lookup, lookup_entry, remove_entry, set_value}
+use Rattle.std.specs.List.{sum_by}
 use Rattle.std.proofs.lemmas.List.{length-take-le}
 use Rattle.std.proofs.lemmas.Slice.Eq.{bytes_eq-Decides}
-use Rattle.lru.specs.LruCache.{promoted}
+use Rattle.lru.specs.LruCache.{LruCache, promoted}
 use Rattle.http_cache_shelf.specs.declared.memory.list.StoredList.{StoredList}
 use Rattle.http_cache_shelf.specs.declared.shelf.ResponseId.{ResponseId}
-use Rattle.http_cache_shelf.specs.Shelf.{StoredSeen, StoredByTarget, without, AreNewestOf, KeepsOthers}
-use Rattle.http_cache_shelf.specs.Memory.{all_seen, is_text, stored_under, is_last_used, IsOnTop, IsFront, AreLeft, AreFewer, IsShortened, IsBounded, KeepsBounds}
+use Rattle.http_cache_shelf.specs.declared.memory.limit.Limits.{Limits}
+use Rattle.http_cache_shelf.specs.declared.memory.size.Amount.{Amount}
+use Rattle.http_cache_shelf.specs.Shelf.{StoredSeen, StoredByTarget, without, AreNewestOf, KeepsOthers, KeepsAllOthers}
+use Rattle.http_cache_shelf.specs.Size.{one, size_of, IsAllowed, FitTogether, FitsAlone}
+use Rattle.http_cache_shelf.specs.Memory.{all_seen, is_text, stored_under, is_last_used, IsOnTop, IsFront, AreLeft, AreFewer, IsBounded, IsFirstText, IsFirstShortened, CanStay, IsHeld, all_stored}
 use Rattle.http_cache_shelf.proofs.Lookups.{lookup-front}
-use Rattle.http_cache_shelf.proofs.ListLemmas.{parts, left-all}
-use Rattle.http_cache_shelf.proofs.MapLemmas.{true≢false, stored-written}
+use Rattle.http_cache_shelf.proofs.ListLemmas.{parts}
+use Rattle.http_cache_shelf.proofs.MapLemmas.{true≢false, apart, written-on-top, stored-top}
+use Rattle.std.proofs.lemmas.List.Sums.{sum_by-cons}
+use Rattle.http_cache_shelf.proofs.Sums.{ones}
 
 module _ {Y : Type 0} where
   pub front-all : (es : List (String Y × StoredList)) → IsFront es es
@@ -28,22 +34,10 @@ module _ {Y : Type 0} where
         omega arith;
   }
 
-module _ {Y : Type 0} where
-  pub shortened : (text : List ℕ) (stay : ℕ) (es : List (String Y × StoredList)) (v w : StoredList)
-      → lookup (is_text text) es ≡ Some v → AreLeft stay (all_seen v) (all_seen w)
-      → IsShortened text stay es (set_value (is_text text) (promoted (is_text text) es) w)
-  shortened text stay es v w found left =
-      let written = stored-written text es v w found in
-      let new = stored_under (set_value (is_text text) (promoted (is_text text) es) w) in
-      let was : all_seen v ≡ stored_under es text = sym (ap (λ (o : Option StoredList). option_map_or all_seen o []) found) in
-      record {
-        left = subst (λ (l : List StoredSeen). AreLeft stay (stored_under es text) l) (sym written.own_stored)
-            (subst (λ (l : List StoredSeen). AreLeft stay l (all_seen w)) was left);
-        others = written.others;
-      }
-
-  pub unshortened : (text : List ℕ) (stay : ℕ) (es : List (String Y × StoredList)) → IsShortened text stay es es
-  unshortened text stay es = record { left = left-all stay (stored_under es text); others = λ other differ. refl }
+single : {X : Type 0} (xs back : List X) (x : X) (rest : List X) → xs ++ back ≡ x ∷ rest → 0 < length xs → length xs ≤ 1 → xs ≡ x ∷ []
+single [] back x rest h some few = absurd (let no : ⊥ = omega arith in no)
+single (y ∷ []) back x rest h some few = let same : y ≡ x = cc in ap (λ z. z ∷ []) same
+single (y ∷ z ∷ zs) back x rest h some few = absurd (let no : ⊥ = omega arith in no)
 
 module _ {Y : Type 0} where
   front-under : (text : List ℕ) (es front back : List (String Y × StoredList)) → es ≡ front ++ back
@@ -72,18 +66,76 @@ module _ {Y : Type 0} where
         ]
       ]
 
-  -- what the limits leave of the text that was used last
-  pub bounded : (own : List ℕ) (stay : ℕ) (es front short tidied : List (String Y × StoredList))
-      → IsFront es front → IsShortened own stay front short → stored_under tidied ≡ stored_under short
-      → is_last_used es own → IsBounded own stay es tidied
-  bounded own stay es front short tidied first left tidy used = record {
-    left = subst (λ (l : List StoredSeen). AreLeft stay l (stored_under tidied own)) (first-own own es front first.evicted first.is first.some used)
-        (subst (λ (l : List StoredSeen). AreLeft stay (stored_under front own) l) (sym (ap (λ (f : StoredByTarget). f own) tidy)) left.left);
-    others = λ other differ. elim (front-under other es front first.evicted first.is) [
-      | inl same ↦ inl (ap (λ (f : StoredByTarget). f other) tidy ∙ left.others other differ ∙ same)
-      | inr none ↦ inr (ap (λ (f : StoredByTarget). f other) tidy ∙ left.others other differ ∙ none)
-    ];
+  -- the list of the first key, if it is the text, is what is stored under it
+  at-first : (own : List ℕ) (es : List (String Y × StoredList)) (key : String Y) (kept : StoredList) (rest : List (String Y × StoredList))
+      → es ≡ (key, kept) ∷ rest → is_text own key ≡ true → stored_under es own ≡ all_seen kept
+  at-first own es key kept rest first is =
+      ap (λ (l : List (String Y × StoredList)). stored_under l own) first
+      ∙ ap (λ (b : Bool). option_map_or all_seen (cond b (Some kept) (lookup (is_text own) rest)) []) is
+
+  -- under other texts is what is stored in the rest
+  past-first : (own other : List ℕ) (es : List (String Y × StoredList)) (key : String Y) (kept : StoredList) (rest : List (String Y × StoredList))
+      → es ≡ (key, kept) ∷ rest → is_text own key ≡ true → (other ≡ own → ⊥) → stored_under es other ≡ stored_under rest other
+  past-first own other es key kept rest first is differ =
+      ap (λ (l : List (String Y × StoredList)). stored_under l other) first
+      ∙ ap (λ (b : Bool). option_map_or all_seen (cond b (Some kept) (lookup (is_text other) rest)) []) (apart own other differ key is)
+
+  -- under the text the newest are left, at least as many as are to stay
+  pub record IsShortened (own : List ℕ) (stay : ℕ) (old new : List (String Y × StoredList)) : Type 0 where
+    pub left : AreLeft stay (stored_under old own) (stored_under new own)
+    pub others : KeepsAllOthers (stored_under old) (stored_under new) own
+
+  pub shortened : (l : Limits) (own : List ℕ) (stay : ℕ) (es short : List (String Y × StoredList)) → IsFirstShortened l own stay es short
+      → IsShortened own stay es short
+  shortened l own stay es short s = record {
+    left = subst (λ (xs : List StoredSeen). AreLeft stay (stored_under es own) xs) (sym (at-first own short s.key s.now_kept s.rest s.new_first s.is))
+        (subst (λ (xs : List StoredSeen). AreLeft stay xs (all_seen s.now_kept)) (sym (at-first own es s.key s.was s.rest s.old_first s.is)) s.left);
+    others = λ other differ.
+        past-first own other short s.key s.now_kept s.rest s.new_first s.is differ
+        ∙ sym (past-first own other es s.key s.was s.rest s.old_first s.is differ);
   }
+
+  -- what is stored under the text when it was shortened, and others were evicted
+  pub own-left : (l : Limits) (own : List ℕ) (stay : ℕ) (es short front tidied : List (String Y × StoredList))
+      → (s : IsFirstShortened l own stay es short) → IsFront short front → stored_under tidied ≡ stored_under front
+      → stored_under tidied own ≡ all_seen s.now_kept
+  own-left l own stay es short front tidied s first tidy =
+      let used : is_last_used short own =
+      subst (λ (xs : List (String Y × StoredList)). is_last_used xs own) (sym s.new_first) (inl s.is) in
+      ap (λ (f : StoredByTarget). f own) tidy
+      ∙ first-own own short front first.evicted first.is first.some used
+      ∙ at-first own short s.key s.now_kept s.rest s.new_first s.is
+
+  -- what the limits leave of the text that was used last
+  pub bounded : (l : Limits) (own : List ℕ) (stay : ℕ) (es short front tidied : List (String Y × StoredList))
+      → IsFirstShortened l own stay es short → IsFront short front → stored_under tidied ≡ stored_under front
+      → IsBounded own stay es tidied
+  bounded l own stay es short front tidied s first tidy =
+      let left = shortened l own stay es short s in
+      record {
+        left = subst (λ (xs : List StoredSeen). AreLeft stay (stored_under es own) xs)
+            (at-first own short s.key s.now_kept s.rest s.new_first s.is ∙ sym (own-left l own stay es short front tidied s first tidy))
+            left.left;
+        others = λ other differ. elim (front-under other short front first.evicted first.is) [
+          | inl same ↦ inl (ap (λ (f : StoredByTarget). f other) tidy ∙ same ∙ left.others other differ)
+          | inr none ↦ inr (ap (λ (f : StoredByTarget). f other) tidy ∙ none)
+        ];
+      }
+
+  -- what is left alone of the first text is within the limits
+  pub alone-allowed : (l : Limits) (own : List ℕ) (stay : ℕ) (held : Amount) (es short : List (String Y × StoredList))
+      (front : LruCache (String Y) StoredList) → IsFirstShortened l own stay es short → IsFront short front.entries
+      → IsHeld held front → length front.entries ≤ 1 → IsAllowed l held
+  alone-allowed l own stay held es short front s first counted few =
+      let some : 0 < length short = subst (λ (xs : List (String Y × StoredList)). 0 < length xs) (sym s.new_first) (let h : 0 < length ((s.key, s.now_kept) ∷ s.rest) = omega arith in h) in
+      let entries : front.entries ≡ (s.key, s.now_kept) ∷ [] =
+      single front.entries first.evicted (s.key, s.now_kept) s.rest (sym first.is ∙ s.new_first) (first.some some) few in
+      let all : all_stored front.entries ≡ all_seen s.now_kept =
+      ap all_stored entries ∙ append-nil (all_seen s.now_kept) in
+      let responses : held.responses ≡ length (all_seen s.now_kept) =
+      counted.amount.responses ∙ ap (sum_by one) all ∙ ones (all_seen s.now_kept) in
+      let bytes : held.bytes ≡ sum_by size_of (all_seen s.now_kept) = counted.amount.bytes ∙ ap (sum_by size_of) all in
+      record { responses = omega (arith, s.fits.responses); bytes = omega (arith, s.fits.bytes) }
 
 cut : (seen : StoredSeen) (before new back : List StoredSeen) → seen ∷ before ≡ new ++ back → 1 ≤ length new
     → (left : List StoredSeen) × (new ≡ seen ∷ left) × AreNewestOf left before
@@ -95,15 +147,13 @@ module _ {Y : Type 0} where
   -- a response that was put first is followed by what the limits leave
   pub inserted : (own t1 t2 : List ℕ) → t1 ≡ own → t2 ≡ own → (seen : StoredSeen) (superseded : List ResponseId)
       (old es mid new : List (String Y × StoredList)) → mid ≡ es
-      → IsOnTop t1 (seen ∷ without superseded (stored_under old t1)) old es → KeepsBounds t2 1 mid new
+      → IsOnTop t1 (seen ∷ without superseded (stored_under old t1)) old es → IsBounded t2 1 mid new
       → (left : List StoredSeen) × (stored_under new own ≡ seen ∷ left) × AreNewestOf left (without superseded (stored_under old own))
   inserted own t1 t2 e1 e2 seen superseded old es mid new same put kept =
       let before = without superseded (stored_under old own) in
       let top : IsOnTop own (seen ∷ before) old es =
       subst (λ (t : List ℕ). IsOnTop t (seen ∷ without superseded (stored_under old t)) old es) e1 put in
-      let used : is_last_used mid own =
-      subst (λ (l : List (String Y × StoredList)). is_last_used l own) (sym (same ∙ top.first)) (inl top.is) in
-      let bounds : IsBounded own 1 mid new = subst (λ (t : List ℕ). KeepsBounds t 1 mid new) e2 kept used in
+      let bounds : IsBounded own 1 mid new = subst (λ (t : List ℕ). IsBounded t 1 mid new) e2 kept in
       let was : stored_under mid own ≡ seen ∷ before =
       ap (λ (l : List (String Y × StoredList)). stored_under l own) (same ∙ top.first)
       ∙ ap (λ (b : Bool). option_map_or all_seen (cond b (Some top.kept) (lookup (is_text own) top.rest)) []) top.is
@@ -111,6 +161,49 @@ module _ {Y : Type 0} where
       let one : 1 ≤ length (seen ∷ before) = omega arith in
       cut seen before (stored_under new own) bounds.left.evicted (sym was ∙ bounds.left.is)
       (bounds.left.stayed (subst (λ (l : List StoredSeen). 1 ≤ length l) (sym was) one))
+
+  -- the first text is found
+  pub first-found : (own : List ℕ) (es : List (String Y × StoredList)) → (first : IsFirstText own es) → lookup (is_text own) es ≡ Some first.kept
+  first-found own es first =
+      ap (lookup (is_text own)) first.first
+      ∙ ap (λ (b : Bool). cond b (Some first.kept) (lookup (is_text own) first.rest)) first.is
+
+  -- what is written through a look-up of the first text
+  pub first-shortened : (l : Limits) (own : List ℕ) (stay : ℕ) (es : List (String Y × StoredList)) (v w : StoredList) → IsFirstText own es
+      → lookup (is_text own) es ≡ Some v → AreLeft stay (all_seen v) (all_seen w)
+      → (FitTogether l (take stay (all_seen v)) → FitTogether l (all_seen w)) → CanStay l stay own es
+      → IsFirstShortened l own stay es (set_value (is_text own) (promoted (is_text own) es) w)
+  first-shortened l own stay es v w first found left fits can =
+      let same : first.kept ≡ v = let h : Some first.kept ≡ Some v = sym (first-found own es first) ∙ found in cc in
+      let e : String Y × StoredList = (first.key, first.kept) in
+      let under : stored_under es own ≡ all_seen v = ap (λ (o : Option StoredList). option_map_or all_seen o []) found in
+      let moved : promoted (is_text own) es ≡ e ∷ first.rest =
+      ap (promoted (is_text own)) first.first
+      ∙ ap (λ (b : Bool). option_map_or (λ g. g ∷ cond b first.rest (e ∷ remove_entry (is_text own) first.rest))
+      (cond b (Some e) (lookup_entry (is_text own) first.rest)) (e ∷ first.rest)) first.is in
+      record {
+        key = first.key;
+        was = v;
+        now_kept = w;
+        rest = first.rest;
+        old_first = first.first ∙ ap (λ (x : StoredList). (first.key, x) ∷ first.rest) same;
+        new_first = ap (λ (xs : List (String Y × StoredList)). set_value (is_text own) xs w) moved
+            ∙ ap (λ (b : Bool). cond b ((first.key, w) ∷ first.rest) (e ∷ set_value (is_text own) first.rest w)) first.is;
+        is = first.is;
+        left = left;
+        fits = fits (subst (λ (xs : List StoredSeen). FitTogether l (take stay xs)) under can);
+      }
+
+  -- a text that was put on top is the first
+  pub first-text : (own : List ℕ) (all : List StoredSeen) (old new : List (String Y × StoredList)) → IsOnTop own all old new
+      → IsFirstText own new
+  first-text own all old new top = record { key = top.key; kept = top.kept; rest = top.rest; first = top.first; is = top.is }
+
+  -- a text that is written through a look-up is the first
+  pub first-written : (own : List ℕ) (es : List (String Y × StoredList)) (v w : StoredList) → lookup (is_text own) es ≡ Some v
+      → IsFirstText own (set_value (is_text own) (promoted (is_text own) es) w)
+  first-written own es v w found = first-text own (all_seen w) es (set_value (is_text own) (promoted (is_text own) es) w)
+      (written-on-top own es v w found (all_seen w) refl)
 
 -- the newest of the newest are the newest
 newest-of : (left mid all : List StoredSeen) → AreNewestOf left mid → AreNewestOf mid all → AreNewestOf left all
@@ -139,21 +232,20 @@ module _ {Y : Type 0} where
       ]) refl
 
   -- under each text the newest are left
-  pub fewer : (own : List ℕ) (stay : ℕ) (es front short tidied : List (String Y × StoredList))
-      → IsFront es front → IsShortened own stay front short → stored_under tidied ≡ stored_under short
+  pub fewer : (l : Limits) (own : List ℕ) (stay : ℕ) (es short front tidied : List (String Y × StoredList))
+      → IsFirstShortened l own stay es short → IsFront short front → stored_under tidied ≡ stored_under front
       → AreFewer (stored_under es) (stored_under tidied)
-  fewer own stay es front short tidied first left tidy = λ text.
-      newest-of (stored_under tidied text) (stored_under front text) (stored_under es text)
-      (newest-of (stored_under tidied text) (stored_under short text) (stored_under front text)
-      (newest-same (stored_under tidied text) (stored_under short text) (ap (λ (f : StoredByTarget). f text) tidy))
-      (newest-short text own stay front short left))
-      (newest-front text es front first)
+  fewer l own stay es short front tidied s first tidy = λ text.
+      newest-of (stored_under tidied text) (stored_under short text) (stored_under es text)
+      (newest-of (stored_under tidied text) (stored_under front text) (stored_under short text)
+      (newest-same (stored_under tidied text) (stored_under front text) (ap (λ (f : StoredByTarget). f text) tidy))
+      (newest-front text short front first))
+      (newest-short text own stay es short (shortened l own stay es short s))
 
   -- what is left of responses that were changed under the text that was used last
   pub renewed-left : (own t : List ℕ) → t ≡ own → (all : List StoredSeen) (mid new : List (String Y × StoredList))
-      → is_last_used mid t → stored_under mid t ≡ all → KeepsBounds t 0 mid new → AreNewestOf (stored_under new own) all
-  renewed-left own t same all mid new used was kept =
-      let bounds : IsBounded t 0 mid new = kept used in
+      → stored_under mid t ≡ all → IsBounded t 0 mid new → AreNewestOf (stored_under new own) all
+  renewed-left own t same all mid new was bounds =
       let at : AreNewestOf (stored_under new t) all = (bounds.left.evicted, sym was ∙ bounds.left.is) in
       subst (λ (u : List ℕ). AreNewestOf (stored_under new u) all) same at
 
@@ -166,3 +258,17 @@ others-after own old mid new a b = λ other differ. elim (b other differ) [
     | inr none ↦ inr (same ∙ none)
   ]
 ]
+
+module _ {Y : Type 0} where
+  -- a response that is within the limits alone may stay when it was put on top
+  pub put-can-stay : (l : Limits) (own : List ℕ) (seen : StoredSeen) (rest : List StoredSeen) (old new : List (String Y × StoredList))
+      → IsOnTop own (seen ∷ rest) old new → FitsAlone l seen.exchange.response_headers seen.body → CanStay l 1 own new
+  put-can-stay l own seen rest old new top fits =
+      let stored : stored_under new own ≡ seen ∷ rest = stored-top own (seen ∷ rest) old new top in
+      let size : sum_by size_of (seen ∷ []) ≡ size_of seen = sum_by-cons size_of seen [] ∙ (let z : size_of seen + 0 ≡ size_of seen = omega arith in z) in
+      let single_fits : FitTogether l (seen ∷ []) = record {
+        variants = omega (arith, fits.variants);
+        responses = omega (arith, fits.responses);
+        bytes = omega (arith, size, fits.bytes);
+      } in
+      subst (λ (xs : List StoredSeen). FitTogether l (take 1 xs)) (sym stored) single_fits

@@ -1,5 +1,5 @@
 -- Ids stay below the next one.
-use Rattle.std.proofs.Common.{◌<◌, ◌+◌, ◌≡◌, arith, ℕ, ℤ, Bool, true, false, List, [], ◌∷◌, ◌++◌, All, cond, not, nat_eq, bytes_eq, refl, sym, ap, subst, ◌∙◌, inl, inr}
+use Rattle.std.proofs.Common.{◌<◌, ◌≤◌, ◌+◌, ◌≡◌, arith, ℕ, ℤ, Bool, true, false, List, [], ◌∷◌, ◌++◌, All, cond, not, nat_eq, bytes_eq, refl, sym, ap, subst, ◌∙◌, inl, inr}
 use Rattle.std.specs.List.{filter, list_any}
 use Rattle.std.specs.declared.string.String.{String}
 use Rattle.std.proofs.lemmas.List.Elements.{All-nil, All-cons, All-head, All-tail, All-weaker, All-same}
@@ -17,7 +17,7 @@ module _ {X : Type 0} (P : X → Type 0) where
   all-front [] ys h = All-nil P
   all-front (x ∷ xs) ys h = All-cons P x xs (All-head P x (xs ++ ys) h) (all-front xs ys (All-tail P x (xs ++ ys) h))
 
-  some : (p : X → Bool) (xs : List X) → All P xs → All P (filter p xs)
+  pub some : (p : X → Bool) (xs : List X) → All P xs → All P (filter p xs)
   some p [] h = h
   some p (x ∷ xs) h =
       (elim (p x) as (λ b. p x ≡ b → All P (filter p (x ∷ xs))) [
@@ -100,6 +100,11 @@ below-removed n these old new removed before = λ text.
 
 pub below-equal : (n : ℕ) (old new : StoredByTarget) → new ≡ old → AllBelow n old → AllBelow n new
 below-equal n old new same before = subst (AllBelow n) (sym same) before
+
+-- ids that are below a number are below a greater one
+pub below-wider : (n m : ℕ) (stored : StoredByTarget) → n ≤ m → AllBelow n stored → AllBelow m stored
+below-wider n m stored more before = λ text.
+    All-weaker (λ (r : StoredSeen). r.id < n) (λ (r : StoredSeen). r.id < m) (λ r less. omega arith) (stored text) (before text)
 
 module _ {Y : Type 0} where
   -- a new response of the next id

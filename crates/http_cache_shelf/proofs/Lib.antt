@@ -1,10 +1,15 @@
 -- Lemmas on what is stored.
 mod BoundsLemmas
 mod EndingLemmas
+mod FitLemmas
+mod HeldLemmas
 mod IdLemmas
 mod ListLemmas
 mod Lookups
 mod MapLemmas
 mod Outcomes
+mod SizeLemmas
+mod Sums
 mod SweepLemmas
 mod TextLemmas
+mod Totals

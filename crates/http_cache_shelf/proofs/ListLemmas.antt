@@ -1,12 +1,15 @@
 -- The stored responses of a list, as contracts see them.
 use Rattle.std.proofs.Common.{◌≤◌, ◌<◌, ◌≡◌, arith, ℕ, zero, suc, ◌-◌, Bool, true, false, List, [], ◌∷◌, ◌++◌, map, length, take, drop, set, get_or, slice_get, nat_eq, nat_lt, position, is_some, Option, Some, None, IfSome, option_map, refl, sym, ap, ◌∙◌, append-nil, append_assoc}
-use Rattle.std.specs.List.{filter, find, list_any, position_or_len}
+use Rattle.std.specs.List.{filter, find, list_any, position_or_len, sum_by}
 use Rattle.std.specs.Option.{option_map_or}
 use Rattle.std.proofs.lemmas.Bool.Decides.{nat_tests}
 use Rattle.std.proofs.lemmas.List.{length-take-le}
 use Rattle.http_cache_semantics.specs.Exchange.{Exchange}
 use Rattle.http_cache_shelf.specs.declared.shelf.StoredResponse.{StoredResponse}
-use Rattle.http_cache_shelf.specs.Shelf.{StoredSeen, ShowsAll, renewed, with_exchange}
+use Rattle.http_cache_shelf.specs.declared.memory.limit.Limits.{Limits}
+use Rattle.http_cache_shelf.specs.Shelf.{StoredSeen, ShowsAll, renewed, with_exchange, has_id, without}
+use Rattle.http_cache_shelf.specs.Size.{one, size_of, FitTogether}
+use Rattle.http_cache_shelf.proofs.Sums.{ones, few-less}
 use Rattle.http_cache_shelf.specs.Memory.{seen_of, AreLeft, IsRenewedAt}
 
 pub parts : {X : Type 0} (n : ℕ) (xs : List X) → xs ≡ take n xs ++ drop n xs
@@ -32,7 +35,7 @@ pub map-both : (xs ys : List StoredResponse) → map seen_of (xs ++ ys) ≡ map 
 map-both [] ys = refl
 map-both (x ∷ xs) ys = ap (λ l. seen_of x ∷ l) (map-both xs ys)
 
-as_long : (xs : List StoredResponse) → length (map seen_of xs) ≡ length xs
+pub as_long : (xs : List StoredResponse) → length (map seen_of xs) ≡ length xs
 as_long [] = refl
 as_long (x ∷ xs) = ap suc (as_long xs)
 
@@ -156,3 +159,35 @@ module _ (id : ℕ) where
         | true ↦ λ p. let less : position_or_len of_id xs < length xs = grind (arith, nat_tests) in rw p (any-first xs less)
         | false ↦ λ p. let long : length xs ≤ position_or_len of_id xs = grind (arith, nat_tests) in rw p (any-none xs long)
       ]) refl
+
+-- the newest that are no more than are to stay are within the limits, if those are
+pub stay-fit : (l : Limits) (stay : ℕ) (old new : List StoredResponse) → AreLeft stay old new → length new ≤ stay
+    → FitTogether l (take stay (map seen_of old)) → FitTogether l (map seen_of new)
+stay-fit l stay old new left few fits =
+    let xs = map seen_of new in
+    let ys = map seen_of left.evicted in
+    let all : map seen_of old ≡ xs ++ ys = ap (map seen_of) left.is ∙ map-both new left.evicted in
+    let short : length xs ≤ stay = omega (arith, as_long new) in
+    let count : length xs ≤ length (take stay (map seen_of old)) =
+    omega (arith, few-less one stay xs ys short, ones xs, ones (take stay (xs ++ ys)), ap (λ (zs : List StoredSeen). length (take stay zs)) all) in
+    let bytes : sum_by size_of xs ≤ sum_by size_of (take stay (map seen_of old)) =
+    omega (arith, few-less size_of stay xs ys short, ap (λ (zs : List StoredSeen). sum_by size_of (take stay zs)) all) in
+    record {
+      variants = omega (arith, count, fits.variants);
+      responses = omega (arith, count, fits.responses);
+      bytes = omega (arith, bytes, fits.bytes);
+    }
+
+-- nothing changes where there is no response of the id
+pub renewed-none : (id : ℕ) (e : Exchange) (xs : List StoredSeen) → has_id id xs ≡ false → renewed id e xs ≡ xs
+renewed-none id e [] h = refl
+renewed-none id e (x ∷ xs) h =
+    (elim (nat_eq x.id id) as (λ b. nat_eq x.id id ≡ b → renewed id e (x ∷ xs) ≡ x ∷ xs) [
+      | true ↦ λ p. let h' = rw p at h in cc
+      | false ↦ λ p. rw p (ap (λ (l : List StoredSeen). x ∷ l) (renewed-none id e xs (rw p at h)))
+    ]) refl
+
+-- no ids leave all responses
+pub without-none : (xs : List StoredSeen) → without [] xs ≡ xs
+without-none [] = refl
+without-none (x ∷ xs) = ap (λ (l : List StoredSeen). x ∷ l) (without-none xs)

@@ -202,10 +202,3 @@ module _ {Y : Type 0} where
       ap (λ (l : List (String Y × StoredList)). stored_under l own) top.first
       ∙ ap (λ (b : Bool). option_map_or all_seen (cond b (Some top.kept) (lookup (is_text own) top.rest)) []) top.is
       ∙ top.own_stored
-
-  -- a text that is written through a look-up was used last
-  pub written-last_used : (text : List ℕ) (es : List (String Y × StoredList)) (v w : StoredList) → lookup (is_text text) es ≡ Some v
-      → is_last_used (set_value (is_text text) (promoted (is_text text) es) w) text
-  written-last_used text es v w found =
-      let top = written-on-top text es v w found (all_seen w) refl in
-      subst (λ (l : List (String Y × StoredList)). is_last_used l text) (sym top.first) (inl top.is)

@@ -1,5 +1,5 @@
 -- One round over the map sweeps each entry.
-use Rattle.std.proofs.Common.{◌<◌, ◌≤◌, ◌-◌, ◌+◌, ◌≡◌, arith, ℕ, ℤ, Bool, true, false, List, [], ◌∷◌, ◌++◌, All, drop, length, length-append, cond, slice_get, string_bytes, Option, Some, None, IfSome, refl, sym, ap, subst, ◌∙◌, inl, inr, ◌⊎◌, append-nil, append_assoc}
+use Rattle.std.proofs.Common.{◌<◌, ◌≤◌, ◌-◌, ◌+◌, ◌≡◌, arith, ℕ, ℤ, Bool, true, false, List, [], ◌∷◌, ◌++◌, All, drop, take, length, length-append, cond, slice_get, string_bytes, Option, Some, None, IfSome, refl, sym, ap, subst, ◌∙◌, inl, inr, ◌⊎◌, append-nil, append_assoc}
 use Rattle.std.specs.List.{IsDistinct, AllByRecursion}
 use Rattle.std.specs.Option.{option_map_or}
 use Rattle.std.specs.String.{string_eq}
@@ -30,11 +30,12 @@ module _ {X : Type 0} where
       (below.0, below.1, all)
 
   -- a list that isn't empty has a last element
-  split-last : (x : X) (xs : List X) → (f : List X) × (y : X) × (x ∷ xs ≡ f ++ y ∷ []) × (slice_get (x ∷ xs) (length xs) ≡ Some y)
-  split-last x [] = ([], x, refl, refl)
+  pub split-last : (x : X) (xs : List X)
+      → (f : List X) × (y : X) × (x ∷ xs ≡ f ++ y ∷ []) × (slice_get (x ∷ xs) (length xs) ≡ Some y) × (take (length xs) (x ∷ xs) ≡ f)
+  split-last x [] = ([], x, refl, refl, refl)
   split-last x (y ∷ ys) =
       let below = split-last y ys in
-      (x ∷ below.0, below.1, ap (λ (l : List X). x ∷ l) below.2, below.3)
+      (x ∷ below.0, below.1, ap (λ (l : List X). x ∷ l) below.2, below.3, ap (λ (l : List X). x ∷ l) below.4)
 
   no-elements : (xs : List X) → length xs ≡ 0 → xs ≡ []
   no-elements [] h = refl

@@ -1,13 +1,17 @@
 -- What a shelf in memory stores, read from its map of texts.
-use Rattle.std.specs.Prelude.{◌++◌, ◌<◌, length, ◌≤◌, ◌≡◌, ◌⊎◌, ℕ, ℤ, Bool, List, [], ◌∷◌, All, map, string_bytes, bytes_eq, slice_get, slice_set, Some, true, ⊤}
-use Rattle.std.specs.List.{filter}
+use Rattle.std.specs.Prelude.{◌-◌, ◌^◌, take, ◌++◌, ◌<◌, length, ◌≤◌, ◌≡◌, ◌⊎◌, ℕ, ℤ, Bool, List, [], ◌∷◌, All, map, string_bytes, bytes_eq, slice_get, slice_set, Some, true, ⊤}
+use Rattle.std.specs.List.{filter, flat_map}
 use Rattle.std.specs.Option.{option_map_or}
 use Rattle.std.specs.Map.{lookup}
 use Rattle.std.specs.declared.string.String.{String}
 use Rattle.http_cache_semantics.specs.Exchange.{Exchange}
 use Rattle.http_cache_messages.specs.Worth.{can_be_used_again}
 use Rattle.http_cache_shelf.specs.declared.shelf.StoredResponse.{StoredResponse}
+use Rattle.lru.specs.LruCache.{LruCache}
 use Rattle.http_cache_shelf.specs.declared.memory.list.StoredList.{StoredList}
+use Rattle.http_cache_shelf.specs.declared.memory.limit.Limits.{Limits}
+use Rattle.http_cache_shelf.specs.declared.memory.size.Amount.{Amount}
+use Rattle.http_cache_shelf.specs.Size.{IsAmountOf, FitTogether}
 use Rattle.http_cache_shelf.specs.Shelf.{StoredSeen, StoredByTarget, KeepsOthers, KeepsAllOthers, AreNewestOf}
 
 -- a stored response as contracts see it
@@ -87,19 +91,10 @@ module _ {Y : Type 0} where
     pub is : old ≡ new ++ evicted
     pub some : 0 < length old → 0 < length new
 
-  -- under the text the newest are left, at least as many as are to stay
-  pub record IsShortened (own : List ℕ) (stay : ℕ) (old new : List (String Y × StoredList)) : Type 0 where
-    pub left : AreLeft stay (stored_under old own) (stored_under new own)
-    pub others : KeepsAllOthers (stored_under old) (stored_under new) own
-
   -- under the text the newest are left, at least as many as are to stay; under the others what was or nothing
   pub record IsBounded (own : List ℕ) (stay : ℕ) (old new : List (String Y × StoredList)) : Type 0 where
     pub left : AreLeft stay (stored_under old own) (stored_under new own)
     pub others : KeepsOthers (stored_under old) (stored_under new) own
-
-  -- the limits leave the text that was used last alone, but for its oldest responses
-  abbrev pub KeepsBounds : List ℕ → ℕ → List (String Y × StoredList) → List (String Y × StoredList) → Type 0
-  KeepsBounds own stay old new = is_last_used old own → IsBounded own stay old new
 
   -- the text is the last one, which was used longest ago
   pub record IsLastText (es : List (String Y × StoredList)) (text : List ℕ) : Type 0 where
@@ -135,3 +130,36 @@ module _ {Y : Type 0} where
     pub kept : StoredList
     pub is : old ≡ (key, kept) ∷ new
     pub spent : all_seen kept ≡ []
+
+  -- all stored responses of all texts
+  abbrev pub all_stored : List (String Y × StoredList) → List StoredSeen
+  all_stored = flat_map (λ e. all_seen e.1)
+
+  -- the amount is that of the map, which never evicts by itself
+  pub record IsHeld (held : Amount) (c : LruCache (String Y) StoredList) : Type 0 where
+    pub amount : IsAmountOf held (all_stored c.entries)
+    pub unbounded : c.cap ≡ 2 ^ 64 - 1
+
+  -- the text is the first key, so it was used last
+  pub record IsFirstText (own : List ℕ) (es : List (String Y × StoredList)) : Type 0 where
+    pub key : String Y
+    pub kept : StoredList
+    pub rest : List (String Y × StoredList)
+    pub first : es ≡ (key, kept) ∷ rest
+    pub is : is_text own key ≡ true
+
+  -- the first responses of the first text, so many, are within the limits if nothing else is stored
+  abbrev pub CanStay : Limits → ℕ → List ℕ → List (String Y × StoredList) → Type 0
+  CanStay l stay own es = FitTogether l (take stay (stored_under es own))
+
+  -- the responses of the first text are shortened to what is within the limits if nothing else is stored
+  pub record IsFirstShortened (l : Limits) (own : List ℕ) (stay : ℕ) (old new : List (String Y × StoredList)) : Type 0 where
+    pub key : String Y
+    pub was : StoredList
+    pub now_kept : StoredList
+    pub rest : List (String Y × StoredList)
+    pub old_first : old ≡ (key, was) ∷ rest
+    pub new_first : new ≡ (key, now_kept) ∷ rest
+    pub is : is_text own key ≡ true
+    pub left : AreLeft stay (all_seen was) (all_seen now_kept)
+    pub fits : FitTogether l (all_seen now_kept)

@@ -1,26 +1,29 @@
 //! A shelf that keeps responses in memory, within limits.
 //!
-//! The struct counts what is stored and assigns the ids. What happens to the map of texts is in the modules
-//! below, by layers: `list` (one target), `map` (a text in the map), `bounds` and `sweep` (the whole map).
-ghost use Rattle.std.specs.Prelude.{◌≡◌, ◌<◌, ℕ, List, [], false, string_capacity, IfOk};
-ghost use Rattle.http_cache_shelf.specs.Shelf.{without, AreIdsBelow};
+//! What happens to the map of texts is in the modules below, by layers: `list` (one target), `map` (a text
+//! in the map), `bounds` and `sweep` (the whole map), and `state` (the map, the amounts and the ids).
+ghost use Rattle.std.specs.Prelude.{◌≡◌, ◌≤◌, ◌==◌, ◌↔◌, max, ℕ, List, [], All, false, length, IsTrue, IfOk, OnErr};
+ghost use Rattle.std.specs.List.{sum_by};
+ghost use Rattle.http_cache_shelf.specs.Shelf.{IsPutFirst, KeepsOthers, KeepsAll};
 ghost use Rattle.http_cache_shelf.specs.Target.{text_of};
-ghost use Rattle.http_cache_shelf.specs.Memory.{stored_under, AreTextsWithin, HasUnder, KeepsBounds};
+ghost use Rattle.http_cache_shelf.specs.Size.{size_of};
+ghost use Rattle.http_cache_shelf.specs.Contents.{contents, limits_of, CanTake};
 
 pub(crate) mod bounds;
+pub(crate) mod limit;
 pub(crate) mod list;
 pub(crate) mod map;
 pub(crate) mod size;
+pub(crate) mod state;
 pub(crate) mod sweep;
 
-pub use crate::memory::bounds::Limits;
 use crate::memory::bounds::keep_limits;
-use crate::memory::list::{StoredList, body_among};
-use crate::memory::map::{
-    first_stored, promote, put_stored, remove_ids, remove_texts, set_policy, tidy,
-};
-use crate::memory::size::{Amount, response_size};
-use crate::memory::sweep::{make_room, sweep_all};
+pub use crate::memory::limit::Limits;
+use crate::memory::list::body_among;
+use crate::memory::map::{first_stored, promote, remove_texts, set_policy};
+use crate::memory::size::Amount;
+pub use crate::memory::state::MemoryShelf;
+use crate::memory::sweep::sweep_all;
 use crate::shelf::{ResponseId, Shelf, ShelfError, StoredResponse};
 use crate::target::Target;
 use bytes::Bytes;
@@ -28,111 +31,137 @@ use http_cache_semantics::CachePolicy;
 use jiff::Timestamp;
 use lru::LruCache;
 use std::alloc::{AllocError, Global};
-
-/// Stored responses in memory, which are lost when the process ends.
-///
-/// Over a limit the shelf evicts targets, with all their responses, the one that was used longest ago
-/// first. If the target that was used last is over a limit by itself, the shelf evicts the oldest
-/// responses of that target. A new response that alone is over a limit isn't stored.
-///
-/// Only `put` and `body` return errors, when out of memory.
-///
-///     let limits = Limits {
-///         body: 3,
-///         ..Limits::default()
-///     };
-///     let mut shelf = MemoryShelf::new(alloc, limits)?;
-///
-/// The hash of the map has a fixed seed. Where untrusted clients choose the targets, they can make
-/// look-ups slow.
-#[derive(Drop)]
-pub struct MemoryShelf {
-    alloc: Global,
-    limits: Limits,
-    // The stored responses under the text of their target, the text that was used last first.
-    kept: LruCache<String, StoredList>,
-    // How much `kept` holds. No clause ties the count to `kept`, so its sums stop and never wrap.
-    held: Amount,
-    // Has room for the longest text in `kept`, so that `sweep` takes no memory.
-    buffer: String,
-    next_id: u64,
-    ghost ids_below: { (text : List ℕ) → AreIdsBelow next_id (stored_under kept.entries text) },
-    ghost has_room: { AreTextsWithin (string_capacity buffer) kept.entries },
-}
+use std::hash::RandomState;
 
 impl MemoryShelf {
-    /// Returns an empty shelf.
+    /// Returns an empty shelf. The keys of `hasher` are secret, so that no one who chooses targets can
+    /// make look-ups slow.
     ///
     /// # Errors
     ///
     /// Returns `AllocError` when out of memory.
-    pub fn new(alloc: Global, limits: Limits) -> Result<MemoryShelf, AllocError>
+    pub fn new(
+        alloc: Global,
+        hasher: RandomState,
+        limits: Limits,
+    ) -> Result<MemoryShelf, AllocError>
         ensures empty { IfOk result (λ shelf. (text : List ℕ)
             → ⟦<MemoryShelf as Shelf>⟧.stored shelf text ≡ []) }
         ensures next { IfOk result (λ shelf. ⟦<MemoryShelf as Shelf>⟧.next_id shelf ≡ 0) }
+        ensures limits { IfOk result (λ shelf. limits_of shelf ≡ limits) }
     {
         Ok(MemoryShelf {
             alloc,
             limits,
-            kept: LruCache::unbounded(alloc)?,
+            kept: LruCache::unbounded_with_hasher(alloc, hasher)?,
             held: Amount::none(),
             buffer: String::new(alloc),
             next_id: 0,
+            evicted: Vec::new(alloc),
         })
     }
 
+    /// Returns the limits of the shelf. What is stored is within them.
+    pub fn limits(&self) -> Limits
+        ensures limits { result ≡ limits_of self.now }
+        ensures responses { length (contents self.now) ≤ result.responses }
+        ensures bytes { sum_by size_of (contents self.now) ≤ result.bytes }
+        ensures variants { (text : List ℕ)
+            → length (⟦<MemoryShelf as Shelf>⟧.stored self.now text) ≤ result.variants }
+        ensures bodies { (text : List ℕ) → All (λ r. length r.body ≤ result.body)
+            (⟦<MemoryShelf as Shelf>⟧.stored self.now text) }
+    {
+        self.limits
+    }
+
     /// Returns how many responses are stored.
-    pub fn len(&self) -> usize {
-        self.held.responses
+    pub fn len(&self) -> usize
+        ensures { result ≡ length (contents self.now) }
+    {
+        self.amount().responses as usize
     }
 
     /// Returns whether no response is stored.
-    pub fn is_empty(&self) -> bool {
+    pub fn is_empty(&self) -> bool
+        ensures { result ≡ (length (contents self.now) == 0) }
+    {
         self.held.responses == 0
     }
 
-    /// Returns how many bytes the heads and bodies of the stored responses have together.
-    pub fn size(&self) -> u64 {
-        self.held.bytes
+    /// Returns how many bytes the field lines and bodies of the stored responses have together.
+    pub fn size(&self) -> u64
+        ensures { result ≡ sum_by size_of (contents self.now) }
+    {
+        self.amount().bytes as u64
     }
 
-    // Whether a response alone is over a limit, or no id is left.
-    fn is_too_large(&self, policy: &CachePolicy, body: &Bytes) -> bool
-        ensures { result ≡ false → self.now.next_id < u64.MAX }
-    {
-        self.next_id == u64::MAX
-            || body.len() as u64 > self.limits.body
-            || response_size(policy, body) > self.limits.bytes
-            || self.limits.responses == 0
-            || self.limits.variants == 0
+    /// Returns the ids of the responses that the last `put`, `renew` or `restore` evicted because of a
+    /// limit. An id is missing if there was no memory to list it.
+    pub fn evicted(&self) -> &[ResponseId] {
+        self.evicted.as_slice()
     }
 
-    // Evicts what is over a limit, but leaves the newest `stay` responses of the text that was used last.
-    fn keep_limits(&mut self, text: &str, stay: usize)
-        ensures kept { KeepsBounds text.now stay self.old.kept.entries self.new.kept.entries }
-        ensures next { self.new.next_id ≡ self.old.next_id }
+    /// Raises the id that `put` returns next to a number. It never lowers it.
+    pub fn skip_ids_below(&mut self, next: u64)
+        ensures next { ⟦<MemoryShelf as Shelf>⟧.next_id self.new
+            ≡ max (⟦<MemoryShelf as Shelf>⟧.next_id self.old) next }
+        ensures stored { ⟦<MemoryShelf as Shelf>⟧.stored self.new
+            ≡ ⟦<MemoryShelf as Shelf>⟧.stored self.old }
+        ensures limits { limits_of self.new ≡ limits_of self.old }
     {
-        let removed = keep_limits(&mut self.kept, &self.limits, self.held, text, stay);
-        self.held = self.held.minus(removed);
+        if self.next_id < next {
+            self.next_id = next;
+        }
     }
 
-    // Removes responses of a target by their ids.
-    fn remove_ids(&mut self, target: &Target, ids: &[ResponseId])
-        ensures stored { HasUnder (text_of target.now)
-            (without ids.now (stored_under self.old.kept.entries (text_of target.now)))
-            (stored_under self.old.kept.entries) (stored_under self.new.kept.entries) }
-        ensures next { self.new.next_id ≡ self.old.next_id }
+    /// Stores a response under an id that it already has, as the newest of its target, which is then
+    /// the target that was used last. Returns whether it is stored.
+    ///
+    /// Returns false, and stores nothing, if the id is below the next one or is the greatest number, or
+    /// if the response alone is over a limit. Otherwise the next id is then the one after it. The shelf
+    /// keeps its limits as in `put`.
+    ///
+    /// # Errors
+    ///
+    /// Returns `Memory` when out of memory.
+    pub fn restore(
+        &mut self,
+        target: &Target,
+        id: ResponseId,
+        policy: CachePolicy,
+        body: Bytes,
+    ) -> Result<bool, ShelfError>
+        ensures stored { IfOk result (λ is_stored. IsTrue is_stored → IsPutFirst
+            (⟦<MemoryShelf as Shelf>⟧.stored self.old (text_of target.now))
+            (⟦<MemoryShelf as Shelf>⟧.stored self.new (text_of target.now))
+            id.0 (⟦<MemoryShelf as Shelf>⟧.next_id self.new) policy body id) }
+        ensures others { KeepsOthers (⟦<MemoryShelf as Shelf>⟧.stored self.old)
+            (⟦<MemoryShelf as Shelf>⟧.stored self.new) (text_of target.now) }
+        ensures accepted { IfOk result (λ is_stored. IsTrue is_stored
+            ↔ CanTake self.old id policy.response_headers body) }
+        ensures refused { IfOk result (λ is_stored. is_stored ≡ false → KeepsAll
+            (⟦<MemoryShelf as Shelf>⟧.stored self.old) (⟦<MemoryShelf as Shelf>⟧.next_id self.old)
+            (⟦<MemoryShelf as Shelf>⟧.stored self.new) (⟦<MemoryShelf as Shelf>⟧.next_id self.new)) }
+        ensures kept { OnErr result (KeepsAll
+            (⟦<MemoryShelf as Shelf>⟧.stored self.old) (⟦<MemoryShelf as Shelf>⟧.next_id self.old)
+            (⟦<MemoryShelf as Shelf>⟧.stored self.new) (⟦<MemoryShelf as Shelf>⟧.next_id self.new)) }
     {
-        let removed = remove_ids(&mut self.kept, target.as_str(), ids);
-        tidy(&mut self.kept, target.as_str());
-        self.held = self.held.minus(removed);
+        self.evicted.clear();
+        if !self.is_next(id) || !self.limits.fit(&policy, &body) {
+            return Ok(false);
+        }
+        self.store(target, &[], id, policy, body)?;
+        Ok(true)
     }
 }
 
 impl Shelf for MemoryShelf {
-    ghost use Rattle.std.specs.Prelude.{◌≡◌, IsOk, OnOk, OnErr};
-    ghost use Rattle.http_cache_shelf.specs.Shelf.{IsSwept, KeepsAll};
+    ghost use Rattle.std.specs.Prelude.{◌≡◌, ◌+◌, None, length, IsOk, IfOk, OnOk, OnErr};
+    ghost use Rattle.http_cache_shelf.specs.Shelf.{IsSwept, IsInserted, KeepsAll, KeepsOthers, without};
+    ghost use Rattle.http_cache_shelf.specs.Target.{text_of};
     ghost use Rattle.http_cache_shelf.specs.Memory.{stored_under, is_last_used};
+    ghost use Rattle.http_cache_shelf.specs.Size.{FitsAlone};
+    ghost use Rattle.http_cache_shelf.specs.Contents.{contents, limits_of};
 
     ghost stored = { λ s. stored_under s.kept.entries };
 
@@ -164,33 +193,36 @@ impl Shelf for MemoryShelf {
         }
     }
 
+    // The clauses of the trait, and when a response isn't stored.
     fn put(
         &mut self,
         target: &Target,
         superseded: &[ResponseId],
         policy: CachePolicy,
         body: Bytes,
-    ) -> Result<Option<ResponseId>, ShelfError> {
-        if self.is_too_large(&policy, &body) {
+    ) -> Result<Option<ResponseId>, ShelfError>
+        ensures put { IfOk result (IsInserted
+            (without superseded.now
+            (⟦<MemoryShelf as Shelf>⟧.stored self.old (text_of target.now)))
+            (⟦<MemoryShelf as Shelf>⟧.stored self.new (text_of target.now))
+            (⟦<MemoryShelf as Shelf>⟧.next_id self.old) (⟦<MemoryShelf as Shelf>⟧.next_id self.new)
+            policy body) }
+        ensures others { KeepsOthers (⟦<MemoryShelf as Shelf>⟧.stored self.old)
+            (⟦<MemoryShelf as Shelf>⟧.stored self.new) (text_of target.now) }
+        ensures kept { OnErr result (KeepsAll
+            (⟦<MemoryShelf as Shelf>⟧.stored self.old) (⟦<MemoryShelf as Shelf>⟧.next_id self.old)
+            (⟦<MemoryShelf as Shelf>⟧.stored self.new) (⟦<MemoryShelf as Shelf>⟧.next_id self.new)) }
+        ensures refused { IfOk result (λ id. id ≡ None
+            → FitsAlone (limits_of self.old) policy.response_headers body
+            → ⟦<MemoryShelf as Shelf>⟧.next_id self.old ≡ u64.MAX) }
+    {
+        self.evicted.clear();
+        let id = ResponseId::new(self.next_id);
+        if !self.is_next(id) || !self.limits.fit(&policy, &body) {
             self.remove_ids(target, superseded);
             return Ok(None);
         }
-        let size = response_size(&policy, &body);
-        let id = ResponseId::new(self.next_id);
-        let stored = StoredResponse {
-            id,
-            policy,
-            body: Some(body),
-        };
-        let text = target.as_str();
-        make_room(&mut self.buffer, text.len())?;
-        let removed = put_stored(&mut self.kept, self.alloc, text, superseded, stored, size)?;
-        self.next_id += 1;
-        self.held = self.held.minus(removed).plus(Amount {
-            responses: 1,
-            bytes: size,
-        });
-        self.keep_limits(text, 1);
+        self.store(target, superseded, id, policy, body)?;
         Ok(Some(id))
     }
 
@@ -201,12 +233,22 @@ impl Shelf for MemoryShelf {
         id: ResponseId,
         policy: CachePolicy,
     ) -> Result<bool, ShelfError> {
+        self.evicted.clear();
         self.remove_ids(target, superseded);
-        let Some((before, after)) = set_policy(&mut self.kept, target.as_str(), id, policy) else {
+        let text = target.as_str();
+        // The amount comes with the proof that there is room to count a longer head.
+        let _amount = self.amount();
+        if !set_policy(&mut self.kept, &mut self.held, text, id, policy) {
             return Ok(false);
-        };
-        self.held.bytes = self.held.bytes.saturating_sub(before).saturating_add(after);
-        self.keep_limits(target.as_str(), 0);
+        }
+        keep_limits(
+            &mut self.kept,
+            &mut self.held,
+            &self.limits,
+            text,
+            0,
+            &mut self.evicted,
+        );
         Ok(true)
     }
 
@@ -216,14 +258,15 @@ impl Shelf for MemoryShelf {
     }
 
     fn remove_targets(&mut self, targets: &[Target]) -> Result<(), ShelfError> {
-        let removed = remove_texts(&mut self.kept, targets);
-        self.held = self.held.minus(removed);
+        remove_texts(&mut self.kept, &mut self.held, targets);
         Ok(())
     }
 
-    // The clauses of the trait, and that the call never fails.
+    // The clauses of the trait, that the call never fails, and how many responses it removes.
     fn sweep(&mut self, now: Timestamp) -> Result<usize, ShelfError>
         ensures ok { IsOk result }
+        ensures removed { IfOk result (λ removed.
+            length (contents self.old) ≡ length (contents self.new) + removed) }
         ensures swept { OnOk result (IsSwept now.nanosecond
             (⟦<MemoryShelf as Shelf>⟧.stored self.old) (⟦<MemoryShelf as Shelf>⟧.stored self.new)) }
         ensures next { ⟦<MemoryShelf as Shelf>⟧.next_id self.new
@@ -232,8 +275,8 @@ impl Shelf for MemoryShelf {
             (⟦<MemoryShelf as Shelf>⟧.stored self.old) (⟦<MemoryShelf as Shelf>⟧.next_id self.old)
             (⟦<MemoryShelf as Shelf>⟧.stored self.new) (⟦<MemoryShelf as Shelf>⟧.next_id self.new)) }
     {
-        let removed = sweep_all(&mut self.kept, &mut self.buffer, now);
-        self.held = self.held.minus(removed);
-        Ok(removed.responses)
+        let before = self.amount().responses;
+        sweep_all(&mut self.kept, &mut self.held, &mut self.buffer, now);
+        Ok((before - self.held.responses) as usize)
     }
 }

@@ -5,11 +5,12 @@ use http::Request;
 use http_cache_client::Decision;
 use std::alloc::Global;
 use std::process::Abort;
+use std::random::RandomSource;
 use std::test::Fail;
 
 // Compares what a new client does.
-fn check_new(rt: &impl Abort, alloc: Global, rows: &str) -> Result<(), Fail> {
-    let mut client = new_client(alloc)?;
+fn check_new(rt: &(impl Abort + RandomSource), alloc: Global, rows: &str) -> Result<(), Fail> {
+    let mut client = new_client(rt, alloc)?;
     check(rt, alloc, &mut client, rows)
 }
 
@@ -73,7 +74,7 @@ fn values_of_hit(alloc: Global, client: &mut MemoryClient, name: &str) -> Result
 
 #[test]
 fn a_hit_has_both_of_two_lines_of_vary_and_one_length(rt: HostRuntime) -> Result<(), Fail> {
-    let mut client = new_client(rt.alloc())?;
+    let mut client = new_client(&rt, rt.alloc())?;
     let rows =
         r#"0|GET /a|A: a ~ B: b|200 ^ Cache-Control: max-age=10 ~ Vary: A ~ Vary: B ~ Content-Length: 3 ~ Content-Length: 3 ^ one|200 one|C; fwd=uri-miss; fwd-status=200; stored; ttl=10|GET
         1|GET /a|A: a ~ B: c|404 ^ Cache-Control: no-store ^ other|404 other|C; fwd=vary-miss; fwd-status=404; detail="B"|GET"#;
@@ -87,7 +88,7 @@ fn a_hit_has_both_of_two_lines_of_vary_and_one_length(rt: HostRuntime) -> Result
 
 #[test]
 fn a_late_response_changes_no_other_target(rt: HostRuntime) -> Result<(), Fail> {
-    let mut client = new_client(rt.alloc())?;
+    let mut client = new_client(&rt, rt.alloc())?;
     let stored =
         r#"0|GET /a||200 ^ Cache-Control: max-age=10 ~ ETag: "1" ^ one|200 one|C; fwd=uri-miss; fwd-status=200; stored; ttl=10|GET
         0|GET /b||200 ^ Cache-Control: max-age=100 ~ ETag: "1" ^ two|200 two|C; fwd=uri-miss; fwd-status=200; stored; ttl=100|GET"#;

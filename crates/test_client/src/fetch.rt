@@ -53,7 +53,7 @@ fn failures() -> &'static str {
 #[test]
 fn answers_of_a_client(rt: HostRuntime) -> Result<(), Fail> {
     for rows in [variants(), methods(), failures()] {
-        let mut client = new_client(rt.alloc())?;
+        let mut client = new_client(&rt, rt.alloc())?;
         check(&rt, rt.alloc(), &mut client, rows)?;
     }
     Ok(())

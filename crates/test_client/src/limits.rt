@@ -2,16 +2,21 @@
 //!
 //! A case has a limit in its first line, and a step in each line after it: what is done, the path of a target, the headers
 //! of a response, its body, and the outcome: for `put` the id of the response or `no`, for `find` the ids found, for
-//! `sweep` how many responses are removed, and for `count` how many are stored.
+//! `sweep` how many responses are removed, for `count` how many are stored, and for `evicted` the ids of those that the
+//! last call evicted. `restore` and `skip` have a number in a sixth field; the outcome of `restore` is whether the
+//! response is stored, and of `skip` the same number.
 use bytes::Bytes;
 use http::{HeaderMap, Uri};
-use http_cache_shelf::{Limits, MemoryShelf, Shelf, ShelfError, StoredResponse, Target};
+use http_cache_shelf::{
+    Limits, MemoryShelf, ResponseId, Shelf, ShelfError, StoredResponse, Target,
+};
 use std::alloc::Global;
+use std::hash::RandomState;
 use std::process::Abort;
 use std::test::Fail;
 use test_cases::fixtures::{after, field, policy};
 
-fn cases() -> [&'static str; 7] {
+fn cases() -> [&'static str; 9] {
     [
         "responses 2
          put|/1|Cache-Control: max-age=100|x|0
@@ -66,6 +71,28 @@ fn cases() -> [&'static str; 7] {
          put|/5|Cache-Control: max-age=100|x|4
          find|/1|||
          find|/3|||2",
+        // The ids that are evicted are listed, and only by a call that evicts.
+        "responses 2
+         put|/1|Cache-Control: max-age=100|x|0
+         put|/1|Cache-Control: max-age=100|x|1
+         evicted||||
+         put|/2|Cache-Control: max-age=100|x|2
+         evicted||||1 0
+         put|/2|Cache-Control: max-age=100|x|3
+         evicted||||",
+        // What is restored keeps its id, and ids rise.
+        "body 3
+         restore|/1|Cache-Control: max-age=100|x|true|5
+         restore|/2|Cache-Control: max-age=100|x|false|5
+         restore|/2|Cache-Control: max-age=100|four|false|6
+         restore|/2|Cache-Control: max-age=100|x|true|8
+         find|/1|||5
+         find|/2|||8
+         put|/1|Cache-Control: max-age=100|x|9
+         skip||||20|20
+         skip||||3|3
+         put|/1|Cache-Control: max-age=100|x|20
+         restore|/1|Cache-Control: max-age=100|x|false|18446744073709551615",
     ]
 }
 
@@ -120,21 +147,58 @@ fn put(
     }
 }
 
+// Stores the response of a step under the id of the step.
+fn restore(
+    alloc: Global,
+    shelf: &mut MemoryShelf,
+    target: &Target,
+    step: &str,
+) -> Result<String, Fail> {
+    let body = Bytes::copy_from_slice(alloc, field(step, 3)?.as_bytes())?;
+    let policy = policy(alloc, field(step, 2)?)?;
+    let id = ResponseId::new(field(step, 5)?.parse::<u64>()?);
+    let is_stored = done(shelf.restore(target, id, policy, body))?;
+    Ok(format!(in alloc; "{is_stored}")?)
+}
+
+fn push_id(text: &mut String, id: ResponseId) -> Result<(), Fail> {
+    if !text.as_str().is_empty() {
+        text.push(' ')?;
+    }
+    write!(text, "{}", id.number())?;
+    Ok(())
+}
+
 fn ids_of(alloc: Global, found: &[StoredResponse]) -> Result<String, Fail> {
     let mut text = String::new(alloc);
     for stored in found {
-        if !text.as_str().is_empty() {
-            text.push(' ')?;
-        }
-        write!(text, "{}", stored.id.number())?;
+        push_id(&mut text, stored.id)?;
     }
     Ok(text)
+}
+
+fn ids_evicted(alloc: Global, shelf: &MemoryShelf) -> Result<String, Fail> {
+    let mut text = String::new(alloc);
+    for id in shelf.evicted() {
+        push_id(&mut text, *id)?;
+    }
+    Ok(text)
+}
+
+// Raises the next id to the number of a step.
+fn skip(alloc: Global, shelf: &mut MemoryShelf, step: &str) -> Result<String, Fail> {
+    let next = field(step, 5)?.parse::<u64>()?;
+    shelf.skip_ids_below(next);
+    Ok(format!(in alloc; "{next}")?)
 }
 
 // Does what a step says, and returns the text of its outcome.
 fn outcome_of(alloc: Global, shelf: &mut MemoryShelf, step: &str) -> Result<String, Fail> {
     match field(step, 0)? {
         "put" => put(alloc, shelf, &target_of(alloc, step)?, step),
+        "restore" => restore(alloc, shelf, &target_of(alloc, step)?, step),
+        "skip" => skip(alloc, shelf, step),
+        "evicted" => ids_evicted(alloc, shelf),
         "find" => {
             let target = target_of(alloc, step)?;
             done(shelf.look_up(alloc, &target))?;
@@ -164,7 +228,7 @@ fn shelves_within_limits(rt: HostRuntime) -> Result<(), Fail> {
     for case in cases() {
         let mut lines = case.lines();
         let limits = limits_of(lines.next().ok_or("no limits")?)?;
-        let mut shelf = MemoryShelf::new(rt.alloc(), limits)?;
+        let mut shelf = MemoryShelf::new(rt.alloc(), RandomState::new(&rt)?, limits)?;
         for step in lines {
             check_step(&rt, rt.alloc(), &mut shelf, step)?;
         }

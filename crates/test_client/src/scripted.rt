@@ -13,7 +13,9 @@ use http_cache_semantics::directives::GetHeaderStr;
 use http_cache_shelf::{Limits, MemoryShelf};
 use jiff::Timestamp;
 use std::alloc::{AllocError, Global};
+use std::hash::RandomState;
 use std::process::Abort;
+use std::random::RandomSource;
 use std::test::Fail;
 use test_cases::fixtures::{after, field, headers, response};
 
@@ -21,13 +23,13 @@ use test_cases::fixtures::{after, field, headers, response};
 pub type MemoryClient = Client<MemoryShelf>;
 
 /// Returns a client of the name `C` with nothing stored.
-pub fn new_client(alloc: Global) -> Result<MemoryClient, Fail> {
+pub fn new_client(rt: &impl RandomSource, alloc: Global) -> Result<MemoryClient, Fail> {
     let options = CacheOptions {
         shared: false,
         ..CacheOptions::default()
     };
     let name = String::from_str(alloc, "C")?;
-    let shelf = MemoryShelf::new(alloc, Limits::default())?;
+    let shelf = MemoryShelf::new(alloc, RandomState::new(rt)?, Limits::default())?;
     Ok(Client::new(shelf, options, name))
 }
 

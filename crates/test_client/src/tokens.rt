@@ -7,6 +7,7 @@ use http_cache_semantics::directives::GetHeaderStr;
 use jiff::Timestamp;
 use std::alloc::Global;
 use std::process::Abort;
+use std::random::RandomSource;
 use std::test::Fail;
 
 // A response that is stale after ten seconds.
@@ -20,8 +21,12 @@ const STORED_FOR_LONGER: &str =
 // The response to a validation that confirms either.
 const CONFIRMS: &str = r#"304 ^ ETag: "1""#;
 
-fn client_with(rt: &impl Abort, alloc: Global, rows: &str) -> Result<MemoryClient, Fail> {
-    let mut client = new_client(alloc)?;
+fn client_with(
+    rt: &(impl Abort + RandomSource),
+    alloc: Global,
+    rows: &str,
+) -> Result<MemoryClient, Fail> {
+    let mut client = new_client(rt, alloc)?;
     check(rt, alloc, &mut client, rows)?;
     Ok(client)
 }

@@ -1,124 +1,96 @@
-//! The limits of a shelf in memory, and what is evicted to keep them: the target that was used longest
-//! ago first, then the oldest responses of the target that was used last.
-ghost use Rattle.std.specs.Prelude.{◌≡◌, ◌-◌, length, take};
-ghost use Rattle.http_cache_shelf.specs.Memory.{stored_under, AreFewer, KeepsTexts, IsFront, IsShortened, KeepsBounds};
+//! What is evicted to keep the limits: the oldest responses of the target that was used last, if it is
+//! over a limit by itself, and then the targets that were used longest ago.
+ghost use Rattle.std.specs.Prelude.{◌≡◌, ◌≤◌, ◌-◌, ◌⊎◌, length, take};
+ghost use Rattle.http_cache_shelf.specs.Size.{IsAtMost, IsAllowed};
+ghost use Rattle.http_cache_shelf.specs.Memory.{stored_under, AreFewer, KeepsTexts, IsFront, IsBounded, IsHeld, IsFirstText, IsFirstShortened, CanStay};
 
-use crate::memory::list::StoredList;
+use crate::memory::limit::Limits;
+use crate::memory::list::Kept;
 use crate::memory::map::tidy;
 use crate::memory::size::Amount;
-use lru::LruCache;
+use crate::shelf::ResponseId;
 
-/// How much a shelf in memory stores at most.
-#[derive(Clone, Copy, Debug, PartialEq, Eq)]
-pub struct Limits {
-    /// Stored responses.
-    pub responses: usize,
-    /// Bytes of heads and bodies together.
-    pub bytes: u64,
-    /// Bytes of one body. A response with a longer one isn't stored.
-    pub body: u64,
-    /// Stored responses of one target.
-    pub variants: usize,
-}
-
-impl Default for Limits {
-    fn default() -> Limits {
-        Limits {
-            responses: 10_000,
-            bytes: 64 << 20,
-            body: 8 << 20,
-            variants: 32,
-        }
-    }
-}
-
-impl Limits {
-    /// Returns the responses and the bytes that may be stored together.
-    pub(crate) fn room(&self) -> Amount {
-        Amount {
-            responses: self.responses,
-            bytes: self.bytes,
-        }
-    }
-}
-
-// Removes the text that was used longest ago.
-fn evict_one(kept: &mut LruCache<String, StoredList>) -> Amount
-    ensures { kept.new.entries ≡ take (length kept.old.entries - 1) kept.old.entries }
+// Removes the text that was used longest ago, and lists the ids of its responses.
+fn evict_one(kept: &mut Kept, held: &mut Amount, evicted: &mut Vec<ResponseId>)
+    requires { IsHeld held.old kept.old }
+    ensures entries { kept.new.entries ≡ take (length kept.old.entries - 1) kept.old.entries }
+    ensures held { IsHeld held.new kept.new }
+    ensures less { IsAtMost held.new held.old }
 {
     match kept.pop_lru() {
         Some((text, list)) => {
-            let removed = Amount {
-                responses: list.responses.len(),
-                bytes: list.bytes,
-            };
+            list.list_ids(evicted);
+            held.reduce(list.amount(), Amount::none());
             drop(list);
             drop(text);
-            removed
         }
-        None => Amount::none(),
+        None => {}
     }
 }
 
-// Removes texts, those used longest ago first, until as much is removed as is to be, but leaves the one
-// that was used last.
-fn evict(kept: &mut LruCache<String, StoredList>, over: Amount) -> Amount
-    ensures { IsFront kept.old.entries kept.new.entries }
+// Removes texts, those used longest ago first, until what is left is within the limits, but leaves the
+// one that was used last.
+fn evict(kept: &mut Kept, held: &mut Amount, limits: &Limits, evicted: &mut Vec<ResponseId>)
+    requires { IsHeld held.old kept.old }
+    ensures front { IsFront kept.old.entries kept.new.entries }
+    ensures held { IsHeld held.new kept.new }
+    ensures less { IsAtMost held.new held.old }
+    ensures allowed { (length kept.new.entries ≤ 1) ⊎ IsAllowed limits.now held.new }
 {
-    let mut removed = Amount::none();
-    for _ in 0..kept.len() {
-        if kept.len() < 2 {
-            return removed;
-        }
-        if removed.covers(over) {
-            return removed;
-        }
-        let more = evict_one(kept);
-        removed = removed.plus(more);
+    while kept.len() > 1 && !limits.allow(*held) {
+        evict_one(kept, held, evicted);
     }
-    removed
 }
 
-// Removes the oldest responses under a text until they are no more than its variants, and the whole shelf
-// has room, but leaves the newest `stay` in any case.
+// Removes the oldest responses under a text until they are within the limits by themselves, but leaves
+// the newest `stay` in any case.
 fn shorten(
-    kept: &mut LruCache<String, StoredList>,
+    kept: &mut Kept,
+    held: &mut Amount,
     limits: &Limits,
-    held: Amount,
     text: &str,
     stay: usize,
-) -> Amount
-    ensures shortened { IsShortened text.now stay kept.old.entries kept.new.entries }
+    evicted: &mut Vec<ResponseId>,
+)
+    requires first { IsFirstText text.now kept.old.entries }
+    requires held { IsHeld held.old kept.old }
+    requires stay { CanStay limits.now stay text.now kept.old.entries }
+    ensures shortened { IsFirstShortened limits.now text.now stay kept.old.entries kept.new.entries }
+    ensures held { IsHeld held.new kept.new }
+    ensures less { IsAtMost held.new held.old }
     ensures texts { KeepsTexts kept.old.entries kept.new.entries }
 {
     match kept.get_mut(text) {
         Some(list) => {
-            let own = Amount {
-                responses: list.responses.len(),
-                bytes: list.bytes,
-            };
-            let room = limits.room().minus(held.minus(own));
-            list.shorten(stay, limits.variants.min(room.responses), room.bytes)
+            let before = list.amount();
+            list.shorten(stay, limits, evicted);
+            held.reduce(before, list.amount());
         }
-        None => Amount::none(),
+        None => unreachable!(),
     }
 }
 
-/// Evicts what is over the limits while `held` is stored, and returns what was removed. Of the text that
-/// was used last the newest `stay` responses are left in any case.
+/// Evicts what is over the limits, and lists the ids of what it evicts. Of the text that was used last
+/// the newest `stay` responses are left in any case.
 pub(crate) fn keep_limits(
-    kept: &mut LruCache<String, StoredList>,
+    kept: &mut Kept,
+    held: &mut Amount,
     limits: &Limits,
-    held: Amount,
     text: &str,
     stay: usize,
-) -> Amount
-    ensures kept { KeepsBounds text.now stay kept.old.entries kept.new.entries }
+    evicted: &mut Vec<ResponseId>,
+)
+    requires first { IsFirstText text.now kept.old.entries }
+    requires held { IsHeld held.old kept.old }
+    requires stay { CanStay limits.now stay text.now kept.old.entries }
+    ensures kept { IsBounded text.now stay kept.old.entries kept.new.entries }
     ensures fewer { AreFewer (stored_under kept.old.entries) (stored_under kept.new.entries) }
     ensures texts { KeepsTexts kept.old.entries kept.new.entries }
+    ensures held { IsHeld held.new kept.new }
+    ensures allowed { IsAllowed limits.now held.new }
+    ensures variants { length (stored_under kept.new.entries text.now) ≤ limits.now.variants }
 {
-    let evicted = evict(kept, held.minus(limits.room()));
-    let shortened = shorten(kept, limits, held.minus(evicted), text, stay);
-    tidy(kept, text);
-    evicted.plus(shortened)
+    shorten(kept, held, limits, text, stay, evicted);
+    evict(kept, held, limits, evicted);
+    tidy(kept, held, text);
 }

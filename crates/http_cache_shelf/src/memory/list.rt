@@ -1,4 +1,4 @@
-//! The stored responses of one target, newest first, and the bytes that they count for.
+//! The stored responses of one target, newest first.
 //!
 //! No function here knows under which text the list is kept. A call that may drop a policy is in a
 //! function of its own, since the prover looks into all that a dropped response holds.
@@ -6,22 +6,28 @@ ghost use Rattle.std.specs.Prelude.{◌≡◌, ◌-◌, ◌<◌, ◌≤◌, ◌�
 ghost use Rattle.std.specs.List.{filter, find, list_any};
 ghost use Rattle.http_cache_messages.specs.Worth.{can_be_used_again};
 ghost use Rattle.http_cache_shelf.specs.Shelf.{without, renewed, has_id, stored_body};
+ghost use Rattle.http_cache_shelf.specs.Size.{IsAmountOf, IsOfList, FitTogether};
 ghost use Rattle.http_cache_shelf.specs.Memory.{AreLeft, IsRenewedAt, seen_of};
 
-use crate::memory::size::{Amount, stored_size, total_size};
+use crate::memory::limit::Limits;
+use crate::memory::size::{Amount, total_size};
 use crate::shelf::{ResponseId, ShelfError, StoredResponse};
 use bytes::Bytes;
 use http_cache_messages::worth::can_be_used_again;
 use http_cache_semantics::CachePolicy;
 use jiff::Timestamp;
+use lru::LruCache;
 use std::alloc::{AllocError, Global};
+use std::hash::RandomState;
 
-/// What is stored for one target, newest first, and the bytes that it counts for.
+/// What is stored for one target, newest first.
 #[derive(Drop)]
 pub(crate) struct StoredList {
     pub(crate) responses: Vec<StoredResponse>,
-    pub(crate) bytes: u64,
 }
+
+/// The lists under the texts of their targets, the text that was used last first.
+pub(crate) type Kept = LruCache<String, StoredList, RandomState>;
 
 fn is_among(ids: &[ResponseId], id: ResponseId) -> bool
     ensures { result ≡ list_any (λ one. nat_eq id.0 one.0) ids.now }
@@ -45,26 +51,35 @@ fn drop_unusable(responses: &mut Vec<StoredResponse>, now: Timestamp)
     responses.retain(|stored| can_be_used_again(&stored.policy, now));
 }
 
-fn drop_oldest(responses: &mut Vec<StoredResponse>)
+// Lists an id. If there is no memory for it, the list of ids is left as it is.
+fn note(ids: &mut Vec<ResponseId>, id: ResponseId) {
+    let _listed = ids.push(id);
+}
+
+fn drop_oldest(responses: &mut Vec<StoredResponse>, evicted: &mut Vec<ResponseId>)
     requires { 0 < length responses.old.items }
     ensures { responses.new.items ≡ take (length responses.old.items - 1) responses.old.items }
 {
-    drop(responses.pop());
+    if let Some(stored) = responses.pop() {
+        note(evicted, stored.id);
+        drop(stored);
+    }
 }
 
-// Drops the oldest responses until no more than `most` of at most `bytes` are left, but leaves the
-// newest `stay` in any case.
-fn drop_until(responses: &mut Vec<StoredResponse>, stay: usize, most: usize, bytes: u64)
-    ensures { AreLeft stay responses.old.items responses.new.items }
+// Drops the oldest responses until the rest is within the limits by itself, but leaves the newest `stay`
+// in any case. Lists the ids of those that it drops.
+fn drop_until(
+    responses: &mut Vec<StoredResponse>,
+    stay: usize,
+    limits: &Limits,
+    evicted: &mut Vec<ResponseId>,
+)
+    ensures left { AreLeft stay responses.old.items responses.new.items }
+    ensures fits { FitTogether limits.now (take stay (map seen_of responses.old.items))
+        → FitTogether limits.now (map seen_of responses.new.items) }
 {
-    for _ in 0..responses.len() {
-        if responses.len() <= stay {
-            return;
-        }
-        if responses.len() <= most && total_size(responses.as_slice()) <= bytes {
-            return;
-        }
-        drop_oldest(responses);
+    while responses.len() > stay && !limits.fit_together(responses.as_slice()) {
+        drop_oldest(responses, evicted);
     }
 }
 
@@ -81,16 +96,12 @@ fn push_newest(
 }
 
 /// Returns a list of one response.
-pub(crate) fn list_of_one(
-    alloc: Global,
-    stored: StoredResponse,
-    bytes: u64,
-) -> Result<StoredList, ShelfError>
+pub(crate) fn list_of_one(alloc: Global, stored: StoredResponse) -> Result<StoredList, ShelfError>
     ensures { IfOk result (λ list. list.responses.items ≡ stored ∷ []) }
 {
     let mut responses = Vec::new(alloc);
     push_newest(&mut responses, stored)?;
-    Ok(StoredList { responses, bytes })
+    Ok(StoredList { responses })
 }
 
 // The body of a stored response, which a shelf in memory always has.
@@ -134,97 +145,87 @@ fn replace_policy(stored: &mut StoredResponse, policy: CachePolicy)
     stored.policy = policy;
 }
 
-// Replaces the policy of the response at an index, and returns its size before and after.
-fn set_policy_at(responses: &mut Vec<StoredResponse>, at: usize, policy: CachePolicy) -> (u64, u64)
+// Replaces the policy of the response at an index.
+fn set_policy_at(responses: &mut Vec<StoredResponse>, at: usize, policy: CachePolicy)
     requires { at < length responses.old.items }
     ensures { IsRenewedAt at policy responses.old.items responses.new.items }
 {
-    let stored = &mut responses[at];
-    let before = stored_size(stored);
-    replace_policy(stored, policy);
-    (before, stored_size(stored))
+    replace_policy(&mut responses[at], policy);
 }
 
 impl StoredList {
     ghost use Rattle.http_cache_shelf.specs.Memory.{all_seen, usable};
 
-    // Counts the bytes of what is left anew, and returns what was removed since there were `before`.
-    fn count_removed(&mut self, before: usize) -> Amount
-        ensures { self.new.responses ≡ self.old.responses }
+    /// Returns how much the list counts for.
+    pub(crate) fn amount(&self) -> Amount
+        ensures amount { IsAmountOf result (all_seen self.now) }
+        ensures list { IsOfList result }
     {
-        let bytes = total_size(self.responses.as_slice());
-        let removed = Amount {
-            responses: before.saturating_sub(self.responses.len()),
-            bytes: self.bytes.saturating_sub(bytes),
-        };
-        self.bytes = bytes;
-        removed
+        Amount {
+            responses: self.responses.len() as u128,
+            bytes: total_size(self.responses.as_slice()),
+        }
     }
 
-    /// Removes the responses of some ids, and returns what was removed.
-    pub(crate) fn remove(&mut self, ids: &[ResponseId]) -> Amount
+    /// Removes the responses of some ids.
+    pub(crate) fn remove(&mut self, ids: &[ResponseId])
         ensures stored { all_seen self.new ≡ without ids.now (all_seen self.old) }
         ensures length { vec_len self.new.responses ≤ vec_len self.old.responses }
         ensures capacity { vec_capacity self.new.responses ≡ vec_capacity self.old.responses }
     {
-        let before = self.responses.len();
         drop_ids(&mut self.responses, ids);
-        self.count_removed(before)
     }
 
-    /// Removes what can't be used again at a time, and returns what was removed.
-    pub(crate) fn sweep(&mut self, now: Timestamp) -> Amount
+    /// Removes what can't be used again at a time.
+    pub(crate) fn sweep(&mut self, now: Timestamp)
         ensures { all_seen self.new ≡ usable now.nanosecond (all_seen self.old) }
     {
-        let before = self.responses.len();
         drop_unusable(&mut self.responses, now);
-        // Most lists keep everything, and then nothing is counted anew.
-        if self.responses.len() == before {
-            return Amount::none();
-        }
-        self.count_removed(before)
     }
 
-    /// Stores a response as the newest, removes the superseded ones, and returns what was removed.
+    /// Stores a response as the newest, and removes the superseded ones.
     pub(crate) fn put_first(
         &mut self,
         superseded: &[ResponseId],
         stored: StoredResponse,
-        size: u64,
-    ) -> Result<Amount, ShelfError>
+    ) -> Result<(), ShelfError>
         ensures ok { OnOk result (all_seen self.new
             ≡ seen_of stored ∷ without superseded.now (all_seen self.old)) }
         ensures kept { OnErr result (all_seen self.new ≡ all_seen self.old) }
     {
         self.responses.reserve(1)?;
-        let removed = self.remove(superseded);
+        self.remove(superseded);
         push_newest(&mut self.responses, stored)?;
-        self.bytes = self.bytes.saturating_add(size);
-        Ok(removed)
+        Ok(())
     }
 
-    /// Replaces the policy of the first response of an id, and returns its size before and after, or
-    /// None if there is no such response.
-    pub(crate) fn set_policy(&mut self, id: ResponseId, policy: CachePolicy) -> Option<(u64, u64)>
+    /// Replaces the policy of the first response of an id, and returns whether there is one.
+    pub(crate) fn set_policy(&mut self, id: ResponseId, policy: CachePolicy) -> bool
         ensures stored { all_seen self.new ≡ renewed id.0 policy (all_seen self.old) }
-        ensures was_stored { is_some result ≡ has_id id.0 (all_seen self.old) }
+        ensures was_stored { result ≡ has_id id.0 (all_seen self.old) }
     {
         let Some(at) = index_of(self.responses.as_slice(), id) else {
             drop(policy);
-            return None;
+            return false;
         };
-        let (before, after) = set_policy_at(&mut self.responses, at, policy);
-        self.bytes = self.bytes.saturating_sub(before).saturating_add(after);
-        Some((before, after))
+        set_policy_at(&mut self.responses, at, policy);
+        true
     }
 
-    /// Removes the oldest responses until at most `most` of at most `bytes` are left, but leaves the
-    /// newest `stay` in any case. Returns what was removed.
-    pub(crate) fn shorten(&mut self, stay: usize, most: usize, bytes: u64) -> Amount
-        ensures { AreLeft stay (all_seen self.old) (all_seen self.new) }
+    /// Removes the oldest responses until the rest is within the limits by itself, but leaves the newest
+    /// `stay` in any case. Lists the ids of those that it removes.
+    pub(crate) fn shorten(&mut self, stay: usize, limits: &Limits, evicted: &mut Vec<ResponseId>)
+        ensures left { AreLeft stay (all_seen self.old) (all_seen self.new) }
+        ensures fits { FitTogether limits.now (take stay (all_seen self.old))
+            → FitTogether limits.now (all_seen self.new) }
     {
-        let before = self.responses.len();
-        drop_until(&mut self.responses, stay, most, bytes);
-        self.count_removed(before)
+        drop_until(&mut self.responses, stay, limits, evicted);
+    }
+
+    /// Lists the ids of all responses.
+    pub(crate) fn list_ids(&self, ids: &mut Vec<ResponseId>) {
+        for stored in self.responses.as_slice() {
+            note(ids, stored.id);
+        }
     }
 }

@@ -1,35 +1,34 @@
 //! Changes of the map from texts to lists, each with what is stored under every text after it.
 //!
 //! Each function calls the map once. A look-up by `&str` is one that std's lemmas on texts read. The
-//! functions know nothing of limits, and return what they removed for the caller to count.
-ghost use Rattle.std.specs.Prelude.{◌≡◌, ◌∷◌, [], true, None, OnOk, OnErr, string_bytes, is_some, map};
+//! functions know nothing of limits. Those that change what is stored keep `held` the amount of it.
+ghost use Rattle.std.specs.Prelude.{◌≡◌, ◌∷◌, [], true, false, None, OnOk, OnErr, IsTrue, string_bytes, map};
 ghost use Rattle.std.specs.Map.{lookup};
 ghost use Rattle.http_cache_shelf.specs.Shelf.{without, renewed, has_id, RemovesThese, ShowsAll};
 ghost use Rattle.http_cache_shelf.specs.Target.{text_of};
-ghost use Rattle.http_cache_shelf.specs.Memory.{all_seen, seen_of, stored_under, is_last_used, is_text, HasUnder, IsOnTop, KeepsTexts, KeepsTextsBut};
+ghost use Rattle.http_cache_shelf.specs.Memory.{all_seen, seen_of, stored_under, is_last_used, is_text, HasUnder, IsOnTop, KeepsTexts, KeepsTextsBut, IsHeld, IsFirstText};
+ghost use Rattle.http_cache_shelf.specs.Size.{IsAtMost, IsSmall};
+ghost use Rattle.http_cache_shelf.specs.declared.memory.size.Amount.{Amount as Held};
 
-use crate::memory::list::{StoredList, list_of_one};
+use crate::memory::list::{Kept, StoredList, list_of_one};
 use crate::memory::size::Amount;
 use crate::shelf::{ResponseId, ShelfError, StoredResponse};
 use crate::target::Target;
 use http_cache_semantics::CachePolicy;
-use lru::LruCache;
 use std::alloc::Global;
 
 /// Makes a text the one that was used last.
-pub(crate) fn promote(kept: &mut LruCache<String, StoredList>, text: &str)
+pub(crate) fn promote(kept: &mut Kept, text: &str)
     ensures stored { stored_under kept.new.entries ≡ stored_under kept.old.entries }
     ensures first { is_last_used kept.new.entries text.now }
     ensures texts { KeepsTexts kept.old.entries kept.new.entries }
+    ensures held { (held : Held) → IsHeld held kept.old → IsHeld held kept.new }
 {
     let _is_kept = kept.promote(text);
 }
 
 /// Returns what is stored under a text if it was used last, and else nothing.
-pub(crate) fn first_stored<'a>(
-    kept: &'a LruCache<String, StoredList>,
-    text: &str,
-) -> &'a [StoredResponse]
+pub(crate) fn first_stored<'a>(kept: &'a Kept, text: &str) -> &'a [StoredResponse]
     ensures { is_last_used kept.now.entries text.now
         → ShowsAll result.now (stored_under kept.now.entries text.now) }
 {
@@ -44,41 +43,40 @@ pub(crate) fn first_stored<'a>(
 }
 
 /// Removes all that is stored under a text.
-pub(crate) fn remove_text(kept: &mut LruCache<String, StoredList>, text: &str) -> Amount
+pub(crate) fn remove_text(kept: &mut Kept, held: &mut Amount, text: &str)
+    requires { IsHeld held.old kept.old }
     ensures stored { HasUnder text.now [] (stored_under kept.old.entries) (stored_under kept.new.entries) }
     ensures texts { KeepsTexts kept.old.entries kept.new.entries }
+    ensures held { IsHeld held.new kept.new }
+    ensures less { IsAtMost held.new held.old }
 {
     // The length comes with the proof that no text is a key twice.
     let _length = kept.len();
     match kept.pop(text) {
         Some(list) => {
-            let removed = Amount {
-                responses: list.responses.len(),
-                bytes: list.bytes,
-            };
+            held.reduce(list.amount(), Amount::none());
             drop(list);
-            removed
         }
-        None => Amount::none(),
+        None => {}
     }
 }
 
 /// Removes all that is stored under the texts of some targets.
-pub(crate) fn remove_texts(kept: &mut LruCache<String, StoredList>, targets: &[Target]) -> Amount
+pub(crate) fn remove_texts(kept: &mut Kept, held: &mut Amount, targets: &[Target])
+    requires { IsHeld held.old kept.old }
     ensures stored { RemovesThese (map text_of targets.now) (stored_under kept.old.entries)
         (stored_under kept.new.entries) }
     ensures texts { KeepsTexts kept.old.entries kept.new.entries }
+    ensures held { IsHeld held.new kept.new }
+    ensures less { IsAtMost held.new held.old }
 {
-    let mut removed = Amount::none();
     for target in targets {
-        let more = remove_text(kept, target.as_str());
-        removed = removed.plus(more);
+        remove_text(kept, held, target.as_str());
     }
-    removed
 }
 
 // Whether a text is a key with an empty list.
-fn is_spent(kept: &LruCache<String, StoredList>, text: &str) -> bool
+fn is_spent(kept: &Kept, text: &str) -> bool
     ensures { result ≡ true → stored_under kept.now.entries text.now ≡ [] }
 {
     match kept.peek(text) {
@@ -88,109 +86,147 @@ fn is_spent(kept: &LruCache<String, StoredList>, text: &str) -> bool
 }
 
 /// Removes a text if its list is empty, so that it isn't counted as used.
-pub(crate) fn tidy(kept: &mut LruCache<String, StoredList>, text: &str)
+pub(crate) fn tidy(kept: &mut Kept, held: &mut Amount, text: &str)
+    requires { IsHeld held.old kept.old }
     ensures stored { stored_under kept.new.entries ≡ stored_under kept.old.entries }
     ensures texts { KeepsTexts kept.old.entries kept.new.entries }
+    ensures held { IsHeld held.new kept.new }
+    ensures less { IsAtMost held.new held.old }
 {
     if is_spent(kept, text) {
-        let _removed = remove_text(kept, text);
+        remove_text(kept, held, text);
     }
 }
 
 /// Removes responses under a text by their ids.
-pub(crate) fn remove_ids(
-    kept: &mut LruCache<String, StoredList>,
-    text: &str,
-    ids: &[ResponseId],
-) -> Amount
+pub(crate) fn remove_ids(kept: &mut Kept, held: &mut Amount, text: &str, ids: &[ResponseId])
+    requires { IsHeld held.old kept.old }
     ensures stored { HasUnder text.now (without ids.now (stored_under kept.old.entries text.now))
         (stored_under kept.old.entries) (stored_under kept.new.entries) }
     ensures texts { KeepsTexts kept.old.entries kept.new.entries }
+    ensures held { IsHeld held.new kept.new }
+    ensures less { IsAtMost held.new held.old }
 {
     match kept.get_mut(text) {
-        Some(list) => list.remove(ids),
-        None => Amount::none(),
+        Some(list) => {
+            let before = list.amount();
+            list.remove(ids);
+            held.reduce(before, list.amount());
+        }
+        None => {}
     }
 }
 
 /// Replaces the policy of the first response of an id under a text, which is then the one used last.
-/// Returns the size before and after, or None if there is no such response.
+/// Returns whether there is such a response.
 pub(crate) fn set_policy(
-    kept: &mut LruCache<String, StoredList>,
+    kept: &mut Kept,
+    held: &mut Amount,
     text: &str,
     id: ResponseId,
     policy: CachePolicy,
-) -> Option<(u64, u64)>
+) -> bool
+    requires held { IsHeld held.old kept.old }
+    requires small { IsSmall held.old }
     ensures stored { HasUnder text.now (renewed id.0 policy (stored_under kept.old.entries text.now))
         (stored_under kept.old.entries) (stored_under kept.new.entries) }
-    ensures first { is_last_used kept.new.entries text.now }
-    ensures was_stored { is_some result ≡ has_id id.0 (stored_under kept.old.entries text.now) }
+    ensures first { IsTrue result → IsFirstText text.now kept.new.entries }
+    ensures held { IsHeld held.new kept.new }
+    ensures refused { result ≡ false → IsAtMost held.new held.old }
+    ensures was_stored { result ≡ has_id id.0 (stored_under kept.old.entries text.now) }
     ensures texts { KeepsTexts kept.old.entries kept.new.entries }
 {
     match kept.get_mut(text) {
-        Some(list) => list.set_policy(id, policy),
+        Some(list) => {
+            let before = list.amount();
+            let was_stored = list.set_policy(id, policy);
+            held.change(before, list.amount());
+            was_stored
+        }
         None => {
             drop(policy);
-            None
+            false
         }
     }
 }
 
 // Puts a list under a key that isn't there.
 fn put_key(
-    kept: &mut LruCache<String, StoredList>,
+    kept: &mut Kept,
+    held: &mut Amount,
     key: String,
     list: StoredList,
 ) -> Result<(), ShelfError>
-    requires { lookup (is_text (string_bytes key)) kept.old.entries ≡ None }
+    requires none { lookup (is_text (string_bytes key)) kept.old.entries ≡ None }
+    requires held { IsHeld held.old kept.old }
+    requires small { IsSmall held.old }
     ensures ok { OnOk result (IsOnTop (string_bytes key) (all_seen list) kept.old.entries kept.new.entries) }
     ensures kept { OnErr result (kept.new ≡ kept.old) }
     ensures texts { KeepsTextsBut (string_bytes key) kept.old.entries kept.new.entries }
+    ensures held { IsHeld held.new kept.new }
+    ensures less { OnErr result (IsAtMost held.new held.old) }
 {
+    // The length comes with the proof that the map has room for one key more.
+    let _length = kept.len();
+    let added = list.amount();
     drop(kept.put(key, list)?);
+    held.change(Amount::none(), added);
     Ok(())
 }
 
 // Puts a response under a text that isn't a key.
 fn put_new(
-    kept: &mut LruCache<String, StoredList>,
+    kept: &mut Kept,
     alloc: Global,
+    held: &mut Amount,
     text: &str,
     stored: StoredResponse,
-    size: u64,
-) -> Result<Amount, ShelfError>
-    requires { lookup (is_text text.now) kept.old.entries ≡ None }
+) -> Result<(), ShelfError>
+    requires none { lookup (is_text text.now) kept.old.entries ≡ None }
+    requires held { IsHeld held.old kept.old }
+    requires small { IsSmall held.old }
     ensures ok { OnOk result (IsOnTop text.now (seen_of stored ∷ []) kept.old.entries kept.new.entries) }
     ensures kept { OnErr result (kept.new ≡ kept.old) }
     ensures texts { KeepsTextsBut text.now kept.old.entries kept.new.entries }
+    ensures held { IsHeld held.new kept.new }
+    ensures less { OnErr result (IsAtMost held.new held.old) }
 {
-    let list = list_of_one(alloc, stored, size)?;
+    let list = list_of_one(alloc, stored)?;
     let key = String::from_str(alloc, text)?;
-    put_key(kept, key, list)?;
-    Ok(Amount::none())
+    put_key(kept, held, key, list)?;
+    Ok(())
 }
 
 /// Stores a response as the newest under a text, which is then the one used last, and removes the
-/// superseded ones. Returns what was removed.
+/// superseded ones.
 pub(crate) fn put_stored(
-    kept: &mut LruCache<String, StoredList>,
+    kept: &mut Kept,
     alloc: Global,
+    held: &mut Amount,
     text: &str,
     superseded: &[ResponseId],
     stored: StoredResponse,
-    size: u64,
-) -> Result<Amount, ShelfError>
+) -> Result<(), ShelfError>
+    requires held { IsHeld held.old kept.old }
+    requires small { IsSmall held.old }
     ensures ok { OnOk result (IsOnTop text.now
         (seen_of stored ∷ without superseded.now (stored_under kept.old.entries text.now))
         kept.old.entries kept.new.entries) }
     ensures kept { OnErr result (stored_under kept.new.entries ≡ stored_under kept.old.entries) }
     ensures texts { KeepsTextsBut text.now kept.old.entries kept.new.entries }
+    ensures held { IsHeld held.new kept.new }
+    ensures less { OnErr result (IsAtMost held.new held.old) }
 {
     if !kept.contains(text) {
-        return put_new(kept, alloc, text, stored, size);
+        return put_new(kept, alloc, held, text, stored);
     }
     match kept.get_mut(text) {
-        Some(list) => list.put_first(superseded, stored, size),
+        Some(list) => {
+            let before = list.amount();
+            let put = list.put_first(superseded, stored);
+            held.change(before, list.amount());
+            put
+        }
         None => unreachable!(),
     }
 }

@@ -1,46 +1,61 @@
-//! How many bytes a stored response counts for: the names and values of its head, and its body.
+//! How much is stored: a number of responses, and the bytes that they count for.
+ghost use Rattle.std.specs.Prelude.{◌≡◌, ◌<◌, ◌≤◌, ◌*◌, ◌-◌, ◌^◌, min, length, map};
+ghost use Rattle.std.specs.List.{sum_by};
+ghost use Rattle.http_cache_fields.specs.Headers.{headers_of};
+ghost use Rattle.http_cache_shelf.specs.Memory.{seen_of};
+ghost use Rattle.http_cache_shelf.specs.Size.{headers_size, response_size as size_of_response, size_of, replaced, IsAtMost, IsSmall, IsOfList};
+
 use crate::shelf::StoredResponse;
 use bytes::Bytes;
 use http::HeaderMap;
 use http_cache_semantics::CachePolicy;
 
 /// A number of stored responses, and the bytes that they count for.
+///
+/// Both have room for what the limits allow and one list of responses more.
 #[derive(Clone, Copy)]
 pub(crate) struct Amount {
-    pub(crate) responses: usize,
-    pub(crate) bytes: u64,
+    pub(crate) responses: u128,
+    pub(crate) bytes: u128,
 }
 
 impl Amount {
-    pub(crate) fn none() -> Amount {
+    pub(crate) fn none() -> Amount
+        ensures { result ≡ record { responses = 0; bytes = 0 } }
+    {
         Amount {
             responses: 0,
             bytes: 0,
         }
     }
 
-    pub(crate) fn plus(self, more: Amount) -> Amount {
-        Amount {
-            responses: self.responses.saturating_add(more.responses),
-            bytes: self.bytes.saturating_add(more.bytes),
-        }
+    /// Takes away what a list counted for, and adds what is left of it.
+    pub(crate) fn reduce(&mut self, before: Amount, after: Amount)
+        requires held { IsAtMost before self.old }
+        requires less { IsAtMost after before }
+        ensures { self.new ≡ replaced self.old before after }
+    {
+        self.responses -= before.responses - after.responses;
+        self.bytes -= before.bytes - after.bytes;
     }
 
-    // Stops at nothing, so that a wrong count never wraps.
-    pub(crate) fn minus(self, less: Amount) -> Amount {
-        Amount {
-            responses: self.responses.saturating_sub(less.responses),
-            bytes: self.bytes.saturating_sub(less.bytes),
-        }
-    }
-
-    // Whether it has as many responses and as many bytes as another.
-    pub(crate) fn covers(self, other: Amount) -> bool {
-        self.responses >= other.responses && self.bytes >= other.bytes
+    /// Takes away what a list counted for, and adds what it counts for now.
+    pub(crate) fn change(&mut self, before: Amount, after: Amount)
+        requires held { IsAtMost before self.old }
+        requires small { IsSmall self.old }
+        requires list { IsOfList after }
+        ensures { self.new ≡ replaced self.old before after }
+    {
+        self.responses = self.responses - before.responses + after.responses;
+        self.bytes = self.bytes - before.bytes + after.bytes;
     }
 }
 
-fn head_size(headers: &HeaderMap) -> u64 {
+fn head_size(headers: &HeaderMap) -> u64
+    ensures { result ≡ min (headers_size (headers_of headers.now)) (2 ^ 64 - 1) }
+{
+    // The length comes with the proof that no name is there twice.
+    let _length = headers.len();
     let mut size = 0u64;
     for (name, value) in headers.iter() {
         size = size
@@ -51,12 +66,15 @@ fn head_size(headers: &HeaderMap) -> u64 {
 }
 
 /// Returns the bytes of a response that is to be stored.
-pub(crate) fn response_size(policy: &CachePolicy, body: &Bytes) -> u64 {
+pub(crate) fn response_size(policy: &CachePolicy, body: &Bytes) -> u64
+    ensures { result ≡ size_of_response policy.now.response_headers body.now }
+{
     head_size(policy.stored_headers()).saturating_add(body.len() as u64)
 }
 
-/// Returns the bytes of a stored response.
-pub(crate) fn stored_size(stored: &StoredResponse) -> u64 {
+fn stored_size(stored: &StoredResponse) -> u64
+    ensures { result ≡ size_of (seen_of stored.now) }
+{
     match &stored.body {
         Some(body) => response_size(&stored.policy, body),
         None => head_size(stored.policy.stored_headers()),
@@ -64,10 +82,13 @@ pub(crate) fn stored_size(stored: &StoredResponse) -> u64 {
 }
 
 /// Returns the bytes of some stored responses together.
-pub(crate) fn total_size(responses: &[StoredResponse]) -> u64 {
-    let mut size = 0u64;
+pub(crate) fn total_size(responses: &[StoredResponse]) -> u128
+    ensures sum { result ≡ sum_by size_of (map seen_of responses.now) }
+    ensures fits { result ≤ length responses.now * (2 ^ 64 - 1) }
+{
+    let mut size = 0u128;
     for stored in responses {
-        size = size.saturating_add(stored_size(stored));
+        size += u128::from(stored_size(stored));
     }
     size
 }

@@ -4,12 +4,13 @@
 //! sweeps that entry and makes it the first. After as many turns as entries the order is as before.
 ghost use Rattle.std.specs.Prelude.{◌≡◌, ◌⊎◌, ◌<◌, ◌≤◌, [], true, length, slice_get, string_bytes, string_capacity, IfSome, OnOk, OnErr};
 ghost use Rattle.http_cache_shelf.specs.Shelf.{IsSwept};
-ghost use Rattle.http_cache_shelf.specs.Memory.{stored_under, all_seen, AreTextsWithin, IsLastText, IsTurned, IsTurnedOrRemoved, IsFirstDropped};
+ghost use Rattle.http_cache_shelf.specs.Memory.{stored_under, all_seen, AreTextsWithin, IsLastText, IsTurned, IsTurnedOrRemoved, IsFirstDropped, IsHeld};
+ghost use Rattle.http_cache_shelf.specs.Size.{IsAtMost};
+ghost use Rattle.http_cache_shelf.specs.declared.memory.size.Amount.{Amount as Held};
 
-use crate::memory::list::StoredList;
+use crate::memory::list::Kept;
 use crate::memory::size::Amount;
 use jiff::Timestamp;
-use lru::LruCache;
 use std::alloc::AllocError;
 
 /// Empties a buffer and makes room in it for a text of some length.
@@ -39,7 +40,7 @@ fn copy_text(buffer: &mut String, text: &str)
 }
 
 // Copies the text that was used longest ago.
-fn copy_last(kept: &LruCache<String, StoredList>, buffer: &mut String)
+fn copy_last(kept: &Kept, buffer: &mut String)
     requires some { 0 < length kept.now.entries }
     requires room { AreTextsWithin (string_capacity buffer.old) kept.now.entries }
     ensures last { IsLastText kept.now.entries (string_bytes buffer.new) }
@@ -52,20 +53,27 @@ fn copy_last(kept: &LruCache<String, StoredList>, buffer: &mut String)
 }
 
 // Sweeps the list of the text that was used longest ago, and makes it the one that was used last.
-fn turn(kept: &mut LruCache<String, StoredList>, text: &str, now: Timestamp) -> Amount
-    requires { IsLastText kept.old.entries text.now }
-    ensures { IsTurned now.nanosecond kept.old.entries kept.new.entries }
+fn turn(kept: &mut Kept, held: &mut Amount, text: &str, now: Timestamp)
+    requires last { IsLastText kept.old.entries text.now }
+    requires held { IsHeld held.old kept.old }
+    ensures turned { IsTurned now.nanosecond kept.old.entries kept.new.entries }
+    ensures held { IsHeld held.new kept.new }
+    ensures less { IsAtMost held.new held.old }
 {
     // The length comes with the proof that no text is a key twice.
     let _length = kept.len();
     match kept.get_mut(text) {
-        Some(list) => list.sweep(now),
+        Some(list) => {
+            let before = list.amount();
+            list.sweep(now);
+            held.reduce(before, list.amount());
+        }
         None => unreachable!(),
     }
 }
 
 // Whether the list of the text that was used last is empty.
-fn is_first_spent(kept: &LruCache<String, StoredList>) -> bool
+fn is_first_spent(kept: &Kept) -> bool
     ensures { result ≡ true → IfSome (slice_get kept.now.entries 0) (λ e. all_seen e.1 ≡ []) }
 {
     match kept.peek_mru() {
@@ -75,8 +83,9 @@ fn is_first_spent(kept: &LruCache<String, StoredList>) -> bool
 }
 
 // Removes the text that was used last if its list is empty.
-fn tidy_first(kept: &mut LruCache<String, StoredList>)
-    ensures { (kept.new.entries ≡ kept.old.entries) ⊎ IsFirstDropped kept.old.entries kept.new.entries }
+fn tidy_first(kept: &mut Kept)
+    ensures entries { (kept.new.entries ≡ kept.old.entries) ⊎ IsFirstDropped kept.old.entries kept.new.entries }
+    ensures held { (held : Held) → IsHeld held kept.old → IsHeld held kept.new }
 {
     if is_first_spent(kept) {
         drop(kept.pop_mru());
@@ -84,38 +93,32 @@ fn tidy_first(kept: &mut LruCache<String, StoredList>)
 }
 
 // Sweeps the last entry, and removes it if nothing of it is left.
-fn sweep_last(
-    kept: &mut LruCache<String, StoredList>,
-    buffer: &mut String,
-    now: Timestamp,
-) -> Amount
+fn sweep_last(kept: &mut Kept, held: &mut Amount, buffer: &mut String, now: Timestamp)
     requires some { 0 < length kept.old.entries }
     requires room { AreTextsWithin (string_capacity buffer.old) kept.old.entries }
+    requires held { IsHeld held.old kept.old }
+    ensures held { IsHeld held.new kept.new }
+    ensures less { IsAtMost held.new held.old }
     ensures turned { IsTurnedOrRemoved now.nanosecond kept.old.entries kept.new.entries }
     ensures capacity { string_capacity buffer.old ≤ string_capacity buffer.new }
 {
     copy_last(kept, buffer);
-    let removed = turn(kept, buffer.as_str(), now);
+    turn(kept, held, buffer.as_str(), now);
     tidy_first(kept);
-    removed
 }
 
-/// Removes under every text what can't be used again at a time, and returns what was removed. The
-/// buffer has room for each text, so no memory is taken.
-pub(crate) fn sweep_all(
-    kept: &mut LruCache<String, StoredList>,
-    buffer: &mut String,
-    now: Timestamp,
-) -> Amount
-    requires { AreTextsWithin (string_capacity buffer.old) kept.old.entries }
+/// Removes under every text what can't be used again at a time. The buffer has room for each text, so
+/// no memory is taken.
+pub(crate) fn sweep_all(kept: &mut Kept, held: &mut Amount, buffer: &mut String, now: Timestamp)
+    requires room { AreTextsWithin (string_capacity buffer.old) kept.old.entries }
+    requires held { IsHeld held.old kept.old }
+    ensures held { IsHeld held.new kept.new }
+    ensures less { IsAtMost held.new held.old }
     ensures swept { IsSwept now.nanosecond (stored_under kept.old.entries) (stored_under kept.new.entries) }
     ensures room { AreTextsWithin (string_capacity buffer.new) kept.new.entries }
 {
     let count = kept.len();
-    let mut removed = Amount::none();
     for _swept in 0..count {
-        let more = sweep_last(kept, buffer, now);
-        removed = removed.plus(more);
+        sweep_last(kept, held, buffer, now);
     }
-    removed
 }

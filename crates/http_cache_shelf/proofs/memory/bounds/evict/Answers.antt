@@ -1,10 +1,15 @@
 -- One less in each turn, of two or more.
 use Rattle.std.proofs.Common.{arith}
 use Rattle.http_cache_shelf.proofs.BoundsLemmas.{front-all, front-more}
+use Rattle.http_cache_shelf.proofs.HeldLemmas.{less-same, less-less}
 use Rattle.http_cache_shelf.proofs.memory.bounds.evict.Goals as goal
 
-pub loop-init : goal.loop-init
-loop-init c = front-all c.args.kept.now.entries
+pub loop-kept-init : goal.loop-kept-init
+loop-kept-init c = (front-all c.args.kept.now.entries, c.requires, less-same c.args.held.now)
 
-pub loop-preserved : goal.loop-preserved
-loop-preserved c = rw c.evict_one-more.ensures (front-more c.args.kept.now.entries c.loop.kept.entries c.loop.invariant (omega arith))
+pub loop-kept-preserved : goal.loop-kept-preserved
+loop-kept-preserved c = (
+  rw c.evict_one.ensures.entries (front-more c.args.kept.now.entries c.loop-kept.kept.entries c.loop-kept.invariant.0 (omega arith)),
+  c.evict_one.ensures.held,
+  less-less c.evict_one.new.held c.loop-kept.held c.args.held.now c.evict_one.ensures.less c.loop-kept.invariant.2,
+)

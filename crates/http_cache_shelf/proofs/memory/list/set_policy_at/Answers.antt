@@ -8,5 +8,5 @@ pub returns : goal.returns
 returns c =
     let items = c.args.responses.now.items in
     let at = c.args.at in
-    renewed-there c.args.policy items (set items at c.replace_policy.new.stored) at c.index_mut-stored.result.now c.requires
-    c.index_mut-stored.ensures.value (ap (λ (s : StoredResponse). set items at s) c.replace_policy.ensures)
+    renewed-there c.args.policy items (set items at c.replace_policy.new.stored) at c.index_mut.result.now c.requires
+    c.index_mut.ensures.value (ap (λ (s : StoredResponse). set items at s) c.replace_policy.ensures)

@@ -1,6 +1,7 @@
 -- The order of use doesn't change what is stored.
 use Rattle.http_cache_shelf.proofs.MapLemmas.{stored_under-promoted, is_last_used-promoted}
 use Rattle.http_cache_shelf.specs.Memory.{is_text}
+use Rattle.http_cache_shelf.proofs.HeldLemmas.{held-promoted}
 use Rattle.http_cache_shelf.proofs.TextLemmas.{texts-promoted}
 use Rattle.http_cache_shelf.proofs.memory.map.promote.Goals as goal
 
@@ -12,3 +13,6 @@ returns-clause-first c = rw c.promote-is_kept.ensures.entries (is_last_used-prom
 
 pub returns-clause-texts : goal.returns-clause-texts
 returns-clause-texts c = rw c.promote-is_kept.ensures.entries (texts-promoted (is_text c.args.text.now) c.args.kept.now.entries)
+
+pub returns-clause-held : goal.returns-clause-held
+returns-clause-held c = rw c.promote-is_kept.ensures.entries (λ held counted. held-promoted (is_text c.args.text.now) held c.args.kept.now counted)

@@ -1,10 +1,25 @@
 -- A new key is the first.
+use Rattle.std.proofs.Common.{◌<◌, ◌^◌, arith, length, ap, ◌∙◌}
+use Rattle.std.specs.String.{string_eq}
+use Rattle.lru.specs.LruCache.{lru_cache, put_entries}
+use Rattle.http_cache_shelf.specs.Size.{replaced}
+use Rattle.http_cache_shelf.proofs.HeldLemmas.{held-as, held-put, nothing}
 use Rattle.http_cache_shelf.proofs.MapLemmas.{new-on-top}
 use Rattle.http_cache_shelf.proofs.TextLemmas.{texts-put}
 use Rattle.http_cache_shelf.proofs.memory.map.put_key.Goals as goal
 
 pub returns-clause-ok : goal.returns-clause-ok
-returns-clause-ok c = rw c.in_ok-put.ensures.entries (new-on-top c.args.kept.now c.args.key c.args.list c.requires)
+returns-clause-ok c = rw c.in_ok-put.ensures.entries (new-on-top c.args.kept.now c.args.key c.args.list c.requires.none)
 
 pub returns-clause-texts : goal.returns-clause-texts
 returns-clause-texts c = rw c.in_ok-put.ensures.entries (texts-put c.args.kept.now c.args.key c.args.list)
+
+pub returns-clause-held : goal.returns-clause-held
+returns-clause-held c =
+    let held = c.args.held.now in
+    let map = c.args.kept.now in
+    let b = c.amount-added.result in
+    let few : length map.entries < 2 ^ 63 = omega (arith, c.len-length.ensures.len, c.len-length.ensures.fits) in
+    held-as c.change.new.self (replaced held nothing b) c.put.new.self (lru_cache (put_entries string_eq map c.args.key c.args.list) map.cap)
+    (c.change.ensures ∙ ap (λ n. replaced held n b) c.none.ensures) c.in_ok-put.ensures.entries
+    (held-put held b map c.args.key c.args.list c.requires.held c.requires.none few c.amount-added.ensures.amount)

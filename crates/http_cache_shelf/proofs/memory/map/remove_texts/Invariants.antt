@@ -2,7 +2,8 @@
 use Rattle.std.proofs.Common.{map, take}
 use Rattle.http_cache_shelf.specs.Shelf.{RemovesThese}
 use Rattle.http_cache_shelf.specs.Target.{text_of}
-use Rattle.http_cache_shelf.specs.Memory.{stored_under, KeepsTexts}
+use Rattle.http_cache_shelf.specs.Memory.{stored_under, KeepsTexts, IsHeld}
+use Rattle.http_cache_shelf.specs.Size.{IsAtMost}
 use Rattle.http_cache_shelf.proofs.memory.map.remove_texts.Given as goal
 
 abbrev pub invariant-loop-target : goal.invariant-loop-target
@@ -10,3 +11,5 @@ invariant-loop-target l =
     RemovesThese (map text_of (take l.target-index l.targets)) (stored_under l.fn.kept.entries)
     (stored_under l.kept.entries)
     × KeepsTexts l.fn.kept.entries l.kept.entries
+    × IsHeld l.held l.kept
+    × IsAtMost l.held l.fn.held

@@ -5,7 +5,11 @@ use Rattle.std.specs.Option.{option_copied_mut, option_map_or}
 use Rattle.http_cache_shelf.specs.Shelf.{renewed, has_id}
 use Rattle.http_cache_shelf.specs.declared.memory.list.StoredList.{StoredList}
 use Rattle.http_cache_shelf.specs.Memory.{all_seen, is_text}
-use Rattle.http_cache_shelf.proofs.MapLemmas.{stored-changed, written-last_used}
+use Rattle.http_cache_shelf.proofs.MapLemmas.{stored-changed}
+use Rattle.http_cache_shelf.proofs.BoundsLemmas.{first-written}
+use Rattle.http_cache_shelf.proofs.HeldLemmas.{found-less, held-written, less-as, replaced-equal}
+use Rattle.http_cache_shelf.specs.Size.{replaced}
+use Rattle.http_cache_shelf.proofs.ListLemmas.{renewed-none}
 use Rattle.http_cache_shelf.proofs.TextLemmas.{texts-written}
 use Rattle.http_cache_shelf.proofs.memory.map.set_policy.Goals as goal
 
@@ -15,15 +19,15 @@ returns-in-Some-clause-stored c =
     let es = c.args.kept.now.entries in
     let found : lookup (is_text text) es ≡ Some c.in-Some.list.now =
     sym c.get_mut.ensures.value ∙ ap option_copied_mut c.in-Some.is in
-    stored-changed text es c.in-Some.list.now c.set_policy.new.self (renewed c.args.id.0 c.args.policy) found c.set_policy.ensures.stored
+    stored-changed text es c.in-Some.list.now c.set_policy-was_stored.new.self (renewed c.args.id.0 c.args.policy) found c.set_policy-was_stored.ensures.stored
 
 pub returns-in-Some-clause-first : goal.returns-in-Some-clause-first
-returns-in-Some-clause-first c =
+returns-in-Some-clause-first c = λ _.
     let text = c.args.text.now in
     let es = c.args.kept.now.entries in
     let found : lookup (is_text text) es ≡ Some c.in-Some.list.now =
     sym c.get_mut.ensures.value ∙ ap option_copied_mut c.in-Some.is in
-    written-last_used text es c.in-Some.list.now c.set_policy.new.self found
+    first-written text es c.in-Some.list.now c.set_policy-was_stored.new.self found
 
 pub returns-in-Some-clause-was_stored : goal.returns-in-Some-clause-was_stored
 returns-in-Some-clause-was_stored c =
@@ -31,7 +35,39 @@ returns-in-Some-clause-was_stored c =
     let es = c.args.kept.now.entries in
     let found : lookup (is_text text) es ≡ Some c.in-Some.list.now =
     sym c.get_mut.ensures.value ∙ ap option_copied_mut c.in-Some.is in
-    c.set_policy.ensures.was_stored ∙ sym (ap (λ (o : Option StoredList). has_id c.args.id.0 (option_map_or all_seen o [])) found)
+    c.set_policy-was_stored.ensures.was_stored ∙ sym (ap (λ (o : Option StoredList). has_id c.args.id.0 (option_map_or all_seen o [])) found)
 
 pub returns-in-Some-clause-texts : goal.returns-in-Some-clause-texts
-returns-in-Some-clause-texts c = texts-written (is_text c.args.text.now) c.args.kept.now.entries c.set_policy.new.self
+returns-in-Some-clause-texts c = texts-written (is_text c.args.text.now) c.args.kept.now.entries c.set_policy-was_stored.new.self
+
+pub change-requires-clause-held : goal.change-requires-clause-held
+change-requires-clause-held c =
+    let test = is_text c.args.text.now in
+    let held = c.args.held.now in
+    let map = c.args.kept.now in
+    let v = c.in-Some.list.now in
+    let found : lookup test map.entries ≡ Some v = sym c.get_mut.ensures.value ∙ ap option_copied_mut c.in-Some.is in
+    found-less test held map c.requires.held v c.amount-before.result found c.amount-before.ensures.amount
+
+pub returns-in-Some-clause-held : goal.returns-in-Some-clause-held
+returns-in-Some-clause-held c =
+    let test = is_text c.args.text.now in
+    let held = c.args.held.now in
+    let map = c.args.kept.now in
+    let v = c.in-Some.list.now in
+    let found : lookup test map.entries ≡ Some v = sym c.get_mut.ensures.value ∙ ap option_copied_mut c.in-Some.is in
+    rw c.change.ensures (held-written test held map c.requires.held v c.amount-before.result found c.amount-before.ensures.amount c.set_policy-was_stored.new.self c.amount.result c.amount.ensures.amount)
+
+pub returns-in-Some-clause-refused : goal.returns-in-Some-clause-refused
+returns-in-Some-clause-refused c = λ refused.
+    let test = is_text c.args.text.now in
+    let held = c.args.held.now in
+    let map = c.args.kept.now in
+    let v = c.in-Some.list.now in
+    let found : lookup test map.entries ≡ Some v = sym c.get_mut.ensures.value ∙ ap option_copied_mut c.in-Some.is in
+    let before = found-less test held map c.requires.held v c.amount-before.result found c.amount-before.ensures.amount in
+    let same = c.set_policy-was_stored.ensures.stored
+    ∙ renewed-none c.args.id.0 c.args.policy (all_seen v) (sym c.set_policy-was_stored.ensures.was_stored ∙ refused) in
+    less-as c.change.new.self (replaced held c.amount-before.result c.amount.result) held c.change.ensures
+    (replaced-equal held c.amount-before.result c.amount.result (all_seen v) (all_seen c.set_policy-was_stored.new.self) before
+    c.amount-before.ensures.amount c.amount.ensures.amount same)

@@ -8,6 +8,5 @@ use Rattle.http_cache_shelf.proofs.memory.list.StoredList.remove.Goals as goal
 
 pub returns-clause-stored : goal.returns-clause-stored
 returns-clause-stored c =
-    ap (λ v. map seen_of v.items) c.count_removed.ensures
-    ∙ ap (map seen_of) c.drop_ids.ensures.stored
+    ap (map seen_of) c.drop_ids.ensures.stored
     ∙ sym (filter-seen_of (λ (r : StoredSeen). not (list_any (λ one. nat_eq r.id one.0) c.args.ids.now)) c.args.self.now.responses.items)

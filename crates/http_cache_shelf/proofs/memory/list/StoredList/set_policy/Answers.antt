@@ -34,5 +34,5 @@ returns-clause-stored c =
     let test = λ (s : StoredResponse). nat_eq s.id.0 c.args.id.0 in
     let at : position test items ≡ Some c.in-Some.at =
     ap (position test) (sym c.as_slice.ensures.value) ∙ sym c.index_of.ensures ∙ c.in-Some.is in
-    renewed-first c.args.id.0 c.args.policy items c.set_policy_at-before.new.responses.items c.in-Some.at at
-    c.set_policy_at-before.ensures
+    renewed-first c.args.id.0 c.args.policy items c.set_policy_at.new.responses.items c.in-Some.at at
+    c.set_policy_at.ensures

@@ -2,6 +2,5 @@
 use Rattle.http_cache_shelf.proofs.ListLemmas.{left-seen}
 use Rattle.http_cache_shelf.proofs.memory.list.StoredList.shorten.Goals as goal
 
-pub returns : goal.returns
-returns c =
-    rw c.count_removed.ensures (left-seen c.args.stay c.args.self.now.responses.items c.drop_until.new.responses.items c.drop_until.ensures)
+pub returns-clause-left : goal.returns-clause-left
+returns-clause-left c = left-seen c.args.stay c.args.self.now.responses.items c.drop_until.new.responses.items c.drop_until.ensures.left

@@ -6,13 +6,7 @@ use Rattle.http_cache_shelf.specs.Memory.{seen_of}
 use Rattle.http_cache_shelf.proofs.ListLemmas.{filter-seen_of}
 use Rattle.http_cache_shelf.proofs.memory.list.StoredList.sweep.Goals as goal
 
-pub returns-then-len-before : goal.returns-then-len-before
-returns-then-len-before c =
-    ap (map seen_of) c.drop_unusable.ensures
-    ∙ sym (filter-seen_of (λ (r : StoredSeen). can_be_used_again r.exchange c.args.now.nanosecond) c.args.self.now.responses.items)
-
 pub returns : goal.returns
 returns c =
-    ap (λ v. map seen_of v.items) c.count_removed.ensures
-    ∙ ap (map seen_of) c.drop_unusable.ensures
+    ap (map seen_of) c.drop_unusable.ensures
     ∙ sym (filter-seen_of (λ (r : StoredSeen). can_be_used_again r.exchange c.args.now.nanosecond) c.args.self.now.responses.items)

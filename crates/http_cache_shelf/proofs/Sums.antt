@@ -1,0 +1,31 @@
+-- What some responses count for, by any measure of one response.
+use Rattle.std.proofs.Common.{◌≤◌, ◌≡◌, arith, ℕ, zero, suc, ◌+◌, Bool, true, false, List, [], ◌∷◌, ◌++◌, take, length, refl, ap, ◌∙◌}
+use Rattle.std.specs.List.{filter, sum_by}
+use Rattle.std.proofs.lemmas.List.Sums.{sum_by-append, sum_by-cons}
+use Rattle.http_cache_shelf.specs.Shelf.{StoredSeen}
+use Rattle.http_cache_shelf.specs.Size.{one}
+
+pub ones : (xs : List StoredSeen) → sum_by one xs ≡ length xs
+ones [] = refl
+ones (x ∷ xs) = sum_by-cons one x xs ∙ omega (arith, ones xs)
+
+module _ (g : StoredSeen → ℕ) where
+  pub filter-less : (p : StoredSeen → Bool) (xs : List StoredSeen) → sum_by g (filter p xs) ≤ sum_by g xs
+  filter-less p [] = omega arith
+  filter-less p (x ∷ xs) =
+      (elim (p x) as (λ b. p x ≡ b → sum_by g (filter p (x ∷ xs)) ≤ sum_by g (x ∷ xs)) [
+        | true ↦ λ q. rw q (omega (arith, filter-less p xs, sum_by-cons g x xs, sum_by-cons g x (filter p xs)))
+        | false ↦ λ q. rw q (omega (arith, filter-less p xs, sum_by-cons g x xs))
+      ]) refl
+
+  pub front-less : (all xs ys : List StoredSeen) → all ≡ xs ++ ys → sum_by g xs ≤ sum_by g all
+  front-less all xs ys h =
+      let parts : sum_by g all ≡ sum_by g xs + sum_by g ys = ap (sum_by g) h ∙ sum_by-append g xs ys in
+      omega arith
+
+  -- responses that are no more than the first ones count for no more
+  pub few-less : (n : ℕ) (xs ys : List StoredSeen) → length xs ≤ n → sum_by g xs ≤ sum_by g (take n (xs ++ ys))
+  few-less n [] ys h = omega arith
+  few-less zero (x ∷ xs) ys h = absurd (let no : ⊥ = omega arith in no)
+  few-less (suc n) (x ∷ xs) ys h =
+      omega (arith, few-less n xs ys (omega arith), sum_by-cons g x xs, sum_by-cons g x (take n (xs ++ ys)))
