@@ -1,5 +1,5 @@
 -- What is read of a row.
-use Rattle.std.specs.Prelude.{◌≡◌, ℕ, ℤ, List, IsUtf8}
+use Rattle.std.specs.Prelude.{◌≡◌, ℕ, ℤ, List}
 use Rattle.sqlite.specs.Order.{Row, column}
 use Rattle.sqlite.specs.declared.types.Value.TheVariants.{Int, Text, Blob}
 use Rattle.http_cache_semantics.specs.Exchange.{Exchange}

@@ -132,13 +132,24 @@ fn number_in(rows: &[Row]) -> Result<i64, Error> {
     }
 }
 
-/// Returns the greatest id that was ever given.
-pub(crate) fn last_id<S: Alter>(conn: &mut Connection<S>) -> Result<i64, Error> {
+fn last_given<S: Alter>(conn: &mut Connection<S>) -> Result<i64, Error> {
     let rows = conn.query_all(
         "SELECT seq FROM sqlite_sequence WHERE name = 'response'",
         &[],
     )?;
     number_in(rows.as_slice())
+}
+
+fn last_stored<S: Alter>(conn: &mut Connection<S>) -> Result<i64, Error> {
+    let rows = conn.query_all("SELECT max(id) FROM response", &[])?;
+    number_in(rows.as_slice())
+}
+
+/// Returns the greatest id that was ever given. That is what sqlite has counted, unless another program
+/// has changed the count.
+pub(crate) fn last_id<S: Alter>(conn: &mut Connection<S>) -> Result<i64, Error> {
+    let given = last_given(conn)?;
+    Ok(given.max(last_stored(conn)?))
 }
 
 /// Returns the number of the last use of a stored response.
