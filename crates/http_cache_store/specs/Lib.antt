@@ -1,6 +1,4 @@
--- What a store keeps of responses, and what it gives back.
-pub mod Key
+-- What a store writes to its file, and what it reads from it.
 pub mod Text
 pub mod Row
 pub mod Statements
-pub mod Store

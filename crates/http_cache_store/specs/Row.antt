@@ -1,12 +1,13 @@
 -- What is read of a row.
-use Rattle.std.specs.Prelude.{◌≡◌, ℕ, ℤ, List, IsUtf8}
+use Rattle.std.specs.Prelude.{◌≡◌, ℕ, ℤ, List}
 use Rattle.sqlite.specs.Order.{Row, column}
 use Rattle.sqlite.specs.declared.types.Value.TheVariants.{Int, Text, Blob}
 use Rattle.http_cache_semantics.specs.Exchange.{Exchange}
 use Rattle.http_cache_semantics.specs.Stored.{ReadsBack, with_target}
+use Rattle.http_cache_shelf.specs.Target.{text_of}
 use Rattle.http_cache_store.specs.declared.row.Found.{Found}
-use Rattle.http_cache_store.specs.declared.row.Found.TheVariants.{Response, Malformed}
-use Rattle.http_cache_store.specs.Text.{IsReadAs, IsTextOf}
+use Rattle.http_cache_store.specs.declared.row.Found.TheVariants.{Response, Unreadable}
+use Rattle.http_cache_store.specs.Text.{IsTextOf}
 
 -- the policy is the one that the text was written for, itself where its target reads back, and else
 -- but for its target
@@ -14,25 +15,20 @@ pub record IsPolicyOf (text : List ℕ) (policy : Exchange) : Type 0 where
   pub restored : (e : Exchange) → IsTextOf e text → policy ≡ with_target e policy.target
   pub same : (e : Exchange) → IsTextOf e text → ReadsBack e e → policy ≡ e
 
--- the row shows an id, the text of a policy and a body, in this order
-pub record IsRowOf (row : Row) (id : ℤ) (text body : List ℕ) : Type 0 where
+-- the row shows an id, a target, the text of a policy and a body, in this order
+pub record IsRowOf (row : Row) (id : ℤ) (target text body : List ℕ) : Type 0 where
   pub id_is : column row 0 ≡ Int id
-  pub text_is : column row 1 ≡ Text text
-  pub body_is : column row 2 ≡ Blob body
+  pub target_is : column row 1 ≡ Text target
+  pub text_is : column row 2 ≡ Text text
+  pub body_is : column row 3 ≡ Blob body
 
--- the response is of the row: its id, the policy of its text, and its own body
-pub record IsResponseOf (row : Row) (id : ℤ) (policy : Exchange) (body : List ℕ) : Type 0 where
+-- the response is of the row: its id, its target, the policy of its text, and its own body
+pub record IsResponseOf (row : Row) (id : ℤ) (target : List ℕ) (policy : Exchange) (body : List ℕ) : Type 0 where
   pub text : List ℕ
-  pub columns : IsRowOf row id text body
+  pub columns : IsRowOf row id target text body
   pub policy_is : IsPolicyOf text policy
-
--- the row has the id, and no text of a stored policy with a body
-pub record IsDamaged (row : Row) (id : ℤ) : Type 0 where
-  pub id_is : column row 0 ≡ Int id
-  pub unreadable : (text body : List ℕ) → IsRowOf row id text body → IsUtf8 text
-      → (e : Exchange) → IsReadAs text e → ⊥
 
 -- what was found is what the row holds
 abbrev pub IsReadFrom : Row → Found → Type 0
-IsReadFrom row (Response id policy body) = IsResponseOf row id policy body.items
-IsReadFrom row (Malformed id) = IsDamaged row id
+IsReadFrom row (Response id target policy body) = IsResponseOf row id (text_of target) policy body
+IsReadFrom row (Unreadable id) = column row 0 ≡ Int id

@@ -1,51 +1,57 @@
-//! Why a call was refused.
+//! Why a call of a store was refused.
 ghost use Rattle.std.specs.Prelude.{◌≡◌};
-ghost use Rattle.http_cache_semantics.specs.declared.CacheError.TheVariants.{Memory};
-ghost use Rattle.http_cache_store.specs.declared.error.StoreError.TheVariants.{Cache, Sqlite};
+ghost use Rattle.http_cache_store.specs.declared.error.StoreError.TheVariants.{Memory};
 
-use http_cache_semantics::CacheError;
+use http_cache_shelf::ShelfError;
+use sqlite::ErrorCode;
 use std::alloc::{AllocError, AllocFailed};
 use thiserror::Error;
 
-/// Why a call was refused.
+/// Why a call of a store was refused.
 #[derive(Clone, Copy, Debug, PartialEq, Eq, Error)]
 pub enum StoreError {
-    /// The cache was refused something.
-    #[error("{0}")]
-    Cache(CacheError),
+    /// Out of memory.
+    #[error("out of memory")]
+    Memory,
+    /// The file is a database, but none of a store that this version reads.
+    #[error("the file is no store of responses of a known format")]
+    Format,
     /// sqlite refused a statement, or the disk failed.
     #[error("{0}")]
     Sqlite(sqlite::Error),
 }
 
-impl From<CacheError> for StoreError {
-    ghost from_gives = { λ cause e. e ≡ Cache cause };
-
-    fn from(cause: CacheError) -> StoreError {
-        StoreError::Cache(cause)
+impl StoreError {
+    /// Returns the error by which a shelf reports this one.
+    pub(crate) fn on_shelf(self) -> ShelfError {
+        match self {
+            StoreError::Memory => ShelfError::Memory,
+            StoreError::Format | StoreError::Sqlite(_) => ShelfError::Failed,
+        }
     }
 }
 
 impl From<sqlite::Error> for StoreError {
-    ghost from_gives = { λ cause e. e ≡ Sqlite cause };
-
     fn from(cause: sqlite::Error) -> StoreError {
-        StoreError::Sqlite(cause)
+        match cause {
+            sqlite::Error::SqliteFailure(ErrorCode::OutOfMemory) => StoreError::Memory,
+            _ => StoreError::Sqlite(cause),
+        }
     }
 }
 
 impl From<AllocError> for StoreError {
-    ghost from_gives = { λ _ e. e ≡ Cache Memory };
+    ghost from_gives = { λ _ e. e ≡ Memory };
 
     fn from(_e: AllocError) -> StoreError {
-        StoreError::Cache(CacheError::Memory)
+        StoreError::Memory
     }
 }
 
 impl<T: Drop> From<AllocFailed<T>> for StoreError {
-    ghost from_gives = { λ _ e. e ≡ Cache Memory };
+    ghost from_gives = { λ _ e. e ≡ Memory };
 
     fn from(_e: AllocFailed<T>) -> StoreError {
-        StoreError::Cache(CacheError::Memory)
+        StoreError::Memory
     }
 }

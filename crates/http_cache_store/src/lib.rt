@@ -1,13 +1,23 @@
-//! Responses that outlive the process, with their policies, in sqlite: a use of
-//! `http_cache_semantics`, to copy.
+//! Stored responses that outlive the process: a [`Store`] is a shelf of `http_cache_shelf` that keeps
+//! a journal of its changes in a sqlite file.
+//!
+//! Look-ups are answered from memory. Each change is written to the file before it is made in memory,
+//! so the modules below know either the file (`format`, `statements`, `journal`) or both (`load`, `store`).
 #![tactic(auto)]
 
+pub(crate) mod convert;
 pub mod error;
-pub mod key;
-pub mod row;
+pub(crate) mod format;
+pub(crate) mod journal;
+pub(crate) mod load;
+pub mod options;
+pub(crate) mod record;
+pub(crate) mod row;
+pub(crate) mod statements;
 pub mod store;
-pub mod text;
+pub(crate) mod target;
+pub(crate) mod text;
 
 pub use error::StoreError;
-pub use row::Found;
+pub use options::{Durability, StoreOptions};
 pub use store::Store;

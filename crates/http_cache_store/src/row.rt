@@ -6,33 +6,33 @@ ghost use Rattle.http_cache_store.specs.Row.{IsPolicyOf, IsReadFrom};
 ghost use Rattle.http_cache_store.specs.Text.{IsReadAs};
 
 use crate::error::StoreError;
+use crate::target::target_of;
 use crate::text::policy_of;
+use bytes::Bytes;
 use http_cache_semantics::{CacheError, CachePolicy};
+use http_cache_shelf::Target;
 use sqlite::types::FromSql;
 use sqlite::{Error, ErrorCode, Row};
 use std::alloc::Global;
 
-/// What stands under an id.
+/// What a row holds.
 #[derive(Drop)]
-pub enum Found {
+pub(crate) enum Found {
     /// A response.
     Response {
-        /// Its id, which no other response gets.
         id: i64,
-        /// Its policy.
+        target: Target,
         policy: CachePolicy,
-        /// Its body.
-        body: Vec<u8>,
+        body: Bytes,
     },
-    /// Something that was damaged, of which no policy or no body can be read.
-    Malformed {
-        /// Its id.
+    /// Something of which no target, no policy or no body can be read.
+    Unreadable {
         id: i64,
     },
 }
 
 // None where the column has a value of another kind, or a text that isn't UTF-8.
-fn readable<T: FromSql>(row: &Row, at: usize) -> Result<Option<T>, Error>
+pub(crate) fn readable<T: FromSql>(row: &Row, at: usize) -> Result<Option<T>, Error>
     ensures some { IfOk result (λ value. IfSome value (T.FromSql.reads_as (column row.now at))) }
     ensures none { IfOk result (λ value. IfNone value
         (¬ T.FromSql.is_readable (column row.now at))) }
@@ -47,32 +47,43 @@ fn readable<T: FromSql>(row: &Row, at: usize) -> Result<Option<T>, Error>
 }
 
 // None where the text is of no policy.
-fn readable_policy(alloc: Global, text: &str) -> Result<Option<CachePolicy>, CacheError>
+pub(crate) fn readable_policy(alloc: Global, text: &str) -> Result<Option<CachePolicy>, StoreError>
     ensures some { IfOk result (λ policy. IfSome policy (IsPolicyOf text.now)) }
     ensures none { IfOk result (λ policy. IfNone policy
         ((e : Exchange) → IsReadAs text.now e → ⊥)) }
-    ensures only_memory { IsOkUnless result CacheError.Memory }
 {
     match policy_of(alloc, text) {
         Ok(policy) => Ok(Some(policy)),
         Err(CacheError::Malformed) => Ok(None),
-        Err(e) => Err(e),
+        Err(_) => Err(StoreError::Memory),
     }
 }
 
-/// What a row of an id, a policy's text and a body holds.
+/// Returns what a row of an id, a target, a policy and a body holds.
 pub(crate) fn found_in(alloc: Global, row: &Row) -> Result<Found, StoreError>
     ensures { IfOk result (IsReadFrom row.now) }
 {
     let id = row.get(0)?;
-    let Some(text) = readable::<String>(row, 1)? else {
-        return Ok(Found::Malformed { id });
+    let Some(target) = readable::<String>(row, 1)? else {
+        return Ok(Found::Unreadable { id });
     };
-    let Some(body) = readable::<Vec<u8>>(row, 2)? else {
-        return Ok(Found::Malformed { id });
+    let Some(target) = target_of(alloc, target.as_str())? else {
+        return Ok(Found::Unreadable { id });
+    };
+    let Some(text) = readable::<String>(row, 2)? else {
+        return Ok(Found::Unreadable { id });
     };
     let Some(policy) = readable_policy(alloc, text.as_str())? else {
-        return Ok(Found::Malformed { id });
+        return Ok(Found::Unreadable { id });
     };
-    Ok(Found::Response { id, policy, body })
+    let Some(body) = readable::<Vec<u8>>(row, 3)? else {
+        return Ok(Found::Unreadable { id });
+    };
+    let body = Bytes::from_vec(body)?;
+    Ok(Found::Response {
+        id,
+        target,
+        policy,
+        body,
+    })
 }

@@ -1,336 +1,214 @@
-//! Responses with their policies and bodies, in a file or in memory.
-ghost use Rattle.std.specs.Prelude.{◌≡◌, ℕ, [], ◌∷◌, Ok, nat_lt, IfOk, OnErr};
-ghost use Rattle.std.specs.List.{AllZip};
-ghost use Rattle.std.specs.Duration.{as_nanos};
-ghost use Rattle.sqlite.specs.Held.{state};
-ghost use Rattle.sqlite.specs.State.{HasCleanDisk, Executes, Shown, QueriesRow, KeepsCommit};
-ghost use Rattle.sqlite.specs.State.{Survives, CommitsBy};
-ghost use Rattle.sqlite.specs.declared.types.Value.TheVariants.{Int, Text, Blob};
-ghost use Rattle.http_cache_store.specs.Statements.{insert_text, renew_text, replace_text};
-ghost use Rattle.http_cache_store.specs.Statements.{remove_text, look_up_text, one_text};
-ghost use Rattle.http_cache_store.specs.Row.{IsReadFrom};
-ghost use Rattle.http_cache_store.specs.Store.{IsMade, insert_values, renew_values, replace_values};
-ghost use Rattle.http_cache_store.specs.Store.{WritesPolicy, CommitsPolicy, IsLookedUp, IsJudged};
-ghost use Rattle.http_cache_store.specs.Store.{may_stay};
-
+//! A shelf in memory with a journal in a file.
+//!
+//! Each method of the shelf is a few lines: the journal writes the change, and then memory has it. What
+//! is stored, as the clauses of the trait see it, is what is in memory.
 use crate::error::StoreError;
-use crate::key::filed_target;
-use crate::row::{Found, found_in};
-use crate::text::text_of;
-use http::{Method, Uri};
+use crate::format::prepare;
+use crate::journal::Journal;
+use crate::load::{last_id, last_use, load};
+use crate::options::StoreOptions;
+use bytes::Bytes;
 use http_cache_semantics::CachePolicy;
+use http_cache_shelf::{
+    Limits, MemoryShelf, ResponseId, Shelf, ShelfError, StoredResponse, Target,
+};
 use jiff::Timestamp;
-use sqlite::{Alter, Connection, File, FileStore, MemStore, Row, params};
-use std::alloc::Global;
-use std::marker::Model;
-use std::time::Duration;
+use sqlite::{Alter, Connection, File, FileStore, MemStore};
+use std::alloc::{AllocError, Global};
 
-/// Responses, each with its policy and body, under an id of its own. They are filed under the
-/// target and the method that their policies keep, and several may stand under the same.
+/// Stored responses that outlive the process.
+///
+///     let mut store = Store::open(rt, "responses.db", StoreOptions::default())?;
+///
+/// All that is stored is in memory too, and look-ups are answered from there. A changing call is written
+/// to the file first, so after an error of the file the shelf stores what it stored before.
 #[derive(Drop)]
 pub struct Store<S: Alter> {
-    conn: Connection<S>,
-    alloc: Global,
+    journal: Journal<S>,
+    memory: MemoryShelf,
+    limits: Limits,
 }
 
-impl<S: Alter> Model for Store<S> {
-    ghost use Rattle.sqlite.specs.Held.{Held, held_code};
+fn empty_shelf(rt: &HostRuntime, limits: Limits) -> Result<MemoryShelf, AllocError> {
+    MemoryShelf::new(rt.alloc(), limits)
+}
 
-    ghost Value = { Held S };
+fn journal_over<S: Alter + Drop>(
+    alloc: Global,
+    mut conn: Connection<S>,
+    options: &StoreOptions,
+) -> Result<Journal<S>, StoreError> {
+    let next_id = last_id(&mut conn)?.saturating_add(1);
+    let next_use = last_use(&mut conn)?.saturating_add(1);
+    Ok(Journal::new(alloc, conn, options, next_id, next_use))
+}
 
-    ghost coded = { held_code S.code };
-
-    ghost view = { λ s. s.conn };
+impl<S: Alter + Drop> Store<S> {
+    // A store over a connection, whose tables it makes where there are none.
+    fn over(
+        rt: &HostRuntime,
+        mut conn: Connection<S>,
+        options: StoreOptions,
+    ) -> Result<Store<S>, StoreError> {
+        prepare(rt.alloc(), &mut conn)?;
+        let mut memory = empty_shelf(rt, options.limits)?;
+        load(rt.alloc(), &mut conn, &mut memory)?;
+        let journal = journal_over(rt.alloc(), conn, &options)?;
+        memory.skip_ids_below(journal.next_number());
+        Ok(Store {
+            journal,
+            memory,
+            limits: options.limits,
+        })
+    }
 }
 
 impl Store<FileStore<File>> {
-    /// Opens the file at a path, or makes it. What one store committed, the next one that opens the
-    /// file finds, whether or not the first was closed, as long as the log beside it is there. It is
-    /// refused where sqlite's `open` is, as where another program has the file open.
-    pub fn open(rt: &HostRuntime, path: &str) -> Result<Store<FileStore<File>>, StoreError> {
-        Store::over(rt.alloc(), Connection::open(rt, path)?)
+    /// Opens the file at a path, or makes it, and reads all that is stored into memory.
+    ///
+    /// A row that can't be read is removed from the file, and so is what is over a limit. A file of the
+    /// first format is converted.
+    ///
+    /// # Errors
+    ///
+    /// Returns `Format` if the file is a database, but none of a store, or of a format of a later
+    /// version; `Memory` when out of memory; and else the error of sqlite, such as `DatabaseBusy` if
+    /// another process has the file open, `CannotOpen` if the file can't be opened or made,
+    /// `NotADatabase` or `DatabaseCorrupt` if it is no database or a damaged one, and `DiskFull` or
+    /// `SystemIoFailure` if the disk failed. A file that is refused stays as it is.
+    pub fn open(
+        rt: &HostRuntime,
+        path: &str,
+        options: StoreOptions,
+    ) -> Result<Store<FileStore<File>>, StoreError> {
+        Store::over(rt, Connection::open_with_sums(rt, path)?, options)
     }
 
-    /// Closes the file, and brings what stands in the log beside it into it.
+    /// Commits what isn't committed yet, and closes the file.
+    ///
+    /// # Errors
+    ///
+    /// Returns the error of sqlite if the disk failed, and `Memory` when out of memory.
     pub fn close(self) -> Result<(), StoreError> {
-        Ok(self.conn.close()?)
+        let Store {
+            journal,
+            memory,
+            ..
+        } = self;
+        let conn = journal.into_connection(memory.evicted())?;
+        Ok(conn.close()?)
     }
 }
 
 impl Store<MemStore> {
-    /// A store in memory, which goes with the process.
-    pub fn open_in_memory(alloc: Global) -> Result<Store<MemStore>, StoreError> {
-        Store::over(alloc, Connection::open_in_memory(alloc)?)
-    }
-}
-
-// Whether what was found may go on standing: it can be read, may be stored, and isn't too old.
-fn may_stay(found: &Found, now: Timestamp, oldest: Duration) -> bool
-    ensures { result ≡ may_stay now.nanosecond (as_nanos oldest) found.now }
-{
-    match found {
-        Found::Response { policy, .. } => {
-            policy.is_storable() && policy.age(now).as_nanos() <= oldest.as_nanos()
-        }
-        Found::Malformed { .. } => false,
-    }
-}
-
-fn found_in_all(alloc: Global, rows: &[Row]) -> Result<Vec<Found>, StoreError>
-    ensures { IfOk result (λ found. AllZip IsReadFrom rows.now found.items) }
-{
-    let mut found = Vec::new(alloc);
-    for row in rows {
-        found.push(found_in(alloc, row)?)?;
-    }
-    Ok(found)
-}
-
-impl<S: Alter + Drop> Store<S> {
-    /// A store over a connection of your own, whose table it makes where there is none.
-    pub fn over(alloc: Global, mut conn: Connection<S>) -> Result<Store<S>, StoreError>
-        ensures { IfOk result (λ store. HasCleanDisk (state S.Store store)
-            → IsMade S.Store conn store) }
-    {
-        conn.execute(
-            "CREATE TABLE IF NOT EXISTS response (id INTEGER PRIMARY KEY AUTOINCREMENT, \
-             target TEXT NOT NULL, method TEXT NOT NULL, policy TEXT NOT NULL, \
-             body BLOB NOT NULL) STRICT",
-            &[],
-        )?;
-        conn.execute(
-            "CREATE INDEX IF NOT EXISTS response_by_key ON response (target, method)",
-            &[],
-        )?;
-        Ok(Store { conn, alloc })
+    /// Returns an empty store in memory, which is lost when the process ends: for tests.
+    ///
+    /// # Errors
+    ///
+    /// Returns `Memory` when out of memory.
+    pub fn open_in_memory(
+        rt: &HostRuntime,
+        options: StoreOptions,
+    ) -> Result<Store<MemStore>, StoreError> {
+        Store::over(rt, Connection::open_in_memory(rt.alloc())?, options)
     }
 }
 
 impl<S: Alter> Store<S> {
-    #[tactic(auto, using(crate::proofs::StoreLemmas::failed_keeps))]
-    fn insert_row(
+    /// Returns how many responses are stored.
+    pub fn len(&self) -> usize {
+        self.memory.len()
+    }
+
+    /// Returns whether no response is stored.
+    pub fn is_empty(&self) -> bool {
+        self.memory.is_empty()
+    }
+
+    /// Returns how many bytes the heads and bodies of the stored responses have together.
+    pub fn size(&self) -> u64 {
+        self.memory.size()
+    }
+
+    /// Returns how much is stored at most.
+    pub fn limits(&self) -> Limits {
+        self.limits
+    }
+
+    /// Returns why the file refused a call, the last one that it refused, or None if it refused none.
+    pub fn fault(&self) -> Option<StoreError> {
+        self.journal.fault()
+    }
+}
+
+impl<S: Alter> Shelf for Store<S> {
+    ghost use Rattle.http_cache_shelf.specs.contracts.memory.MemoryShelfShelf.TheImpl.Laws.{ids_below-law};
+
+    ghost stored = { λ s. ⟦<MemoryShelf as Shelf>⟧.stored s.memory };
+
+    ghost next_id = { λ s. ⟦<MemoryShelf as Shelf>⟧.next_id s.memory };
+
+    ghost is_read = { λ s. ⟦<MemoryShelf as Shelf>⟧.is_read s.memory };
+
+    ghost ids_below = { λ s. ids_below-law s.memory };
+
+    fn look_up(&mut self, alloc: Global, target: &Target) -> Result<(), ShelfError> {
+        self.memory.look_up(alloc, target)
+    }
+
+    fn found(&self, target: &Target) -> &[StoredResponse] {
+        self.memory.found(target)
+    }
+
+    fn body(
         &mut self,
-        target: &str,
-        method: &str,
-        policy: &str,
-        body: &[u8],
-    ) -> Result<usize, sqlite::Error>
-        ensures runs { HasCleanDisk (state S.Store self.new) → Executes insert_text
-            (Text target.now ∷ Text method.now ∷ Text policy.now ∷ Blob body.now ∷ [])
-            (state S.Store self.old) (state S.Store self.new) result }
-        ensures kept { HasCleanDisk (state S.Store self.new)
-            → OnErr result (KeepsCommit (state S.Store self.old) (state S.Store self.new)) }
-        ensures crash { Survives (state S.Store self.old) (state S.Store self.new) (CommitsBy
-            insert_text (Text target.now ∷ Text method.now ∷ Text policy.now ∷ Blob body.now ∷ [])
-            (state S.Store self.old)) }
-    {
-        self.conn.execute(
-            "INSERT INTO response (target, method, policy, body) VALUES (?1, ?2, ?3, ?4)",
-            params![target, method, policy, body],
-        )
+        alloc: Global,
+        target: &Target,
+        id: ResponseId,
+    ) -> Result<Option<Bytes>, ShelfError> {
+        self.memory.body(alloc, target, id)
     }
 
-    /// Stores a response, in front of the others of its target and method, and gives its id, which
-    /// no other gets. Whether it may be stored is for the caller to ask (`is_storable`).
-    pub fn insert(&mut self, policy: &CachePolicy, body: &[u8]) -> Result<i64, StoreError>
-        ensures inserted { HasCleanDisk (state S.Store self.new) → IfOk result (λ id. (count : ℕ)
-            × WritesPolicy insert_text policy.now (insert_values policy.now body.now)
-            (state S.Store self.old) (state S.Store self.new) count) }
-        ensures id { IfOk result (λ id. id ≡ (state S.Store self.new).last_rowid) }
-        ensures kept { HasCleanDisk (state S.Store self.new)
-            → OnErr result (KeepsCommit (state S.Store self.old) (state S.Store self.new)) }
-        ensures crash { Survives (state S.Store self.old) (state S.Store self.new)
-            (CommitsPolicy insert_text policy.now (insert_values policy.now body.now)
-            (state S.Store self.old)) }
-    {
-        let target = filed_target(self.alloc, policy.stored_target())?;
-        let text = text_of(self.alloc, policy)?;
-        let method = policy.stored_method().as_str();
-        self.insert_row(target.as_str(), method, text.as_str(), body)?;
-        Ok(self.conn.last_insert_rowid())
-    }
-
-    fn rows_of(&mut self, target: &str, method: &str) -> Result<Vec<Row>, sqlite::Error>
-        ensures { HasCleanDisk (state S.Store self.new) → IfOk result (λ rows. Shown look_up_text
-            (Text target.now ∷ Text method.now ∷ []) (state S.Store self.old)
-            (state S.Store self.new) rows.items) }
-    {
-        self.conn.query_all(
-            "SELECT id, policy, body FROM response WHERE target = ?1 AND method = ?2 ORDER BY id DESC",
-            params![target, method],
-        )
-    }
-
-    /// All that is stored for a target and a method, the newest first. A response is only for
-    /// requests that it matches: ask `matches_request` or `before_request` of its policy.
-    pub fn look_up(&mut self, target: &Uri, method: &Method) -> Result<Vec<Found>, StoreError>
-        ensures { HasCleanDisk (state S.Store self.new) → IfOk result (λ found.
-            IsLookedUp (state S.Store self.old) (state S.Store self.new)
-            target.now method.now found.items) }
-    {
-        let filed = filed_target(self.alloc, target)?;
-        let rows = self.rows_of(filed.as_str(), method.as_str())?;
-        found_in_all(self.alloc, rows.as_slice())
-    }
-
-    #[tactic(auto, using(crate::proofs::StoreLemmas::failed_keeps))]
-    fn renew_row(
+    fn put(
         &mut self,
-        id: i64,
-        target: &str,
-        method: &str,
-        policy: &str,
-    ) -> Result<usize, sqlite::Error>
-        ensures runs { HasCleanDisk (state S.Store self.new) → Executes renew_text
-            (Int id ∷ Text target.now ∷ Text method.now ∷ Text policy.now ∷ [])
-            (state S.Store self.old) (state S.Store self.new) result }
-        ensures kept { HasCleanDisk (state S.Store self.new)
-            → OnErr result (KeepsCommit (state S.Store self.old) (state S.Store self.new)) }
-        ensures crash { Survives (state S.Store self.old) (state S.Store self.new) (CommitsBy
-            renew_text (Int id ∷ Text target.now ∷ Text method.now ∷ Text policy.now ∷ [])
-            (state S.Store self.old)) }
-    {
-        self.conn.execute(
-            "UPDATE response SET target = ?2, method = ?3, policy = ?4 WHERE id = ?1",
-            params![id, target, method, policy],
-        )
+        target: &Target,
+        superseded: &[ResponseId],
+        policy: CachePolicy,
+        body: Bytes,
+    ) -> Result<Option<ResponseId>, ShelfError> {
+        let evicted = self.memory.evicted();
+        self.journal
+            .put(target, superseded, evicted, &policy, body.as_slice())?;
+        let stored = self.memory.put(target, superseded, policy, body);
+        self.journal.settle(&stored);
+        stored
     }
 
-    /// Puts a new policy over the body that stands under an id, as where a 304 renewed it (RFC
-    /// 7234, section 4.3.4), and tells whether there was one. It is filed as the new policy says.
-    pub fn renew(&mut self, id: i64, policy: &CachePolicy) -> Result<bool, StoreError>
-        ensures renewed { HasCleanDisk (state S.Store self.new) → IfOk result (λ there. (count : ℕ)
-            × WritesPolicy renew_text policy.now (renew_values id policy.now)
-            (state S.Store self.old) (state S.Store self.new) count × (there ≡ nat_lt 0 count)) }
-        ensures kept { HasCleanDisk (state S.Store self.new)
-            → OnErr result (KeepsCommit (state S.Store self.old) (state S.Store self.new)) }
-        ensures crash { Survives (state S.Store self.old) (state S.Store self.new)
-            (CommitsPolicy renew_text policy.now (renew_values id policy.now)
-            (state S.Store self.old)) }
-    {
-        let target = filed_target(self.alloc, policy.stored_target())?;
-        let text = text_of(self.alloc, policy)?;
-        let method = policy.stored_method().as_str();
-        let changed = self.renew_row(id, target.as_str(), method, text.as_str())?;
-        Ok(changed > 0)
-    }
-
-    #[tactic(auto, using(crate::proofs::StoreLemmas::failed_keeps))]
-    fn replace_row(
+    fn renew(
         &mut self,
-        id: i64,
-        target: &str,
-        method: &str,
-        policy: &str,
-        body: &[u8],
-    ) -> Result<usize, sqlite::Error>
-        ensures runs { HasCleanDisk (state S.Store self.new) → Executes replace_text
-            (Int id ∷ Text target.now ∷ Text method.now ∷ Text policy.now ∷ Blob body.now ∷ [])
-            (state S.Store self.old) (state S.Store self.new) result }
-        ensures kept { HasCleanDisk (state S.Store self.new)
-            → OnErr result (KeepsCommit (state S.Store self.old) (state S.Store self.new)) }
-        ensures crash { Survives (state S.Store self.old) (state S.Store self.new) (CommitsBy
-            replace_text
-            (Int id ∷ Text target.now ∷ Text method.now ∷ Text policy.now ∷ Blob body.now ∷ [])
-            (state S.Store self.old)) }
-    {
-        self.conn.execute(
-            "UPDATE response SET target = ?2, method = ?3, policy = ?4, body = ?5 WHERE id = ?1",
-            params![id, target, method, policy, body],
-        )
+        target: &Target,
+        superseded: &[ResponseId],
+        id: ResponseId,
+        policy: CachePolicy,
+    ) -> Result<bool, ShelfError> {
+        let evicted = self.memory.evicted();
+        self.journal
+            .renew(target, superseded, evicted, id, &policy)?;
+        self.memory.renew(target, superseded, id, policy)
     }
 
-    /// Puts a new response in the place of the one under an id, and tells whether there was one.
-    pub fn replace(
-        &mut self,
-        id: i64,
-        policy: &CachePolicy,
-        body: &[u8],
-    ) -> Result<bool, StoreError>
-        ensures replaced { HasCleanDisk (state S.Store self.new) → IfOk result (λ there. (count : ℕ)
-            × WritesPolicy replace_text policy.now (replace_values id policy.now body.now)
-            (state S.Store self.old) (state S.Store self.new) count × (there ≡ nat_lt 0 count)) }
-        ensures kept { HasCleanDisk (state S.Store self.new)
-            → OnErr result (KeepsCommit (state S.Store self.old) (state S.Store self.new)) }
-        ensures crash { Survives (state S.Store self.old) (state S.Store self.new)
-            (CommitsPolicy replace_text policy.now (replace_values id policy.now body.now)
-            (state S.Store self.old)) }
-    {
-        let target = filed_target(self.alloc, policy.stored_target())?;
-        let text = text_of(self.alloc, policy)?;
-        let method = policy.stored_method().as_str();
-        let changed = self.replace_row(id, target.as_str(), method, text.as_str(), body)?;
-        Ok(changed > 0)
+    fn remove(&mut self, target: &Target, ids: &[ResponseId]) -> Result<(), ShelfError> {
+        self.journal.remove(target, ids)?;
+        self.memory.remove(target, ids)
     }
 
-    #[tactic(auto, using(crate::proofs::StoreLemmas::failed_keeps))]
-    fn remove_row(&mut self, id: i64) -> Result<usize, sqlite::Error>
-        ensures runs { HasCleanDisk (state S.Store self.new) → Executes remove_text
-            (Int id ∷ [])
-            (state S.Store self.old) (state S.Store self.new) result }
-        ensures kept { HasCleanDisk (state S.Store self.new)
-            → OnErr result (KeepsCommit (state S.Store self.old) (state S.Store self.new)) }
-        ensures crash { Survives (state S.Store self.old) (state S.Store self.new) (CommitsBy
-            remove_text (Int id ∷ [])
-            (state S.Store self.old)) }
-    {
-        self.conn
-            .execute("DELETE FROM response WHERE id = ?1", params![id])
+    fn remove_targets(&mut self, targets: &[Target]) -> Result<(), ShelfError> {
+        self.journal.remove_targets(targets)?;
+        self.memory.remove_targets(targets)
     }
 
-    /// Removes what stands under an id, and tells whether there was something.
-    pub fn remove(&mut self, id: i64) -> Result<bool, StoreError>
-        ensures removed { HasCleanDisk (state S.Store self.new) → IfOk result (λ there. (count : ℕ)
-            × Executes remove_text (Int id ∷ []) (state S.Store self.old) (state S.Store self.new)
-            (Ok count) × (there ≡ nat_lt 0 count)) }
-        ensures kept { HasCleanDisk (state S.Store self.new)
-            → OnErr result (KeepsCommit (state S.Store self.old) (state S.Store self.new)) }
-        ensures crash { Survives (state S.Store self.old) (state S.Store self.new)
-            (CommitsBy remove_text (Int id ∷ []) (state S.Store self.old)) }
-    {
-        Ok(self.remove_row(id)? > 0)
-    }
-
-    fn row_at(&mut self, id: i64) -> Result<Row, sqlite::Error>
-        ensures { HasCleanDisk (state S.Store self.new) → QueriesRow one_text (Int id ∷ [])
-            (state S.Store self.old) (state S.Store self.new) result }
-    {
-        self.conn.query_row(
-            "SELECT id, policy, body FROM response WHERE id = ?1",
-            params![id],
-        )
-    }
-
-    // Whether what stands under an id may go on standing.
-    fn stays(&mut self, id: i64, now: Timestamp, oldest: Duration) -> Result<bool, StoreError>
-        ensures { HasCleanDisk (state S.Store self.new) → IfOk result (λ stays.
-            IsJudged (state S.Store self.old) (state S.Store self.new)
-            id now.nanosecond (as_nanos oldest) stays) }
-    {
-        let row = self.row_at(id)?;
-        let found = found_in(self.alloc, &row)?;
-        Ok(may_stay(&found, now, oldest))
-    }
-
-    fn ids(&mut self) -> Result<Vec<Row>, sqlite::Error> {
-        self.conn.query_all("SELECT id FROM response", &[])
-    }
-
-    // Removes what stands under an id where it may not go on standing, and tells whether it did.
-    fn sweep_one(&mut self, id: i64, now: Timestamp, oldest: Duration) -> Result<bool, StoreError> {
-        Ok(!self.stays(id, now, oldest)? && self.remove(id)?)
-    }
-
-    /// Removes what may not be stored, is older than a bound at a moment (RFC 7234, section 4.2.3),
-    /// or can't be read, and tells how many went. After an `Err` some may have gone.
-    pub fn sweep(&mut self, now: Timestamp, oldest: Duration) -> Result<usize, StoreError> {
-        let rows = self.ids()?;
-        let mut swept = 0;
-        for row in rows.as_slice() {
-            if self.sweep_one(row.get(0)?, now, oldest)? {
-                swept += 1;
-            }
-        }
-        Ok(swept)
+    fn sweep(&mut self, now: Timestamp) -> Result<usize, ShelfError> {
+        self.journal.sweep(now)?;
+        self.memory.sweep(now)
     }
 }

@@ -1,5 +1,5 @@
 //! A policy as JSON text.
-ghost use Rattle.std.specs.Prelude.{◌≡◌, ◌⊎◌, IfOk, IfErr, IsErrOf, IsOkUnless, string_bytes};
+ghost use Rattle.std.specs.Prelude.{◌≡◌, ◌⊎◌, IfOk, IfErr, IsErrOf, string_bytes};
 ghost use Rattle.http_cache_semantics.specs.Exchange.{Exchange};
 ghost use Rattle.http_cache_semantics.specs.Kept.{kept_exchange};
 ghost use Rattle.http_cache_semantics.specs.Stored.{ReadsBack, with_target};
@@ -7,20 +7,25 @@ ghost use Rattle.http_cache_store.specs.Text.{IsTextOf, IsReadAs};
 
 use http_cache_semantics::{CacheError, CachePolicy};
 use serde_json::Value;
-use std::alloc::Global;
+use std::alloc::{AllocError, Global};
 
-/// The text that a policy is stored as. It is refused for want of memory alone.
-pub fn text_of(alloc: Global, policy: &CachePolicy) -> Result<String, CacheError>
-    ensures text { IfOk result (λ text. IsTextOf policy.now (string_bytes text)) }
-    ensures only_memory { IsOkUnless result CacheError.Memory }
+/// Returns the text of a policy.
+pub(crate) fn text_of(alloc: Global, policy: &CachePolicy) -> Result<String, AllocError>
+    ensures { IfOk result (λ text. IsTextOf policy.now (string_bytes text)) }
 {
-    let value = policy.to_value(alloc)?;
-    Ok(value.to_string(alloc)?)
+    match policy.to_value(alloc) {
+        Ok(value) => value.to_string(alloc),
+        // A policy is refused its value only when out of memory.
+        Err(_) => Err(AllocError),
+    }
 }
 
-/// The policy of a text. `Malformed` comes only where the text isn't JSON of the stored form, and
-/// `Memory` may come in its place.
-pub fn policy_of(alloc: Global, text: &str) -> Result<CachePolicy, CacheError>
+/// Returns the policy of a text.
+///
+/// # Errors
+///
+/// Returns `Malformed` only if the text isn't JSON of the stored form, and `Memory` when out of memory.
+pub(crate) fn policy_of(alloc: Global, text: &str) -> Result<CachePolicy, CacheError>
     ensures reads { IfOk result (λ _. (e : Exchange) × IsReadAs text.now e) }
     ensures value { IfOk result (λ policy. (e : Exchange) → IsReadAs text.now e
         → policy ≡ kept_exchange e) }

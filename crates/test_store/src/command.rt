@@ -1,149 +1,154 @@
-//! What a command gives.
+//! What a command answers.
 use anyhow::anyhow;
-use http::{Method, Uri};
+use bytes::Bytes;
+use http::header::HOST;
+use http::{HeaderMap, HeaderValue, Uri};
 use http_cache_semantics::CachePolicy;
-use http_cache_store::text::{policy_of, text_of};
-use http_cache_store::{Found, Store};
+use http_cache_shelf::{ResponseId, Shelf, StoredResponse, Target};
 use jiff::Timestamp;
-use sqlite::Alter;
+use serde_json::Value;
 use std::alloc::Global;
-use std::time::Duration;
 
-fn field(line: &str, place: usize) -> anyhow::Result<&str> {
-    line.split('|').nth(place).ok_or(anyhow!("no such field"))
+fn field(line: &str, at: usize) -> anyhow::Result<&str> {
+    line.split('|').nth(at).ok_or(anyhow!("no such field"))
 }
 
-fn id_in(line: &str) -> anyhow::Result<i64> {
-    Ok(field(line, 1)?.parse::<i64>()?)
+// The headers of a request to a host, if there is one.
+fn headers_to(alloc: Global, host: &str) -> anyhow::Result<HeaderMap> {
+    let mut headers = HeaderMap::new(alloc);
+    if !host.is_empty() {
+        headers.insert(HOST, HeaderValue::from_str(alloc, host)?)?;
+    }
+    Ok(headers)
 }
 
-fn moment_in(line: &str) -> anyhow::Result<Timestamp> {
-    Ok(Timestamp::from_second(field(line, 1)?.parse::<i64>()?)?)
+// The target of `URI`, or of `URI HOST`.
+fn target_of(alloc: Global, text: &str) -> anyhow::Result<Target> {
+    let (uri, host) = text.split_once(' ').unwrap_or((text, ""));
+    let headers = headers_to(alloc, host)?;
+    Ok(Target::of(alloc, &Uri::from_str(alloc, uri)?, &headers)?)
 }
 
-// Inserts the policy of a stored form.
-fn insert_form<S: Alter>(
+fn policy_of(alloc: Global, text: &str) -> anyhow::Result<CachePolicy> {
+    Ok(CachePolicy::from_value(alloc, &Value::from_str(alloc, text)?)?)
+}
+
+fn id_of(text: &str) -> anyhow::Result<ResponseId> {
+    Ok(ResponseId::new(text.parse::<u64>()?))
+}
+
+// The ids of a list with commas, which may be empty.
+fn ids_of(alloc: Global, text: &str) -> anyhow::Result<Vec<ResponseId>> {
+    let mut ids = Vec::new(alloc);
+    for word in text.split(',') {
+        if !word.is_empty() {
+            ids.push(id_of(word)?)?;
+        }
+    }
+    Ok(ids)
+}
+
+fn put_under<S: Shelf>(
     alloc: Global,
-    store: &mut Store<S>,
-    form: &str,
-    body: &str,
-) -> anyhow::Result<i64> {
-    let policy = policy_of(alloc, form)?;
-    Ok(store.insert(&policy, body.as_bytes())?)
-}
-
-fn insert<S: Alter>(alloc: Global, store: &mut Store<S>, line: &str) -> anyhow::Result<String> {
-    let id = insert_form(alloc, store, field(line, 1)?, field(line, 2)?)?;
-    Ok(format!(in alloc; "inserted {id}")?)
-}
-
-fn response_line(
-    alloc: Global,
-    id: i64,
-    policy: &CachePolicy,
-    body: &[u8],
+    shelf: &mut S,
+    target: &Target,
+    line: &str,
 ) -> anyhow::Result<String> {
-    let body = std::str::from_utf8(body)?;
-    let text = text_of(alloc, policy)?;
-    Ok(format!(in alloc; "response {id} {text} {body}\n")?)
-}
-
-fn line_of(alloc: Global, found: &Found) -> anyhow::Result<String> {
-    match found {
-        Found::Response { id, policy, body } => response_line(alloc, *id, policy, body.as_slice()),
-        Found::Malformed { id } => Ok(format!(in alloc; "malformed {id}\n")?),
+    let superseded = ids_of(alloc, field(line, 2)?)?;
+    let body = Bytes::copy_from_slice(alloc, field(line, 4)?.as_bytes())?;
+    let policy = policy_of(alloc, field(line, 3)?)?;
+    match shelf.put(target, superseded.as_slice(), policy, body)? {
+        Some(id) => Ok(format!(in alloc; "put {}", id.number())?),
+        None => Ok(String::from_str(alloc, "not stored")?),
     }
 }
 
-fn lines_of(alloc: Global, found: &[Found]) -> anyhow::Result<String> {
+fn renew_under<S: Shelf>(
+    alloc: Global,
+    shelf: &mut S,
+    target: &Target,
+    line: &str,
+) -> anyhow::Result<String> {
+    let superseded = ids_of(alloc, field(line, 2)?)?;
+    let id = id_of(field(line, 3)?)?;
+    let policy = policy_of(alloc, field(line, 4)?)?;
+    let renewed = shelf.renew(target, superseded.as_slice(), id, policy)?;
+    Ok(format!(in alloc; "renewed {renewed}")?)
+}
+
+fn remove_under<S: Shelf>(
+    alloc: Global,
+    shelf: &mut S,
+    target: &Target,
+    line: &str,
+) -> anyhow::Result<String> {
+    let ids = ids_of(alloc, field(line, 2)?)?;
+    shelf.remove(target, ids.as_slice())?;
+    Ok(String::from_str(alloc, "removed")?)
+}
+
+fn push_response(alloc: Global, lines: &mut String, stored: &StoredResponse) -> anyhow::Result<()> {
+    let value = stored.policy.to_value(alloc)?;
+    let text = value.to_string(alloc)?;
+    let body = stored.body.as_ref().map_or(&[] as &[u8], Bytes::as_slice);
+    let body = std::str::from_utf8(body)?;
+    let line = format!(in alloc; "response {} {text} {body}\n", stored.id.number())?;
+    Ok(lines.push_str(line.as_str())?)
+}
+
+fn lines_of(alloc: Global, found: &[StoredResponse]) -> anyhow::Result<String> {
     let mut lines = String::new(alloc);
-    for found in found {
-        lines.push_str(line_of(alloc, found)?.as_str())?;
+    for stored in found {
+        push_response(alloc, &mut lines, stored)?;
     }
     lines.push_str("end")?;
     Ok(lines)
 }
 
-// What is found, a line each.
-fn look_up<S: Alter>(
-    alloc: Global,
-    store: &mut Store<S>,
-    target: &Uri,
-    method: &Method,
-) -> anyhow::Result<String> {
-    let found = store.look_up(target, method)?;
-    lines_of(alloc, found.as_slice())
+fn look_under<S: Shelf>(alloc: Global, shelf: &mut S, target: &Target) -> anyhow::Result<String> {
+    shelf.look_up(alloc, target)?;
+    lines_of(alloc, shelf.found(target))
 }
 
-fn look<S: Alter>(alloc: Global, store: &mut Store<S>, line: &str) -> anyhow::Result<String> {
-    let (method, target) = (field(line, 1)?, field(line, 2)?);
-    let method = Method::from_bytes(alloc, method.as_bytes())?;
-    let target = Uri::from_str(alloc, target)?;
-    look_up(alloc, store, &target, &method)
+fn forget<S: Shelf>(alloc: Global, shelf: &mut S, target: Target) -> anyhow::Result<String> {
+    shelf.remove_targets(&[target])?;
+    Ok(String::from_str(alloc, "forgotten")?)
 }
 
-fn renew_form<S: Alter>(
-    alloc: Global,
-    store: &mut Store<S>,
-    id: i64,
-    form: &str,
-) -> anyhow::Result<bool> {
-    let policy = policy_of(alloc, form)?;
-    Ok(store.renew(id, &policy)?)
-}
-
-fn replace_form<S: Alter>(
-    alloc: Global,
-    store: &mut Store<S>,
-    id: i64,
-    form: &str,
-    body: &str,
-) -> anyhow::Result<bool> {
-    let policy = policy_of(alloc, form)?;
-    Ok(store.replace(id, &policy, body.as_bytes())?)
-}
-
-fn renew<S: Alter>(alloc: Global, store: &mut Store<S>, line: &str) -> anyhow::Result<String> {
-    let there = renew_form(alloc, store, id_in(line)?, field(line, 2)?)?;
-    Ok(format!(in alloc; "renewed {there}")?)
-}
-
-fn replace<S: Alter>(alloc: Global, store: &mut Store<S>, line: &str) -> anyhow::Result<String> {
-    let (form, body) = (field(line, 2)?, field(line, 3)?);
-    let there = replace_form(alloc, store, id_in(line)?, form, body)?;
-    Ok(format!(in alloc; "replaced {there}")?)
-}
-
-fn remove<S: Alter>(alloc: Global, store: &mut Store<S>, line: &str) -> anyhow::Result<String> {
-    let there = store.remove(id_in(line)?)?;
-    Ok(format!(in alloc; "removed {there}")?)
-}
-
-fn sweep<S: Alter>(alloc: Global, store: &mut Store<S>, line: &str) -> anyhow::Result<String> {
-    let oldest = Duration::from_secs(field(line, 2)?.parse::<u64>()?);
-    let swept = store.sweep(moment_in(line)?, oldest)?;
+fn sweep<S: Shelf>(alloc: Global, shelf: &mut S, second: &str) -> anyhow::Result<String> {
+    let now = Timestamp::from_second(second.parse::<i64>()?)?;
+    let swept = shelf.sweep(now)?;
     Ok(format!(in alloc; "swept {swept}")?)
 }
 
-fn run<S: Alter>(alloc: Global, store: &mut Store<S>, line: &str) -> anyhow::Result<String> {
+// What a command on a target answers.
+fn run_under<S: Shelf>(
+    alloc: Global,
+    shelf: &mut S,
+    target: Target,
+    line: &str,
+) -> anyhow::Result<String> {
     match field(line, 0)? {
-        "insert" => insert(alloc, store, line),
-        "look" => look(alloc, store, line),
-        "renew" => renew(alloc, store, line),
-        "replace" => replace(alloc, store, line),
-        "remove" => remove(alloc, store, line),
-        "sweep" => sweep(alloc, store, line),
+        "put" => put_under(alloc, shelf, &target, line),
+        "look" => look_under(alloc, shelf, &target),
+        "renew" => renew_under(alloc, shelf, &target, line),
+        "remove" => remove_under(alloc, shelf, &target, line),
+        "forget" => forget(alloc, shelf, target),
         _ => Err(anyhow!("no such command")),
     }
 }
 
-/// The answer to a command, without the line feed behind it.
-pub fn answer_to<S: Alter>(
-    alloc: Global,
-    store: &mut Store<S>,
-    line: &str,
-) -> anyhow::Result<String> {
-    match run(alloc, store, line) {
+fn run<S: Shelf>(alloc: Global, shelf: &mut S, line: &str) -> anyhow::Result<String> {
+    let argument = field(line, 1)?;
+    if field(line, 0)? == "sweep" {
+        return sweep(alloc, shelf, argument);
+    }
+    run_under(alloc, shelf, target_of(alloc, argument)?, line)
+}
+
+/// Returns what a command answers, without a line feed at its end.
+pub fn answer_to<S: Shelf>(alloc: Global, shelf: &mut S, line: &str) -> anyhow::Result<String> {
+    match run(alloc, shelf, line) {
         Ok(answer) => Ok(answer),
         Err(e) => Ok(format!(in alloc; "refused: {e}")?),
     }

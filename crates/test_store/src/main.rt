@@ -1,45 +1,78 @@
-//! Runs commands on the store in the file that its argument names, a line of input each, and tells
-//! what each gave. It is for tests of what outlives the process.
+//! Runs commands on the store in a file, a line of input each, and prints what each answers: for tests of
+//! what outlives the process.
 //!
-//! | command | what it writes |
+//! The arguments are the path, how many calls are committed together (1 if left out), and how many
+//! responses are stored at most.
+//!
+//! | command | what it prints |
 //! |---|---|
-//! | `insert|POLICY|BODY` | `inserted ID` |
-//! | `look|METHOD|TARGET` | `response ID POLICY BODY` or `malformed ID`, a line each, then `end` |
-//! | `renew|ID|POLICY` | `renewed true` or `renewed false` |
-//! | `replace|ID|POLICY|BODY` | `replaced true` or `replaced false` |
-//! | `remove|ID` | `removed true` or `removed false` |
-//! | `sweep|SECOND|OLDEST` | `swept COUNT`, of what is older than so many seconds |
+//! | `put|TARGET|IDS|POLICY|BODY` | `put ID` or `not stored` |
+//! | `look|TARGET` | `response ID POLICY BODY`, a line each, then `end` |
+//! | `renew|TARGET|IDS|ID|POLICY` | `renewed true` or `renewed false` |
+//! | `remove|TARGET|IDS` | `removed` |
+//! | `forget|TARGET` | `forgotten`, after all that is stored for the target is removed |
+//! | `sweep|SECOND` | `swept COUNT` |
 //!
-//! A policy is its stored form. A command that the store refuses is answered with `refused` and the reason.
+//! A target is a URI, or a URI and a host. A policy is its stored form. IDS, with commas, are of superseded
+//! responses. If the store refuses a command, the line is `refused:` and the reason.
 #![tactic(auto)]
 
 mod command;
 
+use anyhow::anyhow;
 use command::answer_to;
-use http_cache_store::Store;
+use http_cache_shelf::Limits;
+use http_cache_store::{Durability, Store, StoreOptions};
 use sqlite::Alter;
-use std::{env, io};
+use std::alloc::Global;
+use std::env;
 
-fn path_of(rt: &HostRuntime) -> io::Result<String> {
-    let mut words = env::args(rt)?;
-    let _program = words.next();
-    match words.next() {
-        Some(word) => Ok(word),
-        None => Err(io::Error::from(io::ErrorKind::InvalidInput)),
+fn words_of(rt: &HostRuntime) -> anyhow::Result<Vec<String>> {
+    let mut words = Vec::new(rt.alloc());
+    for word in env::args(rt)? {
+        words.push(word)?;
+    }
+    Ok(words)
+}
+
+// The number of an argument, or another one where it is left out.
+fn number_at(words: &[String], at: usize, default: u32) -> anyhow::Result<u32> {
+    match words.get(at) {
+        Some(word) => Ok(word.as_str().parse::<u32>()?),
+        None => Ok(default),
     }
 }
 
+fn options_in(words: &[String]) -> anyhow::Result<StoreOptions> {
+    Ok(StoreOptions {
+        limits: Limits {
+            responses: number_at(words, 3, 10_000)? as usize,
+            ..Limits::default()
+        },
+        durability: Durability::Batched {
+            calls: number_at(words, 2, 1)?,
+        },
+    })
+}
+
 fn run_all<S: Alter>(rt: &HostRuntime, store: &mut Store<S>) -> anyhow::Result<()> {
+    println!(rt; "open {}", store.len())?;
     for line in rt.lines(rt.alloc()) {
         println!(rt; "{}", answer_to(rt.alloc(), store, line?.as_str())?)?;
     }
     Ok(())
 }
 
+fn run(rt: &HostRuntime, words: &[String]) -> anyhow::Result<()> {
+    let Some(path) = words.get(1) else {
+        return Err(anyhow!("no path"));
+    };
+    let mut store = Store::open(rt, path.as_str(), options_in(words)?)?;
+    run_all(rt, &mut store)?;
+    Ok(store.close()?)
+}
+
 fn main(rt: HostRuntime) -> anyhow::Result<()> {
-    let path = path_of(&rt)?;
-    let mut store = Store::open(&rt, path.as_str())?;
-    run_all(&rt, &mut store)?;
-    store.close()?;
-    Ok(())
+    let words = words_of(&rt)?;
+    run(&rt, words.as_slice())
 }
