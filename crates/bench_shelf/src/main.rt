@@ -1,7 +1,8 @@
 //! Tells how long a hit takes over a shelf of so many responses with bodies of 1 kB.
 //!
 //! `bench_shelf memory COUNT HITS` stores so many in memory, asks for some of them, and prints how many
-//! nanoseconds a hit took. Without arguments it prints nothing.
+//! nanoseconds a hit took. `bench_shelf fill COUNT PATH` stores so many in a file, and `bench_shelf file
+//! HITS PATH` opens it and asks. Without arguments it prints nothing.
 #![tactic(auto)]
 
 mod hits;
@@ -11,8 +12,10 @@ use hits::{answered, requests};
 use http_cache_client::Client;
 use http_cache_semantics::CacheOptions;
 use http_cache_shelf::{Limits, MemoryShelf, Shelf};
+use http_cache_store::{Durability, Store, StoreOptions};
 use pages::fill;
 use std::env;
+use std::hash::RandomState;
 use std::time::Instant;
 
 fn limits() -> Limits {
@@ -20,6 +23,13 @@ fn limits() -> Limits {
         responses: usize::MAX,
         bytes: u64::MAX,
         ..Limits::default()
+    }
+}
+
+fn options() -> StoreOptions {
+    StoreOptions {
+        limits: limits(),
+        durability: Durability::Batched { calls: 1000 },
     }
 }
 
@@ -42,7 +52,7 @@ fn tell_hits<S: Shelf + Drop>(
 }
 
 fn in_memory(rt: &HostRuntime, count: u64, hits: u64) -> anyhow::Result<()> {
-    let mut shelf = MemoryShelf::new(rt.alloc(), limits())?;
+    let mut shelf = MemoryShelf::new(rt.alloc(), RandomState::new(rt)?, limits())?;
     let begun = Instant::now(rt)?;
     let stored = fill(rt.alloc(), &mut shelf, count)?;
     let nanos = begun.elapsed(rt)?.as_nanos();
@@ -50,18 +60,38 @@ fn in_memory(rt: &HostRuntime, count: u64, hits: u64) -> anyhow::Result<()> {
     tell_hits(rt, shelf, count, hits)
 }
 
+// Stores so many pages in a new file, committed in batches.
+fn in_file(rt: &HostRuntime, count: u64, path: &str) -> anyhow::Result<()> {
+    let mut store = Store::open(rt, path, options())?;
+    let begun = Instant::now(rt)?;
+    let stored = fill(rt.alloc(), &mut store, count)?;
+    store.close()?;
+    let nanos = begun.elapsed(rt)?.as_nanos();
+    println!(rt; "stored {stored} fill_ns {nanos}")?;
+    Ok(())
+}
+
+// Opens a file, and asks for pages in it.
+fn from_file(rt: &HostRuntime, hits: u64, path: &str) -> anyhow::Result<()> {
+    let begun = Instant::now(rt)?;
+    let store = Store::open(rt, path, options())?;
+    let nanos = begun.elapsed(rt)?.as_nanos();
+    let count = store.len() as u64;
+    println!(rt; "stored {count} open_ns {nanos}")?;
+    tell_hits(rt, store, count, hits)
+}
+
 fn main(rt: HostRuntime) -> anyhow::Result<()> {
     let mut words = env::args(&rt)?;
     let _program = words.next();
-    let (Some(kind), Some(count), Some(hits)) = (words.next(), words.next(), words.next()) else {
+    let (Some(kind), Some(number), Some(last)) = (words.next(), words.next(), words.next()) else {
         return Ok(());
     };
-    let (count, hits) = (
-        count.as_str().parse::<u64>()?,
-        hits.as_str().parse::<u64>()?,
-    );
+    let number = number.as_str().parse::<u64>()?;
     match kind.as_str() {
-        "memory" => in_memory(&rt, count, hits),
+        "memory" => in_memory(&rt, number, last.as_str().parse::<u64>()?),
+        "fill" => in_file(&rt, number, last.as_str()),
+        "file" => from_file(&rt, number, last.as_str()),
         _ => anyhow::bail!("bench_shelf: no such shelf"),
     }
 }

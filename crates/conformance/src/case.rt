@@ -7,27 +7,25 @@ use http::header::CACHE_STATUS;
 use http::{HeaderMap, HeaderValue, Request, Response, StatusCode, Version, response};
 use http_cache_client::{Client, FetchError};
 use http_cache_semantics::CacheOptions;
-use http_cache_shelf::{Limits, MemoryShelf};
+use http_cache_shelf::Shelf;
 use jiff::Timestamp;
 use serde_json::{Value, json};
 use std::alloc::{AllocError, Global};
-use std::hash::RandomState;
 
 // The client's name in Cache-Status.
 const NAME: &str = "ours";
 
-// A client with nothing stored, of the kind of cache that the case names.
-fn client_for(
+// A client over a shelf, of the kind of cache that the case names.
+fn client_for<S: Shelf + Drop>(
     alloc: Global,
-    hasher: RandomState,
+    shelf: S,
     case: &Value,
-) -> Result<Client<MemoryShelf>, AllocError> {
+) -> Result<Client<S>, AllocError> {
     let options = CacheOptions {
         shared: case.get("shared").and_then(Value::as_bool).unwrap_or(true),
         ..CacheOptions::default()
     };
     let name = String::from_str(alloc, NAME)?;
-    let shelf = MemoryShelf::new(alloc, hasher, Limits::default())?;
     Ok(Client::new(shelf, options, name))
 }
 
@@ -53,9 +51,9 @@ fn without_response(alloc: Global) -> Result<Response<Bytes>, AllocError> {
 }
 
 // The answer to a request, as JSON.
-fn answer_of(
+fn answer_of<S: Shelf + Drop>(
     alloc: Global,
-    client: &mut Client<MemoryShelf>,
+    client: &mut Client<S>,
     origin: &mut ScriptedOrigin<'_>,
     request: &Request<Bytes>,
     now: Timestamp,
@@ -71,9 +69,9 @@ fn answer_of(
 }
 
 // What is done in a step, as JSON: its answer, and what the origin saw.
-fn outcome_of(
+fn outcome_of<S: Shelf + Drop>(
     alloc: Global,
-    client: &mut Client<MemoryShelf>,
+    client: &mut Client<S>,
     step: &Value,
 ) -> Result<(Value, Value), AllocError> {
     let now = time_of(step);
@@ -88,9 +86,9 @@ fn outcome_of(
     Ok((answer, origin.into_seen()))
 }
 
-fn line_of(
+fn line_of<S: Shelf + Drop>(
     alloc: Global,
-    client: &mut Client<MemoryShelf>,
+    client: &mut Client<S>,
     id: &str,
     number: u64,
     step: &Value,
@@ -100,13 +98,17 @@ fn line_of(
     line.to_string(alloc)
 }
 
-/// Returns the lines of a case, one for each of its steps.
-pub fn lines_of(alloc: Global, hasher: RandomState, case: &Value) -> Result<String, AllocError> {
+/// Returns the lines of a case over a shelf with nothing stored, one for each of its steps.
+pub fn lines_of<S: Shelf + Drop>(
+    alloc: Global,
+    shelf: S,
+    case: &Value,
+) -> Result<String, AllocError> {
     let mut lines = String::new(alloc);
+    let mut client = client_for(alloc, shelf, case)?;
     let Some(steps) = case.get("steps").and_then(Value::as_array) else {
         return Ok(lines);
     };
-    let mut client = client_for(alloc, hasher, case)?;
     let id = text_under(case, "id");
     let mut number: u64 = 0;
     for step in steps {

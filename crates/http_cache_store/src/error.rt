@@ -16,6 +16,9 @@ pub enum StoreError {
     /// The file is a database, but none of a store that this version reads.
     #[error("the file is no store of responses of a known format")]
     Format,
+    /// The system gave no random bytes, so that look-ups would have no secret keys.
+    #[error("no random bytes")]
+    NoKeys,
     /// sqlite refused a statement, or the disk failed.
     #[error("{0}")]
     Sqlite(sqlite::Error),
@@ -26,7 +29,7 @@ impl StoreError {
     pub(crate) fn on_shelf(self) -> ShelfError {
         match self {
             StoreError::Memory => ShelfError::Memory,
-            StoreError::Format | StoreError::Sqlite(_) => ShelfError::Failed,
+            StoreError::Format | StoreError::NoKeys | StoreError::Sqlite(_) => ShelfError::Failed,
         }
     }
 }

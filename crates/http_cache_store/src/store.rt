@@ -14,7 +14,8 @@ use http_cache_shelf::{
 };
 use jiff::Timestamp;
 use sqlite::{Alter, Connection, File, FileStore, MemStore};
-use std::alloc::{AllocError, Global};
+use std::alloc::Global;
+use std::hash::RandomState;
 
 /// Stored responses that outlive the process.
 ///
@@ -29,8 +30,11 @@ pub struct Store<S: Alter> {
     limits: Limits,
 }
 
-fn empty_shelf(rt: &HostRuntime, limits: Limits) -> Result<MemoryShelf, AllocError> {
-    MemoryShelf::new(rt.alloc(), limits)
+fn empty_shelf(rt: &HostRuntime, limits: Limits) -> Result<MemoryShelf, StoreError> {
+    let Ok(hasher) = RandomState::new(rt) else {
+        return Err(StoreError::NoKeys);
+    };
+    Ok(MemoryShelf::new(rt.alloc(), hasher, limits)?)
 }
 
 fn journal_over<S: Alter + Drop>(
@@ -72,7 +76,8 @@ impl Store<FileStore<File>> {
     /// # Errors
     ///
     /// Returns `Format` if the file is a database, but none of a store, or of a format of a later
-    /// version; `Memory` when out of memory; and else the error of sqlite, such as `DatabaseBusy` if
+    /// version; `NoKeys` if the system has no random bytes; `Memory` when out of memory; and else the
+    /// error of sqlite, such as `DatabaseBusy` if
     /// another process has the file open, `CannotOpen` if the file can't be opened or made,
     /// `NotADatabase` or `DatabaseCorrupt` if it is no database or a damaged one, and `DiskFull` or
     /// `SystemIoFailure` if the disk failed. A file that is refused stays as it is.
