@@ -1,5 +1,5 @@
 -- What is held is the amount of all that is stored.
-use Rattle.std.proofs.Common.{◌≡◌, ◌==◌, arith, rules, length, ap, ◌∙◌, refl}
+use Rattle.std.proofs.Common.{◌≡◌, ◌==◌, arith, length, ap, ◌∙◌, refl}
 use Rattle.std.proofs.lemmas.Bool.Decides.{nat_tests}
 use Rattle.std.specs.Map.{lookup}
 use Rattle.http_cache_shelf.specs.Memory.{all_stored, is_text}
