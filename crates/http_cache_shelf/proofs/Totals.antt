@@ -9,7 +9,9 @@ use Rattle.lru.specs.LruCache.{promoted, last_entry}
 use Rattle.lru.proofs.CallerLemmas.{Contains-lookup_entry}
 use Rattle.http_cache_shelf.specs.declared.memory.list.StoredList.{StoredList}
 use Rattle.http_cache_shelf.specs.Shelf.{StoredSeen}
-use Rattle.http_cache_shelf.specs.Memory.{all_seen, all_stored}
+use Rattle.http_cache_shelf.specs.Memory.{all_seen, all_stored, is_text}
+use Rattle.http_cache_shelf.specs.Size.{one}
+use Rattle.http_cache_shelf.proofs.Sums.{ones}
 use Rattle.http_cache_shelf.proofs.Lookups.{some-entry}
 use Rattle.http_cache_shelf.proofs.SweepLemmas.{split-last}
 
@@ -97,3 +99,16 @@ module _ {Y : Type 0} (g : StoredSeen → ℕ) where
       ap total split.2
       ∙ total-append split.0 (split.1 ∷ [])
       ∙ omega (arith, total-cons split.1 [], ap (λ (x : String Y × StoredList). own g x.1) is, ap total front)
+
+module _ {Y : Type 0} where
+  -- where all responses are none, none is stored under any text
+  pub none-stored : (text : List ℕ) (es : List (String Y × StoredList)) (o : Option StoredList) → lookup (is_text text) es ≡ o
+      → length (all_stored es) ≡ 0 → option_map_or all_seen o [] ≡ []
+  none-stored text es None h none = refl
+  none-stored text es (Some v) h none =
+      let whole = total-found one (is_text text) es v h in
+      empty (all_seen v) (omega (arith, whole, ones (all_stored es), ones (all_seen v)))
+    where
+      empty : (xs : List StoredSeen) → length xs ≡ 0 → xs ≡ []
+      empty [] e = refl
+      empty (x ∷ xs) e = absurd (let no : ⊥ = omega arith in no)

@@ -83,7 +83,9 @@ impl MemoryShelf {
 
     /// Returns whether no response is stored.
     pub fn is_empty(&self) -> bool
-        ensures { result ≡ (length (contents self.now) == 0) }
+        ensures value { result ≡ (length (contents self.now) == 0) }
+        ensures none { IsTrue result → (text : List ℕ)
+            → ⟦<MemoryShelf as Shelf>⟧.stored self.now text ≡ [] }
     {
         self.held.responses == 0
     }
