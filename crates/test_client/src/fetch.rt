@@ -67,7 +67,7 @@ fn spent() -> &'static str {
 
 #[test]
 fn what_cannot_be_used_again_is_removed(rt: HostRuntime) -> Result<(), Fail> {
-    let mut client = new_client(rt.alloc())?;
+    let mut client = new_client(&rt, rt.alloc())?;
     check(&rt, rt.alloc(), &mut client, spent())?;
     assert_eq!(rt; client.shelf().len(), 1);
     Ok(())
