@@ -1,0 +1,64 @@
+"""Prints how a hit, memory and opening grow with the responses that are stored, of 1 kB each.
+
+    shelves.py WORD..    (WORD..: the command of bench_shelf; bin/bench --scaling calls it)
+
+A row a number of responses: over a shelf in memory the microseconds of a hit, the least of five runs of 20,000 hits, by
+how much it has grown since the row before, and the greatest memory of a run; over a store the same, with the size of its
+file and how long it takes to fill it and to open it.
+"""
+import os
+import re
+import subprocess
+import sys
+import tempfile
+from pathlib import Path
+
+COMMAND = sys.argv[1:]
+HITS = "20000"
+RUNS = 5
+SIZES = [10, 100, 1000, 10000, 100000, 1000000]
+
+
+def run(*words):
+    """The numbers that bench_shelf prints, by name, and the greatest memory of the run in bytes."""
+    ran = subprocess.Popen([*COMMAND, *words], stdout=subprocess.PIPE, text=True)
+    text = ran.stdout.read()
+    _, status, used = os.wait4(ran.pid, 0)
+    if status != 0:
+        sys.exit(f"shelves.py: bench_shelf {' '.join(words)}: status {status}")
+    numbers = {name: int(number) for name, number in re.findall(r"(\w+) (\d+)", text)}
+    return numbers, used.ru_maxrss * 1024
+
+
+def least(*words):
+    """The run with the fastest hits, of which each has to be one."""
+    runs = [run(*words) for _ in range(RUNS)]
+    for numbers, _ in runs:
+        if numbers["answered"] != int(HITS):
+            sys.exit(f"shelves.py: {numbers['answered']} hits of {HITS}")
+    return min(runs, key=lambda run: run[0]["hit_ns"])
+
+
+def shown(numbers, memory, before):
+    grown = f"{numbers['hit_ns'] / before:.2f}" if before else "-"
+    return f"{numbers['hit_ns'] / 1000:.2f} | {grown} | {memory / 1e6:.0f}"
+
+
+def main():
+    print("| responses | hit in memory, µs | grown | memory, MB | hit over a store, µs | grown | memory, MB "
+          "| file, MB | filled, s | opened, s |")
+    print("|---|---|---|---|---|---|---|---|---|---|")
+    before = before_file = None
+    for size in SIZES:
+        kept, memory = least("memory", str(size), HITS)
+        with tempfile.TemporaryDirectory() as folder:
+            path = Path(folder) / "responses.db"
+            filled, _ = run("fill", str(size), str(path))
+            length = path.stat().st_size
+            opened, memory_of_file = least("file", HITS, str(path))
+        print(f"| {size} | {shown(kept, memory, before)} | {shown(opened, memory_of_file, before_file)} "
+              f"| {length / 1e6:.1f} | {filled['fill_ns'] / 1e9:.2f} | {opened['open_ns'] / 1e9:.2f} |", flush=True)
+        before, before_file = kept["hit_ns"], opened["hit_ns"]
+
+
+main()
