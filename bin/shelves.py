@@ -2,7 +2,7 @@
 
     shelves.py WORD..    (WORD..: the command of bench_shelf; bin/bench --scaling calls it)
 
-A row a number of responses: over a shelf in memory the microseconds of a hit, the least of five runs of 20,000 hits, by
+A row a number of responses: over a shelf in memory the microseconds of a hit, the least of three runs of 20,000 hits, by
 how much it has grown since the row before, and the greatest memory of a run; over a store the same, with the size of its
 file and how long it takes to fill it and to open it.
 """
@@ -15,7 +15,7 @@ from pathlib import Path
 
 COMMAND = sys.argv[1:]
 HITS = "20000"
-RUNS = 5
+RUNS = 3
 SIZES = [10, 100, 1000, 10000, 100000, 1000000]
 
 

@@ -14,6 +14,7 @@ use http_cache_semantics::CacheOptions;
 use http_cache_shelf::{Limits, MemoryShelf, Shelf};
 use http_cache_store::{Durability, Store, StoreOptions};
 use pages::fill;
+use sqlite::{Alter, File, FileStore};
 use std::env;
 use std::hash::RandomState;
 use std::time::Instant;
@@ -71,14 +72,24 @@ fn in_file(rt: &HostRuntime, count: u64, path: &str) -> anyhow::Result<()> {
     Ok(())
 }
 
-// Opens a file, and asks for pages in it.
-fn from_file(rt: &HostRuntime, hits: u64, path: &str) -> anyhow::Result<()> {
+// Asks for pages of a store.
+fn tell_store<S: Alter + Drop>(rt: &HostRuntime, store: Store<S>, hits: u64) -> anyhow::Result<()> {
+    let count = store.len() as u64;
+    println!(rt; "stored {count}")?;
+    tell_hits(rt, store, count, hits)
+}
+
+fn opened(rt: &HostRuntime, path: &str) -> anyhow::Result<Store<FileStore<File>>> {
     let begun = Instant::now(rt)?;
     let store = Store::open(rt, path, options())?;
     let nanos = begun.elapsed(rt)?.as_nanos();
-    let count = store.len() as u64;
-    println!(rt; "stored {count} open_ns {nanos}")?;
-    tell_hits(rt, store, count, hits)
+    println!(rt; "open_ns {nanos}")?;
+    Ok(store)
+}
+
+// Opens a file, and asks for pages in it.
+fn from_file(rt: &HostRuntime, hits: u64, path: &str) -> anyhow::Result<()> {
+    tell_store(rt, opened(rt, path)?, hits)
 }
 
 fn main(rt: HostRuntime) -> anyhow::Result<()> {
