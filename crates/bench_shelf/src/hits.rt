@@ -9,7 +9,7 @@ use std::alloc::Global;
 // A prime near the golden ratio of 2^32, so that successive requests are for pages far apart.
 const STEP: u64 = 2_654_435_761;
 
-/// Requests for pages among so many.
+/// Returns requests for pages among so many.
 pub fn requests(alloc: Global, count: u64, hits: u64) -> anyhow::Result<Vec<Request<Bytes>>> {
     let mut requests = Vec::new(alloc);
     for number in 0..hits {

@@ -1,4 +1,4 @@
-//! Tells how long a hit takes over a shelf of so many responses with bodies of 1 kB.
+//! Prints how long a hit takes over a shelf of so many responses with bodies of 1 kB.
 //!
 //! `bench_shelf memory COUNT HITS` stores so many in memory, asks for some of them, and prints how many
 //! nanoseconds a hit took. `bench_shelf fill COUNT PATH` stores so many in a file, and `bench_shelf file

@@ -23,7 +23,7 @@ const FIELDS: [(HeaderName, &str); 7] = [
 // The bytes of a page.
 const PAGE: [u8; 1000] = [b'x'; 1000];
 
-/// The time at which all pages are received and asked for: 2024-01-01T00:00:00Z.
+/// Returns the time at which all pages are received and asked for: 2024-01-01T00:00:00Z.
 pub fn start() -> anyhow::Result<Timestamp> {
     Ok(Timestamp::from_second(1_704_067_200)?)
 }
@@ -42,7 +42,7 @@ fn asking(alloc: Global, number: u64) -> anyhow::Result<request::Parts> {
     })
 }
 
-/// The request for a page.
+/// Returns the request for a page.
 pub fn request_for(alloc: Global, number: u64) -> anyhow::Result<Request<Bytes>> {
     Ok(Request::from_parts(asking(alloc, number)?, Bytes::new()))
 }

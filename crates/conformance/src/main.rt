@@ -1,5 +1,6 @@
 //! Runs cases of conformance through `Client::fetch`, in virtual time, over a shelf in memory or a store:
-//! JSON on standard input, and a line of JSON for each step on standard output. `tests/conformance/README.md` says what both have.
+//! JSON on standard input, and a line of JSON for each step on standard output.
+//! `tests/conformance/README.md` says what both have.
 #![tactic(auto)]
 
 mod case;

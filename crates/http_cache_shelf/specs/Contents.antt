@@ -16,7 +16,8 @@ contents s = all_stored s.kept.entries
 abbrev pub limits_of : MemoryShelf → Limits
 limits_of s = s.limits
 
--- a response of an id may be stored: the id isn't below the next one and leaves one more, and the response is within the limits if nothing else is stored
+-- a response of an id may be stored: the id isn't below the next one and leaves one more, and the response
+-- is within the limits if nothing else is stored
 pub record CanTake (s : MemoryShelf) (id : ResponseId) (h : Headers) (content : List ℕ) : Type 0 where
   pub rising : s.next_id ≤ id.0
   pub last : id.0 < 2 ^ 64 - 1

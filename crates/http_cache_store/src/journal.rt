@@ -24,7 +24,7 @@ pub(crate) struct Journal<S: Alter> {
     // How many calls are committed together, and how many of them are written.
     calls: u32,
     pending: u32,
-    // Whether calls that were told as done were lost since, so that what is in the file may be wrong.
+    // Whether calls that had returned were lost since, so that what is in the file may be wrong.
     is_behind: bool,
     // The ids and the uses that come next.
     next_id: i64,

@@ -84,7 +84,8 @@ fn is_first_spent(kept: &Kept) -> bool
 
 // Removes the text that was used last if its list is empty.
 fn tidy_first(kept: &mut Kept)
-    ensures entries { (kept.new.entries ≡ kept.old.entries) ⊎ IsFirstDropped kept.old.entries kept.new.entries }
+    ensures entries { (kept.new.entries ≡ kept.old.entries)
+        ⊎ IsFirstDropped kept.old.entries kept.new.entries }
     ensures held { (held : Held) → IsHeld held kept.old → IsHeld held kept.new }
 {
     if is_first_spent(kept) {
