@@ -1,8 +1,10 @@
 """The cases, what a program without sockets reads of them, and what it wrote."""
 import email.utils
+import io
 import json
 import re
 import time
+from http.client import HTTPException, HTTPResponse
 from pathlib import Path
 
 FOLDER = Path(__file__).resolve().parent / "cases"
@@ -123,6 +125,16 @@ def request_of(case, step, now):
     return {"method": method_of(step), "target": target, "headers": headers, "body_hex": body.hex()}
 
 
+def raw_request(request):
+    """A request as it is sent on a connection. A body without a length is sent in chunks."""
+    body = bytes.fromhex(request["body_hex"])
+    head = [f"{request['method']} {request['target']} HTTP/1.1"]
+    head += [f"{name}: {value}" for name, value in request["headers"]]
+    if has(request["headers"], "transfer-encoding") and not has(request["headers"], "content-length"):
+        body = b"".join(b"%x\r\n%b\r\n" % (len(part), part) for part in (body[:5], body[5:]) if part) + b"0\r\n\r\n"
+    return "\r\n".join([*head, "", ""]).encode("latin-1") + body
+
+
 # ---- what the origin would answer
 
 
@@ -180,14 +192,15 @@ def origin_of(case, number, now):
 
 def program_input(case, is_shared):
     """A case as the program reads it."""
-    steps = [
-        {
+    steps = []
+    for number, (step, now) in enumerate(zip(case["steps"], times(case))):
+        request = request_of(case, step, now)
+        steps.append({
             "at_ns": int(round(now * 1e9)),
-            "request": request_of(case, step, now),
+            "request": request,
+            "raw_hex": raw_request(request).hex(),
             "origin": origin_of(case, number, now),
-        }
-        for number, (step, now) in enumerate(zip(case["steps"], times(case)))
-    ]
+        })
     return {"id": case["id"], "shared": is_shared, "steps": steps}
 
 
@@ -200,10 +213,34 @@ def seen_request(written):
     }
 
 
+class Wire:
+    """The bytes of a connection, as http.client reads them."""
+
+    def __init__(self, raw):
+        self.raw = raw
+
+    def makefile(self, *_):
+        return io.BytesIO(self.raw)
+
+
+def raw_answer(raw, method):
+    """The first answer among the bytes of a connection. Interim responses are passed over."""
+    answer = HTTPResponse(Wire(raw), method=method)
+    try:
+        answer.begin()
+        body = answer.read()
+    except HTTPException as e:
+        return {"error": f"{type(e).__name__}: {e}"}
+    headers = [[name, value] for name, value in answer.getheaders()]
+    return {"status": answer.status, "headers": headers, "body": body, "is_cut_off": False}
+
+
 def seen_answer(written, method):
     """An answer as the judge sees it. A Content-Length above the body's length means that it was cut off."""
     if "error" in written:
         return {"error": written["error"]}
+    if "raw_hex" in written:
+        return raw_answer(bytes.fromhex(written["raw_hex"]), method)
     body = bytes.fromhex(written["body_hex"])
     lengths = values(written["headers"], "content-length")
     has_body = method != "HEAD" and written["status"] not in BODILESS

@@ -1,35 +1,99 @@
-//! Serves one connection on standard input and output: a caching proxy in front of a small site.
+//! Serves one connection on standard input and output: a caching proxy in front of a small site, or of an
+//! origin server at the other end of two pipes.
+//!
+//! `first_proxy [FILE]` asks the site, `first_proxy --origin TO FROM [FILE]` writes requests to TO and reads
+//! responses from FROM. Responses are stored in FILE if there is one, else in memory.
 #![tactic(auto)]
 
 mod clock;
 mod site;
+mod wire;
 
 use clock::StepClock;
-use http_cache_client::Client;
-use http_cache_proxy::Proxy;
+use http_cache_client::{Client, Origin};
+use http_cache_proxy::{ClockTime, Proxy, TimeSource};
 use http_cache_semantics::CacheOptions;
-use http_cache_shelf::{Limits, MemoryShelf};
+use http_cache_shelf::{Limits, MemoryShelf, Shelf};
+use http_cache_store::{Store, StoreOptions};
 use http_server::{Config, Connection, serve};
 use site::Site;
 use std::hash::RandomState;
-use std::io;
+use std::{env, fs};
+use wire::Wire;
 
-fn main(rt: HostRuntime) -> io::Result<()> {
+// The proxy's name in Cache-Status and Via.
+const NAME: &str = "first_proxy";
+
+// Where responses come from, and where they are stored.
+#[derive(Drop)]
+struct Words {
+    origin: Option<(String, String)>,
+    file: Option<String>,
+}
+
+fn words(rt: &HostRuntime) -> anyhow::Result<Words> {
+    let mut words = env::args(rt)?;
+    let _program = words.next();
+    match words.next() {
+        Some(word) if word.as_str() == "--origin" => match (words.next(), words.next()) {
+            (Some(to), Some(from)) => Ok(Words {
+                origin: Some((to, from)),
+                file: words.next(),
+            }),
+            _ => anyhow::bail!("first_proxy: --origin takes two files"),
+        },
+        file => Ok(Words { origin: None, file }),
+    }
+}
+
+// Serves one connection from what a shelf has and an origin server.
+fn serve_with<S: Shelf + Drop, O: Origin + Drop, C: TimeSource + Drop>(
+    rt: &HostRuntime,
+    shelf: S,
+    origin: O,
+    clock: C,
+) -> anyhow::Result<()>
+where
+    O::Error: Drop,
+{
     let alloc = rt.alloc();
-    let clock = StepClock::new();
-    let name = String::from_str(alloc, "first_proxy")?;
-    let shelf = MemoryShelf::new(alloc, RandomState::new(&rt)?, Limits::default())?;
-    let mut proxy = Proxy {
-        alloc,
-        client: Client::new(shelf, CacheOptions::default(), name),
-        origin: Site::new(alloc, &clock),
-        clock: &clock,
+    let name = String::from_str(alloc, NAME)?;
+    let client = Client::new(shelf, CacheOptions::default(), name);
+    let mut proxy = Proxy::new(alloc, client, origin, clock)?;
+    let mut connection = Connection::new(alloc, RandomState::new(rt)?, Config::default());
+    let (mut reader, mut writer) = (rt.stdin(), rt.stdout());
+    serve(&mut connection, &mut proxy, &mut reader, &mut writer)?;
+    Ok(())
+}
+
+// Serves one connection in front of what the words name.
+fn serve_over<S: Shelf + Drop>(
+    rt: &HostRuntime,
+    shelf: S,
+    origin: Option<(String, String)>,
+) -> anyhow::Result<()> {
+    let Some((to, from)) = origin else {
+        let clock = StepClock::new();
+        let site = Site::new(rt.alloc(), &clock);
+        return serve_with(rt, shelf, site, ClockTime::new(&clock));
     };
-    let mut connection = Connection::new(alloc, RandomState::new(&rt)?, Config::default());
-    serve(
-        &mut connection,
-        &mut proxy,
-        &mut rt.stdin(),
-        &mut rt.stdout(),
-    )
+    let writer = fs::create(rt, to.as_str())?;
+    let reader = fs::open(rt, from.as_str())?;
+    let wire = Wire::new(rt.alloc(), RandomState::new(rt)?, rt, reader, writer);
+    serve_with(rt, shelf, wire, ClockTime::new(rt))
+}
+
+fn main(rt: HostRuntime) -> anyhow::Result<()> {
+    let Words { origin, file } = words(&rt)?;
+    match file {
+        Some(path) => {
+            let store = Store::open(&rt, path.as_str(), StoreOptions::default())?;
+            serve_over(&rt, store, origin)
+        }
+        None => {
+            let hasher = RandomState::new(&rt)?;
+            let shelf = MemoryShelf::new(rt.alloc(), hasher, Limits::default())?;
+            serve_over(&rt, shelf, origin)
+        }
+    }
 }

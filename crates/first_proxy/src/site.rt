@@ -24,7 +24,7 @@ impl From<AllocError> for NoPage {
     }
 }
 
-/// Has two pages, and counts how often it was asked.
+/// Has three pages, of which one is cut off, and counts how often it was asked.
 #[derive(Drop)]
 pub struct Site<'a> {
     alloc: Global,
@@ -37,9 +37,11 @@ fn lines_of(target: &str) -> Option<&'static str> {
     match target {
         "/news" => Some("Cache-Control: max-age=10\nETag: \"1\"\nVary: Accept"),
         "/account" => Some(
-            "Cache-Control: no-store\nSet-Cookie: a=1\nSet-Cookie: b=2\nContent-Length: 99\n\
+            "Cache-Control: no-store\nSet-Cookie: a=1\nSet-Cookie: b=2\n\
              Date: Mon, 01 Jan 2024 00:00:00 GMT\nConnection: X-Hop\nX-Hop: 1\nKeep-Alive: timeout=5",
         ),
+        // As if the connection had ended within the body.
+        "/cut" => Some("Cache-Control: max-age=10\nContent-Length: 99"),
         _ => None,
     }
 }

@@ -1,17 +1,12 @@
 -- An answer of one of the responses that a look-up shows is of a response that is stored.
-use Rattle.std.proofs.Common.{◌≡◌, ◌<◌, ℕ, zero, suc, List, [], ◌∷◌, length, get_or, ap, sym, subst, ◌∙◌, inl, inr, arith}
+use Rattle.std.proofs.Common.{◌≡◌, ◌<◌, ℕ, zero, suc, List, [], ◌∷◌, length, get_or, ap, subst, ◌∙◌, inl, inr, arith}
 use Rattle.std.specs.Prelude.{Contains}
 use Rattle.std.proofs.lemmas.List.Elements.{Contains-append_right, Contains-get_or}
 use Rattle.http_cache_shelf.specs.Shelf.{StoredByTarget, StoredSeen, ShowsAll, IsShownAs}
 use Rattle.http_cache_shelf.specs.declared.shelf.StoredResponse.{StoredResponse}
-use Rattle.http_cache_semantics.specs.Headers.{Headers}
 use Rattle.http_cache_client.specs.Ask.{IsStoredStatus, HasStoredStatus, IsVerdictOf, IsVerdictIn}
-use Rattle.http_cache_client.specs.Ask.{IsDecisionOf, IsAnswered}
 use Rattle.http_cache_client.specs.declared.ask.Verdict.{Verdict}
 use Rattle.http_cache_client.specs.declared.ask.Verdict.TheVariants.{UseWhile, Validate, Forward}
-use Rattle.http_cache_client.specs.declared.tokens.Decision.{Decision}
-use Rattle.http_cache_client.specs.declared.tokens.Decision.TheVariants.{Answer, Stale}
-use Rattle.http_cache_client.specs.declared.tokens.Decision.TheVariants as decision
 
 -- what is shown at a position is one of what is stored
 shown_at : (all : List StoredResponse) (seen : List StoredSeen) (one : StoredResponse) (k : ℕ)
@@ -48,11 +43,3 @@ IsVerdictIn-found all stored text (UseWhile reply due) shows of =
     stored_status all stored text reply.head.status shows of
 IsVerdictIn-found all stored text (Validate validation) shows of = tt
 IsVerdictIn-found all stored text (Forward forwarded) shows of = tt
-
--- a decision that sends a stored response is an answer of it
-pub answered_by : (stored : StoredByTarget) (request : Headers) (status : ℕ) (d : Decision)
-    → HasStoredStatus stored status → IsDecisionOf status d → IsAnswered stored request d
-answered_by stored request status (Answer answer) has of = inl (subst (HasStoredStatus stored) (sym of) has)
-answered_by stored request status (Stale answer due) has of = subst (HasStoredStatus stored) (sym of.0) has
-answered_by stored request status (decision.Validate validation) has of = tt
-answered_by stored request status (decision.Forward token) has of = tt

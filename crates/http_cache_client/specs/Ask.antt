@@ -26,6 +26,13 @@ IsOfStore (Stale _ _) = ⊤
 IsOfStore (Validate _) = ⊤
 IsOfStore (Forward _) = ⊥
 
+-- it is answered, and nothing is sent
+abbrev pub IsAnswer : Decision → Type 0
+IsAnswer (Answer _) = ⊤
+IsAnswer (Stale _ _) = ⊥
+IsAnswer (Validate _) = ⊥
+IsAnswer (Forward _) = ⊥
+
 -- the request of a validation has the stored validators as its only conditions, and no field of a body
 -- or of a range (RFC 9111, section 4.3.1)
 abbrev pub IsCleanValidation : Validation → Type 0

@@ -7,7 +7,7 @@ use Rattle.http.specs.declared.response.Response.{Response}
 use Rattle.http_cache_messages.specs.Outgoing.{IsClean}
 use Rattle.http_cache_semantics.specs.Headers.{Headers, headers_of}
 use Rattle.http_cache_client.specs.declared.origin.FetchError.{FetchError}
-use Rattle.http_cache_client.specs.declared.origin.FetchError.TheVariants.{Memory, Origin}
+use Rattle.http_cache_client.specs.declared.origin.FetchError.TheVariants.{Memory, Lost, Origin}
 
 -- what was received for a request, and when, or that nothing was
 abbrev pub Outcome : Type 0
@@ -63,4 +63,11 @@ module _ {O : Type 0} (sent : Sends O) (before after : O) (request : Request (Li
 -- there is no response only for a reason
 abbrev pub HasNoResponse : {E : Type 0} → Type 0 → FetchError E → Type 0
 HasNoResponse reason Memory = ⊤
+HasNoResponse reason Lost = ⊤
 HasNoResponse reason (Origin _) = reason
+
+-- there is no memory, and nothing was sent, only if that is so
+abbrev pub IsUnsent : {E : Type 0} → Type 0 → FetchError E → Type 0
+IsUnsent unsent Memory = unsent
+IsUnsent unsent Lost = ⊤
+IsUnsent unsent (Origin _) = ⊤

@@ -1,5 +1,5 @@
 //! What is done with a request.
-ghost use Rattle.std.specs.Prelude.{◌≡◌, ℕ, true, List, IfOk, Contains};
+ghost use Rattle.std.specs.Prelude.{◌≡◌, true, List, IfOk, IfSome, Contains};
 ghost use Rattle.http.specs.Response.{head_of as head_of_response};
 ghost use Rattle.http_cache_messages.specs.Asking.{is_looked_up};
 ghost use Rattle.http_cache_shelf.specs.Shelf.{KeepsAll};
@@ -8,6 +8,7 @@ ghost use Rattle.http_cache_plans.specs.Judge.{IsSelectedOf};
 ghost use Rattle.http_cache_client.specs.Ask.{fields_of, IsOfStore, IsCleanValidation, IsCleanDecision};
 ghost use Rattle.http_cache_client.specs.Ask.{IsConditionalDecision, IsCleanVerdict, IsConditionalVerdict};
 ghost use Rattle.http_cache_client.specs.Ask.{IsVerdictOf, IsVerdictIn, IsDecisionOf, IsAnswered};
+ghost use Rattle.http_cache_client.specs.Ask.{IsAnswer, IsOnlyIfCached};
 
 use crate::client::Client;
 use crate::tokens::{Decision, Forwarded, Validation};
@@ -139,32 +140,24 @@ fn past_shelf(alloc: Global) -> Result<Forwarded, AllocError> {
     })
 }
 
-// What is done where the shelf has lost a body. It isn't inlined either.
-#[inline(never)]
-fn lost(alloc: Global) -> Result<Decision, AllocError>
-    ensures { IfOk result (λ decision. (status : ℕ) → IsDecisionOf status decision) }
-{
-    Ok(Decision::Forward(past_shelf(alloc)?))
-}
-
 impl<S: Shelf + Drop> Client<S> {
-    // Answers with a stored response, or forwards the request if the shelf has lost its body.
+    // Returns a stored response as the answer, or None if the shelf has lost its body.
     fn used(
         &mut self,
         alloc: Global,
         target: &Target,
         mut reply: Reply,
-    ) -> Result<Decision, AllocError>
+    ) -> Result<Option<Response<Bytes>>, AllocError>
         ensures kept { KeepsAll (S.stored self.old.shelf) (S.next_id self.old.shelf)
             (S.stored self.new.shelf) (S.next_id self.new.shelf) }
-        ensures used { IfOk result (IsDecisionOf reply.head.status) }
+        ensures used { IfOk result (λ answer. IfSome answer (λ sent.
+            (head_of_response sent).status ≡ reply.head.status)) }
     {
         let Some(body) = self.body_of(alloc, target, &mut reply)? else {
-            return lost(alloc);
+            return Ok(None);
         };
         let member = hit(self.name.as_str(), reply.left, None);
-        let answer = answer_of(alloc, reply.head, body, &member)?;
-        Ok(Decision::Answer(answer))
+        Ok(Some(answer_of(alloc, reply.head, body, &member)?))
     }
 
     // Answers with a stale response that is validated meanwhile.
@@ -192,12 +185,10 @@ impl<S: Shelf + Drop> Client<S> {
         Ok(Decision::Stale { answer, due })
     }
 
-    // The client's own answer to a request for a stored response only, in place of what would be done
-    // with another request.
-    fn not_cached(&self, alloc: Global, instead: Verdict) -> Result<Response<Bytes>, AllocError>
+    // The client's own answer to a request for a stored response only.
+    pub(crate) fn not_cached(&self, alloc: Global) -> Result<Response<Bytes>, AllocError>
         ensures { IfOk result (λ answer. (head_of_response answer).status ≡ 504) }
     {
-        drop(instead);
         let member = generated(self.name.as_str(), "only-if-cached");
         let head = response::Parts {
             status: StatusCode::GATEWAY_TIMEOUT,
@@ -224,10 +215,13 @@ impl<S: Shelf + Drop> Client<S> {
             → IfOk result (IsConditionalDecision (fields_of incoming.now.request.now)) }
         ensures answered { IsVerdictIn (S.stored self.old.shelf) verdict → IfOk result
             (IsAnswered (S.stored self.old.shelf) (fields_of incoming.now.request.now)) }
+        ensures only_if_cached { IsOnlyIfCached (fields_of incoming.now.request.now)
+            → IfOk result IsAnswer }
     {
         // Then nothing is sent (RFC 9111, section 5.2.1.7).
         if incoming.is_only_if_cached() {
-            return Ok(Decision::Answer(self.not_cached(alloc, verdict)?));
+            drop(verdict);
+            return Ok(Decision::Answer(self.not_cached(alloc)?));
         }
         match verdict {
             Verdict::UseWhile(reply, due) => self.used_while(alloc, target, reply, due),
@@ -250,6 +244,8 @@ impl<S: Shelf + Drop> Client<S> {
             (IsConditionalDecision (fields_of incoming.now.request.now)) }
         ensures answered { IfOk result (IsAnswered (S.stored self.old.shelf)
             (fields_of incoming.now.request.now)) }
+        ensures only_if_cached { IsOnlyIfCached (fields_of incoming.now.request.now)
+            → IfOk result IsAnswer }
     {
         let request = incoming.request();
         let target = Target::of(alloc, request.uri(), request.headers())?;
@@ -261,7 +257,11 @@ impl<S: Shelf + Drop> Client<S> {
         if let Selected::Fresh(one) = selected
             && let Some(reply) = Reply::of(alloc, one, incoming, now)?
         {
-            return self.used(alloc, &target, reply);
+            if let Some(answer) = self.used(alloc, &target, reply)? {
+                return Ok(Decision::Answer(answer));
+            }
+            let verdict = Verdict::Forward(past_shelf(alloc)?);
+            return self.not_fresh(alloc, &target, incoming, verdict);
         }
         let verdict = otherwise(alloc, selected, incoming, now)?;
         self.not_fresh(alloc, &target, incoming, verdict)
@@ -275,7 +275,7 @@ impl<S: Shelf + Drop> Client<S> {
     /// beside it is under way (RFC 5861, section 3). Cache-Status of an answer has the client's member
     /// after those of earlier caches.
     ///
-    /// If the shelf fails, the request is forwarded.
+    /// If the shelf fails, the request is forwarded, unless it says `only-if-cached`.
     ///
     /// # Errors
     ///
@@ -292,6 +292,8 @@ impl<S: Shelf + Drop> Client<S> {
             (IsConditionalDecision (fields_of request.now)) }
         ensures answered { IfOk result
             (IsAnswered (S.stored self.old.shelf) (fields_of request.now)) }
+        ensures only_if_cached { is_looked_up request.now ≡ true
+            → IsOnlyIfCached (fields_of request.now) → IfOk result IsAnswer }
         ensures kept { KeepsAll (S.stored self.old.shelf) (S.next_id self.old.shelf)
             (S.stored self.new.shelf) (S.next_id self.new.shelf) }
     {

@@ -1,5 +1,5 @@
 //! A caching client: its shelf, its name and its options.
-ghost use Rattle.std.specs.Prelude.{◌≡◌, ◌⊎◌, ℕ, List, true, IfOk, OnErr};
+ghost use Rattle.std.specs.Prelude.{◌≡◌, ◌⊎◌, ℕ, List, true, string_bytes, IfOk, OnErr};
 ghost use Rattle.http_cache_shelf.specs.Shelf.{KeepsAll, KeepsOthers};
 ghost use Rattle.http_cache_shelf.specs.Target.{text_of};
 ghost use Rattle.http_cache_plans.specs.Plan.{Stores, IsChangeOf};
@@ -36,6 +36,13 @@ impl<S: Shelf + Drop> Client<S> {
             options,
             shelf,
         }
+    }
+
+    /// Returns the name of the client in Cache-Status (RFC 9211, section 2).
+    pub fn name(&self) -> &str
+        ensures { result.now ≡ string_bytes self.now.name }
+    {
+        self.name.as_str()
     }
 
     /// Returns the shelf.

@@ -1,24 +1,27 @@
 //! Answers requests by asking an origin at most twice.
-ghost use Rattle.std.specs.Prelude.{◌≡◌, ◌⊎◌, true, false, Some, None, IfOk, IfErr, OnOk, OnErr};
+ghost use Rattle.std.specs.Prelude.{◌≡◌, ◌⊎◌, true, false, Some, None, IsSome, IfOk, IfErr, OnOk, OnErr};
 ghost use Rattle.http.specs.Response.{head_of, body_of};
 ghost use Rattle.http_cache_messages.specs.Asking.{is_looked_up};
 ghost use Rattle.http_cache_shelf.specs.Shelf.{KeepsAll, KeepsOthers};
 ghost use Rattle.http_cache_client.specs.Receive.{own_text};
 ghost use Rattle.http_cache_client.specs.Ask.{fields_of, IsOfStore, IsCleanValidation, IsCleanDecision};
-ghost use Rattle.http_cache_client.specs.Ask.{IsConditionalDecision};
+ghost use Rattle.http_cache_client.specs.Ask.{IsConditionalDecision, IsAnswer, IsOnlyIfCached};
 ghost use Rattle.http_cache_plans.specs.Plan.{IsElsewhere, HasCondition};
 ghost use Rattle.http_cache_client.specs.Fetch.{Outcome, HasSentOwn, HasSentValidation, HasSentBoth, HasSent};
-ghost use Rattle.http_cache_client.specs.Fetch.{HasSentTwiceAtMost, HasSentFor304, HasNoResponse};
+ghost use Rattle.http_cache_client.specs.Fetch.{HasSentTwiceAtMost, HasSentFor304, HasNoResponse, IsUnsent};
 
 use crate::client::Client;
 use crate::origin::{FetchError, Origin};
 use crate::tokens::{Decision, Forwarded, Received, Validation};
 use bytes::Bytes;
 use http::{Request, Response};
-use http_cache_plans::{Body, Times};
+use http_cache_fields::reading::says;
+use http_cache_messages::asking::is_looked_up;
+use http_cache_plans::{Body, Times, Why};
+use http_cache_semantics::explain::Forward;
 use http_cache_shelf::Shelf;
 use jiff::Timestamp;
-use std::alloc::Global;
+use std::alloc::{AllocError, Global};
 
 // A response whose body is here.
 fn with_bytes(response: Response<Body>) -> Response<Bytes>
@@ -39,6 +42,15 @@ fn with_body(response: Response<Bytes>) -> Response<Body>
 {
     let (head, bytes) = response.into_parts();
     Response::from_parts(head, Body::Here(bytes))
+}
+
+// A token for a request that is sent past what is stored.
+fn bypass(alloc: Global, detail: &str) -> Result<Forwarded, AllocError> {
+    let why = Why {
+        forward: Forward::Bypass,
+        detail: Some(String::from_str(alloc, detail)?),
+    };
+    Ok(Forwarded::of(None, why))
 }
 
 // Sends the request of a validation. It is a function of its own, since the prover looks into each
@@ -71,11 +83,12 @@ impl<S: Shelf + Drop> Client<S> {
             (S.stored self.new.shelf) (S.next_id self.new.shelf) }
         ensures conditional { IfOk result (λ answer. (head_of answer).status ≡ 304
             → HasCondition request.now) }
+        ensures lost { IfErr result (IsUnsent ⊥) }
     {
         match self.without_response(alloc, &mut token, request, now) {
             Ok(Some(answer)) => Ok(answer),
             Ok(None) => Err(FetchError::Origin(cause)),
-            Err(_) => Err(FetchError::Memory),
+            Err(_) => Err(FetchError::Lost),
         }
     }
 
@@ -94,6 +107,7 @@ impl<S: Shelf + Drop> Client<S> {
             × HasSentOwn O.sent origin.old origin.new request.now outcome }
         ensures no_response { IfErr result
             (HasNoResponse (HasSentOwn O.sent origin.old origin.new request.now None)) }
+        ensures lost { IfErr result (IsUnsent ⊥) }
         ensures conditional { IfOk result (λ answer. (head_of answer).status ≡ 304
             → HasCondition request.now ⊎ HasSentFor304 O.sent origin.old origin.new request.now) }
         ensures others { KeepsOthers (S.stored self.old.shelf) (S.stored self.new.shelf)
@@ -104,9 +118,10 @@ impl<S: Shelf + Drop> Client<S> {
         match origin.send(request) {
             Ok((response, received)) => {
                 let times = Times { sent, received };
-                let response = with_body(response);
-                let answer = self.accept(alloc, &mut token, request, response, times)?;
-                Ok(with_bytes(answer))
+                match self.accept(alloc, &mut token, request, with_body(response), times) {
+                    Ok(answer) => Ok(with_bytes(answer)),
+                    Err(_) => Err(FetchError::Lost),
+                }
             }
             Err(cause) => self.unanswered(alloc, token, request, cause, sent),
         }
@@ -130,6 +145,7 @@ impl<S: Shelf + Drop> Client<S> {
             ⊎ HasSentBoth O.sent origin.old origin.new request.now outcome) }
         ensures no_response { IfErr result
             (HasNoResponse (HasSent O.sent origin.old origin.new request.now None)) }
+        ensures lost { IfErr result (IsUnsent ⊥) }
         ensures conditional { IfOk result (λ answer. (head_of answer).status ≡ 304
             → HasCondition request.now ⊎ HasSentFor304 O.sent origin.old origin.new request.now) }
         ensures others { KeepsOthers (S.stored self.old.shelf) (S.stored self.new.shelf)
@@ -146,9 +162,10 @@ impl<S: Shelf + Drop> Client<S> {
             }
         };
         let times = Times { sent, received };
-        match self.receive(alloc, &mut token, request, with_body(response), times)? {
-            Received::Answer(answer) => Ok(with_bytes(answer)),
-            Received::Again(again) => self.forward(alloc, origin, request, again, received),
+        match self.receive(alloc, &mut token, request, with_body(response), times) {
+            Ok(Received::Answer(answer)) => Ok(with_bytes(answer)),
+            Ok(Received::Again(again)) => self.forward(alloc, origin, request, again, received),
+            Err(_) => Err(FetchError::Lost),
         }
     }
 
@@ -171,6 +188,8 @@ impl<S: Shelf + Drop> Client<S> {
             × HasSentOwn O.sent origin.old origin.new request.now outcome) }
         ensures no_response { IfErr result
             (HasNoResponse (HasSent O.sent origin.old origin.new request.now None)) }
+        ensures lost { IfErr result (IsUnsent ⊥) }
+        ensures unsent { IsAnswer decision → origin.new ≡ origin.old }
         ensures conditional { IsConditionalDecision (fields_of request.now) decision
             → IfOk result (λ answer. (head_of answer).status ≡ 304
             → HasCondition request.now ⊎ HasSentFor304 O.sent origin.old origin.new request.now) }
@@ -199,8 +218,9 @@ impl<S: Shelf + Drop> Client<S> {
     /// # Errors
     ///
     /// `Origin` if the last request that was sent had no response, and no stored response may be used in
-    /// its place. `Memory` if there is not enough memory. After either what is stored is as it was,
-    /// except that a response which a 304 didn't confirm is removed before the second request.
+    /// its place. `Memory` if there is not enough memory, and nothing was sent; `Lost` if there is not
+    /// enough memory after something was. After each what is stored is as it was, except that a response
+    /// which a 304 didn't confirm is removed before the second request.
     pub fn fetch<O: Origin>(
         &mut self,
         alloc: Global,
@@ -215,6 +235,9 @@ impl<S: Shelf + Drop> Client<S> {
             × HasSentOwn O.sent origin.old origin.new request.now outcome) }
         ensures no_response { IfErr result
             (HasNoResponse (HasSent O.sent origin.old origin.new request.now None)) }
+        ensures unsent { IfErr result (IsUnsent (origin.new ≡ origin.old)) }
+        ensures only_if_cached { is_looked_up request.now ≡ true
+            → IsOnlyIfCached (fields_of request.now) → origin.new ≡ origin.old }
         ensures conditional { IfOk result (λ answer. (head_of answer).status ≡ 304
             → HasCondition request.now ⊎ HasSentFor304 O.sent origin.old origin.new request.now) }
         ensures others { KeepsOthers (S.stored self.old.shelf) (S.stored self.new.shelf)
@@ -227,6 +250,95 @@ impl<S: Shelf + Drop> Client<S> {
         match self.ask(alloc, request, now) {
             Ok(Decision::Answer(answer)) => Ok(answer),
             Ok(other) => self.sent(alloc, origin, request, other, now),
+            Err(_) => Err(FetchError::Memory),
+        }
+    }
+
+    // What is answered to a request for a stored response only, or None if it is sent.
+    fn unasked(
+        &self,
+        alloc: Global,
+        request: &Request<Bytes>,
+    ) -> Result<Option<Response<Bytes>>, AllocError>
+        ensures only_if_cached { IfOk result (λ answer. is_looked_up request.now ≡ true
+            → IsOnlyIfCached (fields_of request.now) → IsSome answer) }
+    {
+        if is_looked_up(request) && says(request.headers(), "only-if-cached") {
+            return Ok(Some(self.not_cached(alloc)?));
+        }
+        Ok(None)
+    }
+
+    // The client's own request is sent past what is stored.
+    fn pass_on<O: Origin>(
+        &mut self,
+        alloc: Global,
+        origin: &mut O,
+        request: &Request<Bytes>,
+        token: &Forwarded,
+    ) -> Result<Response<Bytes>, FetchError<O::Error>>
+        ensures sent { (outcome : Outcome)
+            × HasSentOwn O.sent origin.old origin.new request.now outcome }
+        ensures no_response { IfErr result
+            (HasNoResponse (HasSentOwn O.sent origin.old origin.new request.now None)) }
+        ensures lost { IfErr result (IsUnsent ⊥) }
+        ensures others { KeepsOthers (S.stored self.old.shelf) (S.stored self.new.shelf)
+            (own_text request.now) }
+        ensures stored { S.next_id self.new.shelf ≡ S.next_id self.old.shelf }
+        ensures kept { OnErr result (KeepsAll (S.stored self.old.shelf) (S.next_id self.old.shelf)
+            (S.stored self.new.shelf) (S.next_id self.new.shelf)) }
+    {
+        match origin.send(request) {
+            Ok((response, received)) => {
+                match self.passed(alloc, token, request, with_body(response), received) {
+                    Ok(answer) => Ok(with_bytes(answer)),
+                    Err(_) => Err(FetchError::Lost),
+                }
+            }
+            Err(cause) => Err(FetchError::Origin(cause)),
+        }
+    }
+
+    /// Returns the response to a request that is sent past what is stored, as where the time isn't known:
+    /// nothing is answered from the shelf, and nothing is stored. Cache-Status says `fwd=bypass` with the
+    /// detail (RFC 9211, section 2.2).
+    ///
+    /// A response without an error to an unsafe request still removes what is stored for its targets (RFC
+    /// 9111, section 4.4). A GET or HEAD that says `only-if-cached` is answered with a 504, and nothing is
+    /// sent.
+    ///
+    /// # Errors
+    ///
+    /// As for `fetch`. What is stored is then as it was.
+    pub fn pass<O: Origin>(
+        &mut self,
+        alloc: Global,
+        origin: &mut O,
+        request: &Request<Bytes>,
+        detail: &str,
+    ) -> Result<Response<Bytes>, FetchError<O::Error>>
+    where
+        O::Error: Drop,
+        ensures sent { (origin.new ≡ origin.old) ⊎ ((outcome : Outcome)
+            × HasSentOwn O.sent origin.old origin.new request.now outcome) }
+        ensures no_response { IfErr result
+            (HasNoResponse (HasSentOwn O.sent origin.old origin.new request.now None)) }
+        ensures unsent { IfErr result (IsUnsent (origin.new ≡ origin.old)) }
+        ensures only_if_cached { is_looked_up request.now ≡ true
+            → IsOnlyIfCached (fields_of request.now) → origin.new ≡ origin.old }
+        ensures others { KeepsOthers (S.stored self.old.shelf) (S.stored self.new.shelf)
+            (own_text request.now) }
+        ensures stored { S.next_id self.new.shelf ≡ S.next_id self.old.shelf }
+        ensures kept { OnErr result (KeepsAll (S.stored self.old.shelf) (S.next_id self.old.shelf)
+            (S.stored self.new.shelf) (S.next_id self.new.shelf)) }
+    {
+        match self.unasked(alloc, request) {
+            Ok(None) => {}
+            Ok(Some(answer)) => return Ok(answer),
+            Err(_) => return Err(FetchError::Memory),
+        }
+        match bypass(alloc, detail) {
+            Ok(token) => self.pass_on(alloc, origin, request, &token),
             Err(_) => Err(FetchError::Memory),
         }
     }

@@ -6,7 +6,6 @@ ghost use Rattle.http.specs.declared.response.Response.{Response};
 use bytes::Bytes;
 use http::{Request, Response};
 use jiff::Timestamp;
-use std::alloc::AllocError;
 use std::error::Error;
 use std::fmt;
 use std::fmt::Debug;
@@ -14,8 +13,10 @@ use std::fmt::Debug;
 /// Why a request has no response.
 #[derive(Debug, PartialEq, Eq, Drop)]
 pub enum FetchError<E> {
-    /// There is not enough memory. What is stored is unchanged.
+    /// There is not enough memory, and nothing was sent. What is stored is unchanged.
     Memory,
+    /// A request was sent, and then there was not enough memory for its response.
+    Lost,
     /// The origin server was asked and gave no response, and nothing stored may be used in its place.
     Origin(E),
 }
@@ -24,23 +25,13 @@ impl<E: fmt::Display> fmt::Display for FetchError<E> {
     fn fmt<W: fmt::Write>(&self, f: &mut fmt::Formatter<W>) -> fmt::Result {
         match self {
             FetchError::Memory => write!(f, "out of memory"),
+            FetchError::Lost => write!(f, "out of memory after a request was sent"),
             FetchError::Origin(cause) => write!(f, "no response: {cause}"),
         }
     }
 }
 
 impl<E: Debug + fmt::Display + Drop> Error for FetchError<E> {}
-
-impl<E> From<AllocError> for FetchError<E> {
-    ghost use Rattle.std.specs.Prelude.{◌≡◌};
-    ghost use Rattle.http_cache_client.specs.declared.origin.FetchError.TheVariants.{Memory};
-
-    ghost from_gives = { λ _ e. e ≡ Memory };
-
-    fn from(_e: AllocError) -> FetchError<E> {
-        FetchError::Memory
-    }
-}
 
 /// Sends requests: to the origin server, or to the next cache on the way there.
 pub trait Origin {

@@ -487,8 +487,8 @@ impl<S: Shelf + Drop> Client<S> {
         Ok(answer)
     }
 
-    // The answer to a request that isn't looked up.
-    fn passed(
+    // The answer to a request that isn't looked up, or that is sent past what is stored.
+    pub(crate) fn passed(
         &mut self,
         alloc: Global,
         token: &Forwarded,

@@ -1,3 +1,2 @@
 -- The lemmas about what a proxy answers.
-pub mod FieldLemmas
-pub mod KeptLemmas
+pub mod CauseLemmas

@@ -1,125 +1,103 @@
--- What a caching proxy passes on, and what it answers.
-use Rattle.std.specs.Prelude.{◌≡◌, ◌⊎◌, ◌-◌, ℕ, ℤ, Bool, true, false, not, List, [], ◌∷◌, ◌++◌, map, filter, take, drop}
-use Rattle.std.specs.Prelude.{length, bytes_eq, codes, if◌then◌else◌}
-use Rattle.std.specs.List.{list_any}
+-- What a caching proxy does with a request.
+use Rattle.std.specs.Prelude.{◌≡◌, ◌⊎◌, ⊤, ℕ, ℤ, true, false, List, [], length, Option, Some, None}
+use Rattle.http.specs.Request.{head_of, body_of}
 use Rattle.http.specs.declared.request.Request.{Request}
 use Rattle.http.specs.declared.response.Response.{Response as Answer}
-use Rattle.http.specs.Request as req
-use Rattle.http.specs.Response.{head_of, body_of}
-use Rattle.http_header.specs.FieldValue.{FieldValue}
-use Rattle.http_header.specs.HeaderMap.{Entries, pairs}
-use Rattle.http1.specs.Fields.{Header}
+use Rattle.http_server.specs.Response.{IsResponse}
 use Rattle.http_server.specs.declared.response.Response.{Response}
-use Rattle.http_server.specs.Response.{fields, fields_of, IsResponse}
-use Rattle.http_cache_semantics.specs.Headers.{headers_of}
-use Rattle.http_cache_semantics.specs.Dates.{IsDateText}
-use Rattle.http_cache_semantics.specs.Forwarding.{forwarded_headers}
+use Rattle.http_cache_messages.specs.Asking.{is_looked_up}
 use Rattle.http_cache_shelf.specs.Shelf.{StoredByTarget, KeepsAll}
-use Rattle.http_cache_client.specs.Fetch.{Outcome, Sends, HasSentBoth, HasSentTwiceAtMost}
-use Rattle.http_cache_proxy.specs.declared.proxy.Failure.{Failure}
-use Rattle.http_cache_proxy.specs.declared.proxy.Failure.TheVariants.{Memory, NoResponse, Clock}
+use Rattle.http_cache_client.specs.Ask.{fields_of, IsOnlyIfCached}
+use Rattle.http_cache_client.specs.Fetch.{Outcome, Sends, HasSent, HasSentBoth, HasSentTwiceAtMost}
+use Rattle.http_cache_intermediary.specs.Refusal.{refusal_of}
+use Rattle.http_cache_intermediary.specs.Request.{IsForwarded}
+use Rattle.http_cache_intermediary.specs.declared.length.Content.TheVariants.{Known}
+use Rattle.http_cache_proxy.specs.Write.{IsWritten, IsFailure}
+use Rattle.http_cache_proxy.specs.declared.failure.Failure.{Failure}
+use Rattle.http_cache_proxy.specs.declared.failure.Failure.TheVariants.{Refused, Unsendable, Memory, Lost, Cut}
+use Rattle.http_cache_proxy.specs.declared.failure.Failure.TheVariants.{NoResponse}
 
--- ---- what goes on to the origin
+-- ---- what is sent on to the origin server
 
--- the request without what speaks of the connection that it came by (RFC 7230, section 6.1)
-pub record IsForwarded (request out : Request (List ℕ)) : Type 0 where
-  pub method : (req.head_of out).method ≡ (req.head_of request).method
-  pub target : (req.head_of out).uri ≡ (req.head_of request).uri
-  pub headers : headers_of (req.head_of out).headers ≡ forwarded_headers (headers_of (req.head_of request).headers)
-  pub body : req.body_of out ≡ req.body_of request
-
--- ---- what goes out to the client
-
--- the field tells the length of some body
-abbrev pub is_length : Header → Bool
-is_length field = bytes_eq field.0 (codes "content-length")
-
--- the last six bytes, or all of a shorter text
-abbrev pub last_six : List ℕ → List ℕ
-last_six text = drop (length text - 6) text
-
--- a date with GMT in place of an offset of nothing (RFC 7231, section 7.1.1.1)
-abbrev pub in_gmt : List ℕ → List ℕ
-in_gmt text =
-    if bytes_eq (last_six text) (codes " +0000")
-    then take (length text - 6) text ++ codes " GMT" else text
-
--- the field is a Date
-abbrev pub is_date : Header → Bool
-is_date field = bytes_eq field.0 (codes "date")
-
--- a field with its value as it is sent
-abbrev pub field_to_send : Header → Header
-field_to_send field = (field.0, if is_date field then in_gmt field.1 else field.1)
-
--- the fields of a header map in its order, but for the length, which is told of the body that goes out
-abbrev pub fields_to_send : Entries FieldValue → List Header
-fields_to_send h = map field_to_send (filter (λ field. not (is_length field)) (fields (pairs h)))
-
--- behind fields without a Date stands that of a moment (RFC 7231, section 7.1.1.2)
-abbrev pub IsDatedIf : Bool → ℤ → List Header → List Header → Type 0
-IsDatedIf true moment fields dated = dated ≡ fields
-IsDatedIf false moment fields dated =
-    (date : List ℕ) × IsDateText moment date × (dated ≡ fields ++ (codes "date", in_gmt date) ∷ [])
-
-abbrev pub IsDated : ℤ → List Header → List Header → Type 0
-IsDated moment fields dated = IsDatedIf (list_any is_date fields) moment fields dated
-
--- an answer as it goes out: what speaks of one connection is gone, and it has a Date
-pub record IsSent (moment : ℤ) (answer : Answer (List ℕ)) (response : Response) : Type 0 where
-  pub status : response.status ≡ (head_of answer).status
-  pub passed : Entries FieldValue
-  pub is_passed : headers_of passed ≡ forwarded_headers (headers_of (head_of answer).headers)
-  pub fields_are : IsDated moment (fields_to_send passed) (fields_of response)
-  pub body : response.body.items ≡ body_of answer
-
--- the status by which a failure is answered
-abbrev pub failure_status : Failure → ℕ
-failure_status Memory = 503
-failure_status NoResponse = 502
-failure_status Clock = 500
-
--- the response has only the status of a failure
-abbrev pub IsFailure : Failure → Response → Type 0
-IsFailure cause response = IsResponse (failure_status cause) [] [] response
-
--- ---- both
-
--- the response is some answer as it goes out
-pub record IsAnswered (response : Response) : Type 0 where
-  pub now : ℤ
-  pub answer : Answer (List ℕ)
-  pub is_sent : IsSent now answer response
+-- a request as the proxy of a name sends it on: its head with Via, Host, one length and the version, and the
+-- same body
+abbrev pub IsSentOnAs : List ℕ → Request (List ℕ) → Request (List ℕ) → Type 0
+IsSentOnAs name request forwarded =
+    IsForwarded name request (Known (length (body_of request))) (head_of forwarded)
+    × (body_of forwarded ≡ body_of request)
 
 module _ {O : Type 0} (sent : Sends O) (before after : O) where
-  -- the origin was sent nothing, or what a client sends for the request without what speaks of the
-  -- connection that it came by: one request, or a second one after a 304
-  abbrev pub IsSentTwiceAtMost : Request (List ℕ) → Type 0
-  IsSentTwiceAtMost request =
-      (after ≡ before)
-      ⊎ ((forwarded : Request (List ℕ)) × IsForwarded request forwarded
-      × HasSentTwiceAtMost sent before after forwarded)
+  -- why there is no answer to a request that is sent on
+  abbrev pub IsFetchFailure : Request (List ℕ) → Failure → Type 0
+  IsFetchFailure forwarded (Refused refusal) = ⊥
+  IsFetchFailure forwarded Unsendable = ⊥
+  IsFetchFailure forwarded Memory = after ≡ before
+  IsFetchFailure forwarded Lost = ⊤
+  IsFetchFailure forwarded Cut = HasSent sent before after forwarded None
+  IsFetchFailure forwarded NoResponse = HasSent sent before after forwarded None
 
-  -- the origin was sent two requests for it
+module _ {O : Type 0} (sent : Sends O) (before after : O) (name : List ℕ) where
+  -- the origin server was sent what a client sends for the request as it is sent on: nothing, one request, or
+  -- a second one after a 304; and nothing for one that asks for a stored response only
+  pub record IsSentOn (request : Request (List ℕ)) : Type 0 where
+    pub forwarded : Request (List ℕ)
+    pub is_forwarded : IsSentOnAs name request forwarded
+    pub twice : HasSentTwiceAtMost sent before after forwarded
+    pub only_if_cached : is_looked_up forwarded ≡ true → IsOnlyIfCached (fields_of forwarded) → after ≡ before
+
+  -- it was sent nothing, or that
+  abbrev pub IsSentAtMost : Request (List ℕ) → Type 0
+  IsSentAtMost request = (after ≡ before) ⊎ IsSentOn request
+
+  -- it was sent the request as it is sent on, and no response was received whole
+  pub record HasNoAnswer (request : Request (List ℕ)) : Type 0 where
+    pub forwarded : Request (List ℕ)
+    pub is_forwarded : IsSentOnAs name request forwarded
+    pub is_sent : HasSent sent before after forwarded None
+
+  -- what is known of a request for each cause of having no answer: 503 is answered only where nothing was
+  -- sent, 502 and 504 only where the origin server was asked
+  abbrev pub IsCause : Request (List ℕ) → Failure → Type 0
+  IsCause request (Refused refusal) = (refusal_of name request false ≡ Some refusal) × (after ≡ before)
+  IsCause request Unsendable = after ≡ before
+  IsCause request Memory = after ≡ before
+  IsCause request Lost = ⊤
+  IsCause request Cut = HasNoAnswer request
+  IsCause request NoResponse = HasNoAnswer request
+
+  -- it was sent two requests, the second after a 304
   abbrev pub IsSentTwice : Request (List ℕ) → Type 0
   IsSentTwice request =
       (forwarded : Request (List ℕ)) × (outcome : Outcome)
-      × (IsForwarded request forwarded × HasSentBoth sent before after forwarded outcome)
+      × (IsSentOnAs name request forwarded × HasSentBoth sent before after forwarded outcome)
 
-module _ {O : Type 0} (sent : Sends O) (before after : O)
+-- ---- what is stored, and what is answered
+
+module _ {O : Type 0} (sent : Sends O) (before after : O) (name : List ℕ)
     (old : StoredByTarget) (next_before : ℕ) (new : StoredByTarget) (next_after : ℕ) where
-  -- what is stored is as it was, unless the origin was sent two requests
+  -- what is stored is as it was, unless the origin server was sent two requests
   abbrev pub HasKept : Request (List ℕ) → Type 0
-  HasKept request = KeepsAll old next_before new next_after ⊎ IsSentTwice sent before after request
+  HasKept request = KeepsAll old next_before new next_after ⊎ IsSentTwice sent before after name request
 
-  -- there is no answer
-  pub record IsUnanswered (request : Request (List ℕ)) (response : Response) : Type 0 where
+  -- there is no answer, for a cause
+  pub record IsUnanswered (time : Option ℤ) (request : Request (List ℕ)) (response : Response) : Type 0 where
     pub cause : Failure
-    pub is_failure : IsFailure cause response
+    pub is_cause : IsCause sent before after name request cause
+    pub is_failure : IsFailure name (head_of request).method cause time response
     pub kept : HasKept request
 
-  -- the response is an answer or a failure; where an answer can't be written out, for want of memory,
-  -- what is stored may have changed
-  pub record IsProxied (request : Request (List ℕ)) (response : Response) : Type 0 where
-    pub twice : IsSentTwiceAtMost sent before after request
-    pub answered : IsAnswered response ⊎ (IsUnanswered request response ⊎ IsFailure Memory response)
+  -- the response is an answer as it is written
+  pub record IsAnswered (request : Request (List ℕ)) (response : Response) : Type 0 where
+    pub answer : Answer (List ℕ)
+    pub is_written : IsWritten name (head_of request).method answer response
+
+  -- at the time that the clock showed, a request is sent on and answered. Without a time nothing is stored.
+  -- Where there is no memory for an answer, the response has only the status 500
+  pub record IsProxied {C : Type 0} (shown : C → Option ℤ → C → Type 0) (clock_before clock_after : C)
+      (request : Request (List ℕ)) (response : Response) : Type 0 where
+    pub time : Option ℤ
+    pub is_shown : shown clock_before time clock_after
+    pub sent_on : IsSentAtMost sent before after name request
+    pub unstored : time ≡ None → next_after ≡ next_before
+    pub answered : IsAnswered request response
+        ⊎ (IsUnanswered time request response ⊎ IsResponse 500 [] [] response)

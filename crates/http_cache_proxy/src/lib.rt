@@ -1,8 +1,14 @@
 //! A caching proxy, to copy: a service of `http_server` over a client of `http_cache_client`.
 #![tactic(auto)]
 
-mod answer;
-mod forward;
+pub mod clock;
+pub mod failure;
+mod fetch;
+pub mod origin;
 pub mod proxy;
+mod write;
 
-pub use proxy::{Failure, Proxy};
+pub use clock::{ClockTime, TimeSource};
+pub use failure::Failure;
+pub use origin::{NoAnswer, WholeOrigin};
+pub use proxy::Proxy;

@@ -1,19 +1,20 @@
 -- What the look-up shows is what is stored, and nothing has changed by it.
-use Rattle.std.proofs.Common.{◌≡◌, true, Option, Some, Ok, Err, IfOk, rules, subst}
+use Rattle.std.proofs.Common.{◌≡◌, ℕ, List, true, Option, Some, IfOk, IfSome, rules, sym, subst, inl}
 use Rattle.http.specs.Request.{head_of}
 use Rattle.http_cache_fields.specs.Headers.{headers_of}
 use Rattle.http_cache_shelf.specs.Shelf.{StoredByTarget, ShowsAll}
 use Rattle.http_cache_shelf.specs.Target.{text_of}
-use Rattle.http_cache_client.specs.Ask.{IsDecisionOf, IsAnswered}
+use Rattle.http.specs.Response.{head_of as head_of_response}
+use Rattle.http.specs.declared.response.Response.{Response}
+use Rattle.http_cache_client.specs.Ask.{HasStoredStatus, IsAnswered}
 use Rattle.http_cache_plans.specs.Reply.{IsReplyOf}
 use Rattle.http_cache_plans.specs.declared.reply.Reply.{Reply}
-use Rattle.http_cache_client.proofs.VerdictLemmas.{stored_status, answered_by, IsVerdictIn-found}
+use Rattle.http_cache_client.proofs.VerdictLemmas.{stored_status, IsVerdictIn-found}
 use Rattle.http_cache_client.proofs.client.Client.asked.Goals as goal
 
-pub returns-clause-answered : goal.returns-clause-answered
-returns-clause-answered g c =
+pub returns-in-Some-2-clause-answered : goal.returns-in-Some-2-clause-answered
+returns-in-Some-2-clause-answered g c =
     let stored = g.S.Shelf.stored c.args.self.now.shelf in
-    let request = headers_of (head_of c.args.incoming.now.request.now).headers in
     let text = text_of c.in_ok-target.target in
     let found = c.found.result.now in
     let is_read : c.in_ok-read.field-0 ≡ true = search rules in
@@ -24,10 +25,9 @@ returns-clause-answered g c =
     let sent : IsOf (Some c.in-Some.reply) = subst IsOf c.in-Some.is c.in_ok-reply.ensures.stored in
     let status = c.in-Some.reply.head.status in
     let has = stored_status found stored text status shows (record { one = one; among = c.in-Fresh.ensures; is = sent.1 }) in
-    (elim c.used.result as (λ r. IfOk r (IsDecisionOf status) → IfOk r (IsAnswered stored request)) [
-      | Ok decision ↦ λ of. answered_by stored request status decision has of
-      | Err e ↦ λ of. of
-    ]) c.used.ensures.used
+    let HasStatus : Option (Response (List ℕ)) → Type 0 = λ answer. IfSome answer (λ s. (head_of_response s).status ≡ status) in
+    let same : HasStatus (Some c.in-Some-2.answer) = subst HasStatus c.in-Some-2.is c.in_ok-answer.ensures.used in
+    inl (subst (HasStoredStatus stored) (sym same) has)
 
 pub returns-2-clause-answered : goal.returns-2-clause-answered
 returns-2-clause-answered g c =
@@ -37,6 +37,6 @@ returns-2-clause-answered g c =
     let is_read : c.in_ok-read.field-0 ≡ true = search rules in
     let shows = c.found.ensures (c.in_ok-read.ensures.read is_read) in
     let of = c.in_ok-verdict.ensures.answered found c.select-selected.ensures in
-    let Answered : StoredByTarget → Type 0 = λ stored. IfOk c.not_fresh-2.result (IsAnswered stored request) in
-    subst Answered c.in_ok-read.ensures.kept.stored (c.not_fresh-2.ensures.answered
+    let Answered : StoredByTarget → Type 0 = λ stored. IfOk c.not_fresh-3.result (IsAnswered stored request) in
+    subst Answered c.in_ok-read.ensures.kept.stored (c.not_fresh-3.ensures.answered
     (IsVerdictIn-found found (g.S.Shelf.stored c.read.new.self.shelf) text c.in_ok-verdict.verdict shows of))

@@ -2,14 +2,14 @@
 use Rattle.std.proofs.Common.{sym, ◌∙◌, inl, inr}
 use Rattle.http_cache_client.proofs.client.Client.forward.Goals as goal
 
-pub returns-in_ok-answer-in-Ok-clause-conditional : goal.returns-in_ok-answer-in-Ok-clause-conditional
-returns-in_ok-answer-in-Ok-clause-conditional g c is =
-    elim (c.in_ok-answer-in-Ok.ensures.conditional (sym c.with_bytes.ensures ∙ is)) [
+pub returns-in-Ok-accept-clause-conditional : goal.returns-in-Ok-accept-clause-conditional
+returns-in-Ok-accept-clause-conditional g c is =
+    elim (c.in-Ok-accept.ensures.conditional (sym c.with_bytes.ensures ∙ is)) [
       | inl own ↦ inl own
       | inr received ↦ inr (
         c.args.origin.now,
         c.in-Ok.response,
         c.in-Ok.received.nanosecond,
-        (c.in-Ok.ensures.response, sym c.with_body-response.ensures.status ∙ received),
+        (c.in-Ok.ensures.response, sym c.with_body.ensures.status ∙ received),
       )
     ]

@@ -1,7 +1,16 @@
--- Where an answer can't be written out, the memory is missing for it.
-use Rattle.std.proofs.Common.{inr}
+-- What is written is by the outcome of the request, at the time that the clock showed.
+use Rattle.std.specs.Prelude.{option_map}
+use Rattle.jiff.specs.declared.timestamp.Timestamp.{Timestamp}
+use Rattle.http_cache_proxy.proofs.CauseLemmas.{answered-by, none-of}
 use Rattle.http_cache_proxy.proofs.proxy.ProxyService.call.Goals as goal
 
-pub returns-then-is_err-clause-ok : goal.returns-then-is_err-clause-ok
-returns-then-is_err-clause-ok g c =
-    record { twice = c.fetch.ensures.twice; answered = inr (inr c.fail.ensures) }
+pub returns-clause-ok : goal.returns-clause-ok
+returns-clause-ok g c = record {
+  time = option_map (λ (t : Timestamp). t.nanosecond) c.now-time.result;
+  is_shown = c.now-time.ensures;
+  sent_on = c.answer_to-answer.ensures.sent;
+  unstored = λ none. c.answer_to-answer.ensures.unstored
+      (none-of (λ (t : Timestamp). t.nanosecond) c.now-time.result none);
+  answered = answered-by _ _ _ _ _ _ _ _ _ _ _ c.answer_to-answer.result
+      c.answer_to-answer.ensures.cause c.answer_to-answer.ensures.kept c.write_outcome.ensures;
+}

@@ -1,0 +1,2 @@
+-- The lemmas about what an intermediary sends.
+pub mod FieldLemmas

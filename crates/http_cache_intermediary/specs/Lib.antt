@@ -1,0 +1,8 @@
+-- What HTTP asks of an intermediary.
+pub mod Field
+pub mod Via
+pub mod Length
+pub mod Refusal
+pub mod Request
+pub mod Response
+pub mod Generated

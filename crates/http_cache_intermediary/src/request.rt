@@ -1,0 +1,109 @@
+//! A request as it is sent on.
+ghost use Rattle.std.specs.Prelude.{◌≡◌, [], codes, unwrap_or, IfOk, OnOk};
+ghost use Rattle.http.specs.Request.{head_of};
+ghost use Rattle.http_cache_fields.specs.Headers.{headers_of, first};
+ghost use Rattle.http_cache_intermediary.specs.Field.{HasLines};
+ghost use Rattle.http_cache_intermediary.specs.Request.{host_of, forwards_lines, IsForwarded};
+
+use crate::field::{clear, set};
+use crate::intermediary::Intermediary;
+use crate::length::{Content, set_request_length};
+use crate::refusal::{counts_forwards, forwards_left};
+use bytes::Bytes;
+use http::header::{EXPECT, HOST, MAX_FORWARDS};
+use http::{HeaderMap, HeaderValue, Request, Uri, Version, request};
+use http_cache_fields::CacheError;
+use http_cache_rules::forwarding::forwarded_headers;
+use http_header::HeaderValueError;
+use std::alloc::{AllocError, Global};
+
+fn copy_of_target(target: &Uri) -> Result<Uri, AllocError>
+    ensures { IfOk result (λ copy. copy ≡ target.now) }
+{
+    target.clone()
+}
+
+// The received Host, or none.
+fn received_host(headers: &HeaderMap) -> Result<HeaderValue, AllocError>
+    ensures { IfOk result (λ host. host.bytes
+        ≡ unwrap_or (first (headers_of headers.now) (codes "host")) []) }
+{
+    match headers.get(HOST) {
+        Some(host) => host.clone(),
+        None => Ok(HeaderValue::from_static("")),
+    }
+}
+
+// The Host of a request: that of its target if it has one, else the received one.
+fn host_of(alloc: Global, request: &Request<Bytes>) -> Result<HeaderValue, CacheError>
+    ensures { IfOk result (λ host. host.bytes ≡ host_of request.now) }
+{
+    let Some(authority) = request.uri().authority() else {
+        return Ok(received_host(request.headers())?);
+    };
+    match HeaderValue::from_str(alloc, authority.as_str()) {
+        Ok(host) => Ok(host),
+        Err(HeaderValueError::OutOfMemory) => Err(CacheError::Memory),
+        Err(HeaderValueError::Invalid) => Err(CacheError::Malformed),
+    }
+}
+
+// Counts Max-Forwards down where it counts, else leaves it as it is.
+fn count_forwards(
+    alloc: Global,
+    headers: &mut HeaderMap,
+    request: &Request<Bytes>,
+) -> Result<(), CacheError>
+    ensures { OnOk result (HasLines (codes "max-forwards")
+        (forwards_lines request.now (headers_of headers.old))
+        (headers_of headers.old) (headers_of headers.new)) }
+{
+    if !counts_forwards(request.method()) {
+        return Ok(());
+    }
+    match forwards_left(request.headers()) {
+        Some(left) => set(
+            headers,
+            MAX_FORWARDS,
+            HeaderValue::from_u64(alloc, left.saturating_sub(1))?,
+        ),
+        None => Ok(()),
+    }
+}
+
+impl Intermediary {
+    /// Returns the head of a request as it is sent on (RFC 9110, section 7.6; RFC 9112, section 3.2).
+    ///
+    /// It has no field of one connection and none that Connection names, but Host, Via and
+    /// Max-Forwards stay. Host is that of the target, if the target has one. Via has the intermediary's
+    /// member after those received, on one line. Content-Length is the body's own, also where the body
+    /// was received in chunks. Max-Forwards of OPTIONS and TRACE is one less. Expect is removed, and
+    /// the version is HTTP/1.1.
+    ///
+    /// # Errors
+    ///
+    /// Returns `Memory` when out of memory, `HeaderMapFull` if there is no room for these fields, and
+    /// `Malformed` if the host of the target can't be a field value.
+    pub fn forwarded(
+        &self,
+        alloc: Global,
+        request: &Request<Bytes>,
+        content: Content,
+    ) -> Result<request::Parts, CacheError>
+        ensures { IfOk result (IsForwarded self.now request.now content) }
+    {
+        let received = request.headers();
+        let mut headers = forwarded_headers(received)?;
+        set(&mut headers, HOST, host_of(alloc, request)?)?;
+        clear(&mut headers, EXPECT);
+        set_request_length(alloc, &mut headers, received, content)?;
+        count_forwards(alloc, &mut headers, request)?;
+        self.add_via(alloc, &mut headers, received, request.version())?;
+        Ok(request::Parts {
+            method: request.method().clone()?,
+            uri: copy_of_target(request.uri())?,
+            version: Version::HTTP_11,
+            headers,
+        })
+    }
+}

@@ -1,0 +1,149 @@
+//! The answer to a request by way of the client, or why there is none.
+ghost use Rattle.std.specs.Prelude.{◌≡◌, ◌⊎◌, true, None, IfOk, IfErr, OnErr};
+ghost use Rattle.http_cache_shelf.specs.Shelf.{KeepsAll};
+ghost use Rattle.http_cache_client.specs.Ask.{fields_of, IsOnlyIfCached};
+ghost use Rattle.http_cache_client.specs.Fetch.{Outcome, HasSentBoth, HasSentTwiceAtMost};
+ghost use Rattle.http_cache_messages.specs.Asking.{is_looked_up};
+ghost use Rattle.http_cache_proxy.specs.Proxy.{IsSentOnAs, IsFetchFailure, IsSentAtMost, IsCause, HasKept};
+
+use crate::failure::{Failure, failure_of};
+use crate::origin::WholeOrigin;
+use bytes::Bytes;
+use http::{Request, Response as Answer};
+use http_cache_client::{Client, Origin};
+use http_cache_intermediary::{Content, Intermediary};
+use http_cache_semantics::CacheError;
+use http_cache_shelf::Shelf;
+use jiff::Timestamp;
+use std::alloc::Global;
+
+// The detail of Cache-Status where the clock can't be read.
+const NO_CLOCK: &str = "no clock";
+
+// The request as it is sent on.
+fn forwarded(
+    alloc: Global,
+    intermediary: &Intermediary,
+    request: &Request<Bytes>,
+) -> Result<Request<Bytes>, Failure>
+    ensures forwarded { IfOk result (IsSentOnAs intermediary.now request.now) }
+    ensures unsent { IfErr result (λ cause. (cause ≡ Failure.Memory) ⊎ (cause ≡ Failure.Unsendable)) }
+{
+    let content = Content::Known(request.body().len() as u64);
+    let head = match intermediary.forwarded(alloc, request, content) {
+        Ok(head) => head,
+        Err(CacheError::Memory) => return Err(Failure::Memory),
+        Err(_) => return Err(Failure::Unsendable),
+    };
+    match request.body().clone() {
+        Ok(body) => Ok(Request::from_parts(head, body)),
+        Err(_) => Err(Failure::Memory),
+    }
+}
+
+// The client's answer at a time.
+fn fetched_at<S: Shelf + Drop, O: Origin>(
+    alloc: Global,
+    client: &mut Client<S>,
+    origin: &mut WholeOrigin<O>,
+    forwarded: &Request<Bytes>,
+    now: Timestamp,
+) -> Result<Answer<Bytes>, Failure>
+where
+    O::Error: Drop,
+    ensures twice { HasSentTwiceAtMost ⟦<WholeOrigin<O> as Origin>⟧.sent origin.old origin.new forwarded.now }
+    ensures only_if_cached { is_looked_up forwarded.now ≡ true
+        → IsOnlyIfCached (fields_of forwarded.now) → origin.new ≡ origin.old }
+    ensures failure { IfErr result
+        (IsFetchFailure ⟦<WholeOrigin<O> as Origin>⟧.sent origin.old origin.new forwarded.now) }
+    ensures kept { OnErr result (KeepsAll (S.stored client.old.shelf) (S.next_id client.old.shelf)
+        (S.stored client.new.shelf) (S.next_id client.new.shelf)
+        ⊎ ((outcome : Outcome)
+        × HasSentBoth ⟦<WholeOrigin<O> as Origin>⟧.sent origin.old origin.new forwarded.now outcome)) }
+{
+    match client.fetch(alloc, origin, forwarded, now) {
+        Ok(answer) => Ok(answer),
+        Err(cause) => Err(failure_of(cause)),
+    }
+}
+
+// The origin server's answer, past what the client stores.
+fn fetched_past<S: Shelf + Drop, O: Origin>(
+    alloc: Global,
+    client: &mut Client<S>,
+    origin: &mut WholeOrigin<O>,
+    forwarded: &Request<Bytes>,
+) -> Result<Answer<Bytes>, Failure>
+where
+    O::Error: Drop,
+    ensures twice { HasSentTwiceAtMost ⟦<WholeOrigin<O> as Origin>⟧.sent origin.old origin.new forwarded.now }
+    ensures only_if_cached { is_looked_up forwarded.now ≡ true
+        → IsOnlyIfCached (fields_of forwarded.now) → origin.new ≡ origin.old }
+    ensures failure { IfErr result
+        (IsFetchFailure ⟦<WholeOrigin<O> as Origin>⟧.sent origin.old origin.new forwarded.now) }
+    ensures kept { OnErr result (KeepsAll (S.stored client.old.shelf) (S.next_id client.old.shelf)
+        (S.stored client.new.shelf) (S.next_id client.new.shelf)) }
+    ensures unstored { S.next_id client.new.shelf ≡ S.next_id client.old.shelf }
+{
+    match client.pass(alloc, origin, forwarded, NO_CLOCK) {
+        Ok(answer) => Ok(answer),
+        Err(cause) => Err(failure_of(cause)),
+    }
+}
+
+// The answer to a request that is sent on.
+fn fetched<S: Shelf + Drop, O: Origin>(
+    alloc: Global,
+    client: &mut Client<S>,
+    origin: &mut WholeOrigin<O>,
+    forwarded: &Request<Bytes>,
+    time: &Option<Timestamp>,
+) -> Result<Answer<Bytes>, Failure>
+where
+    O::Error: Drop,
+    ensures twice { HasSentTwiceAtMost ⟦<WholeOrigin<O> as Origin>⟧.sent origin.old origin.new forwarded.now }
+    ensures only_if_cached { is_looked_up forwarded.now ≡ true
+        → IsOnlyIfCached (fields_of forwarded.now) → origin.new ≡ origin.old }
+    ensures failure { IfErr result
+        (IsFetchFailure ⟦<WholeOrigin<O> as Origin>⟧.sent origin.old origin.new forwarded.now) }
+    ensures kept { OnErr result (KeepsAll (S.stored client.old.shelf) (S.next_id client.old.shelf)
+        (S.stored client.new.shelf) (S.next_id client.new.shelf)
+        ⊎ ((outcome : Outcome)
+        × HasSentBoth ⟦<WholeOrigin<O> as Origin>⟧.sent origin.old origin.new forwarded.now outcome)) }
+    ensures unstored { time.now ≡ None → S.next_id client.new.shelf ≡ S.next_id client.old.shelf }
+{
+    match time {
+        Some(now) => fetched_at(alloc, client, origin, forwarded, *now),
+        None => fetched_past(alloc, client, origin, forwarded),
+    }
+}
+
+/// Returns the answer to a request: by way of the client, or past what it stores if the time isn't known.
+pub(crate) fn answer_to<S: Shelf + Drop, O: Origin>(
+    alloc: Global,
+    intermediary: &Intermediary,
+    client: &mut Client<S>,
+    origin: &mut WholeOrigin<O>,
+    request: &Request<Bytes>,
+    time: &Option<Timestamp>,
+) -> Result<Answer<Bytes>, Failure>
+where
+    O::Error: Drop,
+    ensures sent { IsSentAtMost ⟦<WholeOrigin<O> as Origin>⟧.sent origin.old origin.new
+        intermediary.now request.now }
+    ensures cause { IfErr result (IsCause ⟦<WholeOrigin<O> as Origin>⟧.sent origin.old origin.new
+        intermediary.now request.now) }
+    ensures kept { OnErr result (HasKept ⟦<WholeOrigin<O> as Origin>⟧.sent origin.old origin.new
+        intermediary.now (S.stored client.old.shelf) (S.next_id client.old.shelf)
+        (S.stored client.new.shelf) (S.next_id client.new.shelf) request.now) }
+    ensures unstored { time.now ≡ None → S.next_id client.new.shelf ≡ S.next_id client.old.shelf }
+{
+    if let Some(refusal) = intermediary.refusal(request, false) {
+        return Err(Failure::Refused(refusal));
+    }
+    let forwarded = match forwarded(alloc, intermediary, request) {
+        Ok(forwarded) => forwarded,
+        Err(cause) => return Err(cause),
+    };
+    fetched(alloc, client, origin, &forwarded, time)
+}

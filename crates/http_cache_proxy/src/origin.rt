@@ -1,0 +1,62 @@
+//! The origin server of a proxy, whose responses have to be received whole.
+ghost use Rattle.std.specs.Prelude.{◌≡◌};
+ghost use Rattle.http.specs.Response.{head_of, body_of};
+ghost use Rattle.http_cache_proxy.specs.Origin.{is_whole};
+
+use bytes::Bytes;
+use http::{Method, Request, Response};
+use http_cache_client::Origin;
+use http_cache_messages::complete::is_complete;
+use jiff::Timestamp;
+
+/// Why there is no response that can be sent on.
+#[derive(Debug, PartialEq, Eq, Drop)]
+pub enum NoAnswer<E> {
+    /// The body isn't as long as its Content-Length says, so it was cut off (RFC 9112, section 8).
+    Cut,
+    /// There is no response.
+    Missing(E),
+}
+
+/// An origin server. A response whose body isn't as long as its Content-Length says is taken for none.
+#[derive(Debug, Drop)]
+pub struct WholeOrigin<O> {
+    /// The origin server itself.
+    pub origin: O,
+}
+
+// Whether a response to a request of a method was received whole.
+fn is_whole(method: &Method, response: &Response<Bytes>) -> bool
+    ensures { result ≡ is_whole method.now response.now }
+{
+    let length = response.body().len() as u64;
+    is_complete(method, response.status(), response.headers(), length)
+}
+
+impl<O: Origin> Origin for WholeOrigin<O>
+where
+    O::Error: Drop,
+{
+    type Error = NoAnswer<O::Error>;
+
+    ghost use Rattle.http_cache_proxy.specs.Origin.{HasSentWhole};
+
+    ghost sent = { λ before request outcome after.
+        HasSentWhole O.sent before.origin after.origin request outcome };
+
+    fn send(
+        &mut self,
+        request: &Request<Bytes>,
+    ) -> Result<(Response<Bytes>, Timestamp), NoAnswer<O::Error>> {
+        match self.origin.send(request) {
+            Ok((response, received)) => {
+                if is_whole(request.method(), &response) {
+                    Ok((response, received))
+                } else {
+                    Err(NoAnswer::Cut)
+                }
+            }
+            Err(cause) => Err(NoAnswer::Missing(cause)),
+        }
+    }
+}
