@@ -26,23 +26,23 @@ const NAME: &str = "first_proxy";
 
 // Where responses come from, and where they are stored.
 #[derive(Drop)]
-struct Words {
+struct Arguments {
     origin: Option<(String, String)>,
     file: Option<String>,
 }
 
-fn words(rt: &HostRuntime) -> anyhow::Result<Words> {
+fn read_arguments(rt: &HostRuntime) -> anyhow::Result<Arguments> {
     let mut words = env::args(rt)?;
     let _program = words.next();
     match words.next() {
         Some(word) if word.as_str() == "--origin" => match (words.next(), words.next()) {
-            (Some(to), Some(from)) => Ok(Words {
+            (Some(to), Some(from)) => Ok(Arguments {
                 origin: Some((to, from)),
                 file: words.next(),
             }),
             _ => anyhow::bail!("first_proxy: --origin takes two files"),
         },
-        file => Ok(Words { origin: None, file }),
+        file => Ok(Arguments { origin: None, file }),
     }
 }
 
@@ -84,7 +84,7 @@ fn serve_over<S: Shelf + Drop>(
 }
 
 fn main(rt: HostRuntime) -> anyhow::Result<()> {
-    let Words { origin, file } = words(&rt)?;
+    let Arguments { origin, file } = read_arguments(&rt)?;
     match file {
         Some(path) => {
             let store = Store::open(&rt, path.as_str(), StoreOptions::default())?;
