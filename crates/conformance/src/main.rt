@@ -1,13 +1,13 @@
-//! Runs cases of conformance through `Client::fetch` or through the bytes of a `Proxy`, in virtual time, over a
-//! shelf in memory or a store: JSON on standard input, and a line of JSON for each step on standard output.
-//! `tests/conformance/README.md` says what both have.
+//! Runs cases of conformance through `Client::fetch` or the bytes of a `Proxy`, in virtual time, over a
+//! shelf in memory or a store: JSON on standard input, and a line of JSON for each step on standard
+//! output. `tests/conformance/README.md` says what both have.
 #![tactic(auto)]
 
 mod case;
 mod client;
-mod proxied;
 mod message;
 mod origin;
+mod proxied;
 mod text;
 
 use case::lines_of;

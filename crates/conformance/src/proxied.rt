@@ -56,10 +56,13 @@ impl<S: Shelf + Drop> Proxied<S> {
         let mut connection = Connection::new(alloc, self.keys, Config::default());
         let request = bytes_under(alloc, step, "raw_hex")?;
         let mut written = Vec::new(alloc);
-        let _ = serve(&mut connection, &mut proxy, &mut request.as_slice(), &mut written);
-        let Proxy {
-            client, origin, ..
-        } = proxy;
+        let _ = serve(
+            &mut connection,
+            &mut proxy,
+            &mut request.as_slice(),
+            &mut written,
+        );
+        let Proxy { client, origin, .. } = proxy;
         self.client = Some(client);
         Ok((written, origin.origin.into_seen()))
     }

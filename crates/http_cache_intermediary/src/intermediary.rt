@@ -82,7 +82,8 @@ impl Intermediary {
         received: &HeaderMap,
         version: Version,
     ) -> Result<(), CacheError>
-        ensures { OnOk result (HasLines (codes "via") (via_line self.now version (headers_of received.now) ∷ [])
+        ensures { OnOk result (HasLines (codes "via")
+            (via_line self.now version (headers_of received.now) ∷ [])
             (headers_of headers.old) (headers_of headers.new)) }
     {
         let member = member_of(alloc, version, self.pseudonym.as_str())?;

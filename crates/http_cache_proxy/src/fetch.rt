@@ -51,7 +51,8 @@ fn fetched_at<S: Shelf + Drop, O: Origin>(
 ) -> Result<Answer<Bytes>, Failure>
 where
     O::Error: Drop,
-    ensures twice { HasSentTwiceAtMost ⟦<WholeOrigin<O> as Origin>⟧.sent origin.old origin.new forwarded.now }
+    ensures twice { HasSentTwiceAtMost ⟦<WholeOrigin<O> as Origin>⟧.sent
+        origin.old origin.new forwarded.now }
     ensures only_if_cached { is_looked_up forwarded.now ≡ true
         → IsOnlyIfCached (fields_of forwarded.now) → origin.new ≡ origin.old }
     ensures failure { IfErr result
@@ -76,7 +77,8 @@ fn fetched_past<S: Shelf + Drop, O: Origin>(
 ) -> Result<Answer<Bytes>, Failure>
 where
     O::Error: Drop,
-    ensures twice { HasSentTwiceAtMost ⟦<WholeOrigin<O> as Origin>⟧.sent origin.old origin.new forwarded.now }
+    ensures twice { HasSentTwiceAtMost ⟦<WholeOrigin<O> as Origin>⟧.sent
+        origin.old origin.new forwarded.now }
     ensures only_if_cached { is_looked_up forwarded.now ≡ true
         → IsOnlyIfCached (fields_of forwarded.now) → origin.new ≡ origin.old }
     ensures failure { IfErr result
@@ -101,7 +103,8 @@ fn fetched<S: Shelf + Drop, O: Origin>(
 ) -> Result<Answer<Bytes>, Failure>
 where
     O::Error: Drop,
-    ensures twice { HasSentTwiceAtMost ⟦<WholeOrigin<O> as Origin>⟧.sent origin.old origin.new forwarded.now }
+    ensures twice { HasSentTwiceAtMost ⟦<WholeOrigin<O> as Origin>⟧.sent
+        origin.old origin.new forwarded.now }
     ensures only_if_cached { is_looked_up forwarded.now ≡ true
         → IsOnlyIfCached (fields_of forwarded.now) → origin.new ≡ origin.old }
     ensures failure { IfErr result

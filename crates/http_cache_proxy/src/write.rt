@@ -1,9 +1,9 @@
 //! A response as it is written out.
 ghost use Rattle.std.specs.Prelude.{◌≡◌, [], option_map, IfOk, OnOk};
 ghost use Rattle.http_server.specs.Response.{IsBlank, fields_of, IsResponse};
-ghost use Rattle.http_cache_proxy.specs.Write.{written_fields, written_body, IsWritten, IsOwn, IsWrittenOwn, IsFailure};
-ghost use Rattle.http_cache_proxy.specs.Write.{IsOutcome};
 ghost use Rattle.http.specs.Request.{head_of};
+ghost use Rattle.http_cache_proxy.specs.Write.{written_fields, written_body, IsWritten, IsOwn, IsWrittenOwn};
+ghost use Rattle.http_cache_proxy.specs.Write.{IsFailure, IsOutcome};
 
 use crate::failure::Failure;
 use bytes::Bytes;
