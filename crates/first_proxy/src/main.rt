@@ -17,6 +17,7 @@ use http_cache_shelf::{Limits, MemoryShelf, Shelf};
 use http_cache_store::{Store, StoreOptions};
 use http_server::{Config, Connection, serve};
 use site::Site;
+use sqlite::{Alter, File, FileStore};
 use std::hash::RandomState;
 use std::{env, fs};
 use wire::Wire;
@@ -66,34 +67,64 @@ where
     Ok(())
 }
 
-// Serves one connection in front of what the words name.
+// Serves one connection in front of the site.
+fn serve_site<S: Shelf + Drop>(rt: &HostRuntime, shelf: S) -> anyhow::Result<()> {
+    let clock = StepClock::new();
+    let site = Site::new(rt.alloc(), &clock);
+    serve_with(rt, shelf, site, ClockTime::new(&clock))
+}
+
+// Serves one connection in front of an origin server at the other end of two files.
+fn serve_wire<S: Shelf + Drop>(
+    rt: &HostRuntime,
+    shelf: S,
+    to: &str,
+    from: &str,
+) -> anyhow::Result<()> {
+    let writer = fs::create(rt, to)?;
+    let reader = fs::open(rt, from)?;
+    let wire = Wire::new(rt.alloc(), RandomState::new(rt)?, rt, reader, writer);
+    serve_with(rt, shelf, wire, ClockTime::new(rt))
+}
+
+// Serves one connection in front of what the arguments name.
 fn serve_over<S: Shelf + Drop>(
     rt: &HostRuntime,
     shelf: S,
     origin: Option<(String, String)>,
 ) -> anyhow::Result<()> {
-    let Some((to, from)) = origin else {
-        let clock = StepClock::new();
-        let site = Site::new(rt.alloc(), &clock);
-        return serve_with(rt, shelf, site, ClockTime::new(&clock));
-    };
-    let writer = fs::create(rt, to.as_str())?;
-    let reader = fs::open(rt, from.as_str())?;
-    let wire = Wire::new(rt.alloc(), RandomState::new(rt)?, rt, reader, writer);
-    serve_with(rt, shelf, wire, ClockTime::new(rt))
+    match origin {
+        Some((to, from)) => serve_wire(rt, shelf, to.as_str(), from.as_str()),
+        None => serve_site(rt, shelf),
+    }
+}
+
+fn opened(rt: &HostRuntime, path: &str) -> anyhow::Result<Store<FileStore<File>>> {
+    Ok(Store::open(rt, path, StoreOptions::default())?)
+}
+
+// Serves one connection from a store.
+fn serve_stored<S: Alter + Drop>(
+    rt: &HostRuntime,
+    store: Store<S>,
+    origin: Option<(String, String)>,
+) -> anyhow::Result<()> {
+    serve_over(rt, store, origin)
+}
+
+fn serve_in_memory(
+    rt: &HostRuntime,
+    origin: Option<(String, String)>,
+) -> anyhow::Result<()> {
+    let hasher = RandomState::new(rt)?;
+    let shelf = MemoryShelf::new(rt.alloc(), hasher, Limits::default())?;
+    serve_over(rt, shelf, origin)
 }
 
 fn main(rt: HostRuntime) -> anyhow::Result<()> {
     let Arguments { origin, file } = read_arguments(&rt)?;
     match file {
-        Some(path) => {
-            let store = Store::open(&rt, path.as_str(), StoreOptions::default())?;
-            serve_over(&rt, store, origin)
-        }
-        None => {
-            let hasher = RandomState::new(&rt)?;
-            let shelf = MemoryShelf::new(rt.alloc(), hasher, Limits::default())?;
-            serve_over(&rt, shelf, origin)
-        }
+        Some(path) => serve_stored(&rt, opened(&rt, path.as_str())?, origin),
+        None => serve_in_memory(&rt, origin),
     }
 }
