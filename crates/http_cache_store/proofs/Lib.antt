@@ -1,2 +1,3 @@
 -- The lemmas about a store.
 pub mod StoreLemmas
+pub mod TargetLemmas
