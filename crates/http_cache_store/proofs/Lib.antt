@@ -1,3 +1,5 @@
 -- The lemmas about a store.
 pub mod StoreLemmas
 pub mod TargetLemmas
+pub mod ShowingLemmas
+pub mod LoadLemmas

@@ -2,4 +2,6 @@
 pub mod Text
 pub mod Target
 pub mod Row
+pub mod Showing
+pub mod Loaded
 pub mod Statements
