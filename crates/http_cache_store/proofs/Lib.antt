@@ -1,2 +1,6 @@
 -- The lemmas about a store.
 pub mod StoreLemmas
+pub mod TargetLemmas
+pub mod TargetLaws
+pub mod ShowingLemmas
+pub mod LoadLemmas

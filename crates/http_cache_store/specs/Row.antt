@@ -1,17 +1,20 @@
 -- What is read of a row.
-use Rattle.std.specs.Prelude.{◌≡◌, ℕ, ℤ, List}
+use Rattle.std.specs.Prelude.{◌≡◌, ℕ, ℤ, List, IsUtf8}
 use Rattle.sqlite.specs.Order.{Row, column}
 use Rattle.sqlite.specs.declared.types.Value.TheVariants.{Int, Text, Blob}
 use Rattle.http_cache_semantics.specs.Exchange.{Exchange}
+use Rattle.http_cache_semantics.specs.Kept.{kept_exchange}
 use Rattle.http_cache_semantics.specs.Stored.{ReadsBack, with_target}
 use Rattle.http_cache_shelf.specs.Target.{text_of}
 use Rattle.http_cache_store.specs.declared.row.Found.{Found}
 use Rattle.http_cache_store.specs.declared.row.Found.TheVariants.{Response, Unreadable}
-use Rattle.http_cache_store.specs.Text.{IsTextOf}
+use Rattle.http_cache_store.specs.Target.{IsTargetText}
+use Rattle.http_cache_store.specs.Text.{IsTextOf, IsReadAs}
 
--- the policy is the one that the text was written for, itself where its target reads back, and else
--- but for its target
+-- the policy is the one that the text reads as, and the one that the text was written for: itself where
+-- its target reads back, and else but for its target
 pub record IsPolicyOf (text : List ℕ) (policy : Exchange) : Type 0 where
+  pub read : (e : Exchange) × IsReadAs text e × (policy ≡ kept_exchange e)
   pub restored : (e : Exchange) → IsTextOf e text → policy ≡ with_target e policy.target
   pub same : (e : Exchange) → IsTextOf e text → ReadsBack e e → policy ≡ e
 
@@ -28,7 +31,19 @@ pub record IsResponseOf (row : Row) (id : ℤ) (target : List ℕ) (policy : Exc
   pub columns : IsRowOf row id target text body
   pub policy_is : IsPolicyOf text policy
 
--- what was found is what the row holds
+-- the row can be read: it shows an id, the text of a target, the text of a policy and a body
+pub record IsReadable (row : Row) : Type 0 where
+  pub id : ℤ
+  pub target : List ℕ
+  pub text : List ℕ
+  pub body : List ℕ
+  pub columns : IsRowOf row id target text body
+  pub target_utf8 : IsUtf8 target
+  pub target_is : IsTargetText target
+  pub text_utf8 : IsUtf8 text
+  pub policy_is : (e : Exchange) × IsReadAs text e
+
+-- what was found is what the row holds, and only a row that can't be read is called unreadable
 abbrev pub IsReadFrom : Row → Found → Type 0
 IsReadFrom row (Response id target policy body) = IsResponseOf row id (text_of target) policy body
-IsReadFrom row (Unreadable id) = column row 0 ≡ Int id
+IsReadFrom row (Unreadable id) = (column row 0 ≡ Int id) × (¬ IsReadable row)

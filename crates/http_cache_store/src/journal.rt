@@ -2,6 +2,8 @@
 //!
 //! Each public function writes one call of the shelf: all that the call changes, or nothing. No code here
 //! knows what is in memory.
+ghost use Rattle.std.specs.Prelude.{◌≡◌};
+
 use crate::error::StoreError;
 use crate::options::StoreOptions;
 use crate::record::record_of;
@@ -103,7 +105,9 @@ impl<S: Alter> Journal<S> {
         options: &StoreOptions,
         next_id: i64,
         next_use: i64,
-    ) -> Journal<S> {
+    ) -> Journal<S>
+        ensures { result.conn ≡ conn }
+    {
         Journal {
             conn,
             alloc,

@@ -1,4 +1,13 @@
 //! What a store has in memory when it is opened: what the rows of its file hold.
+ghost use Rattle.std.specs.Prelude.{List, OnOk};
+ghost use Rattle.sqlite.specs.Order.{Row as SeenRow};
+ghost use Rattle.sqlite.specs.Held.{state};
+ghost use Rattle.sqlite.specs.State.{HasCleanDisk};
+ghost use Rattle.http_cache_shelf.specs.Shelf.{KeepsAll};
+ghost use Rattle.http_cache_shelf.specs.Target.{text_of};
+ghost use Rattle.http_cache_store.specs.Showing.{ShowsFirst, rows_text};
+ghost use Rattle.http_cache_store.specs.Loaded.{IsThis, IsOfRow, IsOfOne, Adds};
+
 use crate::error::StoreError;
 use crate::row::{Found, found_in, readable};
 use crate::statements::remove_id;
@@ -29,7 +38,10 @@ fn restore(
     target: &Target,
     policy: CachePolicy,
     body: Bytes,
-) -> Result<bool, ShelfError> {
+) -> Result<bool, ShelfError>
+    ensures { Adds (IsThis id (text_of target.now) policy body)
+        (⟦<MemoryShelf as Shelf>⟧.stored memory.old) (⟦<MemoryShelf as Shelf>⟧.stored memory.new) }
+{
     match u64::try_from(id) {
         Ok(number) => memory.restore(target, ResponseId::new(number), policy, body),
         Err(_) => Ok(false),
@@ -42,7 +54,10 @@ fn restore_row(
     memory: &mut MemoryShelf,
     lost: &mut Vec<i64>,
     row: &Row,
-) -> Result<(), StoreError> {
+) -> Result<(), StoreError>
+    ensures { OnOk result (Adds (IsOfRow row.now)
+        (⟦<MemoryShelf as Shelf>⟧.stored memory.old) (⟦<MemoryShelf as Shelf>⟧.stored memory.new)) }
+{
     match found_in(alloc, row)? {
         Found::Response {
             id,
@@ -65,12 +80,17 @@ fn restore_all<S: Alter>(
     conn: &mut Connection<S>,
     memory: &mut MemoryShelf,
     lost: &mut Vec<i64>,
-) -> Result<(), StoreError> {
+) -> Result<(), StoreError>
+    ensures { OnOk result ((rows : List SeenRow)
+        × Adds (IsOfOne rows) (⟦<MemoryShelf as Shelf>⟧.stored memory.old)
+        (⟦<MemoryShelf as Shelf>⟧.stored memory.new)
+        × (HasCleanDisk (state S.Store conn.new) → ShowsFirst S.Store rows_text conn.old rows)) }
+{
     let mut rows = conn.query(
         "SELECT id, target, policy, body FROM response ORDER BY id",
         &[],
     )?;
-    for _ in 0..u64::MAX {
+    'rows: for _ in 0..u64::MAX {
         let Some(row) = rows.next()? else {
             return Ok(());
         };
@@ -79,15 +99,32 @@ fn restore_all<S: Alter>(
     Ok(())
 }
 
-fn remove_lost<S: Alter>(conn: &mut Connection<S>, lost: &[i64]) -> Result<(), Error> {
+fn remove_each<S: Alter>(conn: &mut Connection<S>, lost: &[i64]) -> Result<(), Error>
+    ensures { OnOk result (HasCleanDisk (state S.Store conn.new)
+        → HasCleanDisk (state S.Store conn.old)) }
+{
     for id in lost {
         remove_id(conn, *id)?;
     }
     Ok(())
 }
 
+// Removes the rows of some ids in one transaction.
+fn remove_lost<S: Alter>(conn: &mut Connection<S>, lost: &[i64]) -> Result<(), Error>
+    ensures { OnOk result (HasCleanDisk (state S.Store conn.new)
+        → HasCleanDisk (state S.Store conn.old)) }
+{
+    conn.execute_batch("BEGIN")?;
+    remove_each(conn, lost)?;
+    conn.execute_batch("COMMIT")
+}
+
 // Counts the target of a row as used.
-fn use_target(alloc: Global, memory: &mut MemoryShelf, row: &Row) -> Result<(), StoreError> {
+fn use_target(alloc: Global, memory: &mut MemoryShelf, row: &Row) -> Result<(), StoreError>
+    ensures { OnOk result (KeepsAll
+        (⟦<MemoryShelf as Shelf>⟧.stored memory.old) (⟦<MemoryShelf as Shelf>⟧.next_id memory.old)
+        (⟦<MemoryShelf as Shelf>⟧.stored memory.new) (⟦<MemoryShelf as Shelf>⟧.next_id memory.new)) }
+{
     let text: String = row.get(0)?;
     if let Some(target) = target_of(alloc, text.as_str())? {
         memory.look_up(alloc, &target)?;
@@ -100,9 +137,15 @@ fn use_all<S: Alter>(
     alloc: Global,
     conn: &mut Connection<S>,
     memory: &mut MemoryShelf,
-) -> Result<(), StoreError> {
+) -> Result<(), StoreError>
+    ensures kept { OnOk result (KeepsAll
+        (⟦<MemoryShelf as Shelf>⟧.stored memory.old) (⟦<MemoryShelf as Shelf>⟧.next_id memory.old)
+        (⟦<MemoryShelf as Shelf>⟧.stored memory.new) (⟦<MemoryShelf as Shelf>⟧.next_id memory.new)) }
+    ensures clean { OnOk result (HasCleanDisk (state S.Store conn.new)
+        → HasCleanDisk (state S.Store conn.old)) }
+{
     let mut rows = conn.query("SELECT target FROM response ORDER BY last_use", &[])?;
-    for _ in 0..u64::MAX {
+    'rows: for _ in 0..u64::MAX {
         let Some(row) = rows.next()? else {
             return Ok(());
         };
@@ -111,17 +154,21 @@ fn use_all<S: Alter>(
     Ok(())
 }
 
-/// Restores what the rows hold, and removes from the file what can't be read or is over a limit.
+/// Restores what the rows hold, and removes from the file what can't be read or is over a limit. It
+/// stores nothing but responses of the rows.
 pub(crate) fn load<S: Alter>(
     alloc: Global,
     conn: &mut Connection<S>,
     memory: &mut MemoryShelf,
-) -> Result<(), StoreError> {
+) -> Result<(), StoreError>
+    ensures { OnOk result ((rows : List SeenRow)
+        × Adds (IsOfOne rows) (⟦<MemoryShelf as Shelf>⟧.stored memory.old)
+        (⟦<MemoryShelf as Shelf>⟧.stored memory.new)
+        × (HasCleanDisk (state S.Store conn.new) → ShowsFirst S.Store rows_text conn.old rows)) }
+{
     let mut lost = Vec::new(alloc);
     restore_all(alloc, conn, memory, &mut lost)?;
-    conn.execute_batch("BEGIN")?;
     remove_lost(conn, lost.as_slice())?;
-    conn.execute_batch("COMMIT")?;
     use_all(alloc, conn, memory)
 }
 
@@ -132,7 +179,10 @@ fn number_in(rows: &[Row]) -> Result<i64, Error> {
     }
 }
 
-fn last_given<S: Alter>(conn: &mut Connection<S>) -> Result<i64, Error> {
+fn last_given<S: Alter>(conn: &mut Connection<S>) -> Result<i64, Error>
+    ensures { OnOk result (HasCleanDisk (state S.Store conn.new)
+        → HasCleanDisk (state S.Store conn.old)) }
+{
     let rows = conn.query_all(
         "SELECT seq FROM sqlite_sequence WHERE name = 'response'",
         &[],
@@ -140,20 +190,29 @@ fn last_given<S: Alter>(conn: &mut Connection<S>) -> Result<i64, Error> {
     number_in(rows.as_slice())
 }
 
-fn last_stored<S: Alter>(conn: &mut Connection<S>) -> Result<i64, Error> {
+fn last_stored<S: Alter>(conn: &mut Connection<S>) -> Result<i64, Error>
+    ensures { OnOk result (HasCleanDisk (state S.Store conn.new)
+        → HasCleanDisk (state S.Store conn.old)) }
+{
     let rows = conn.query_all("SELECT max(id) FROM response", &[])?;
     number_in(rows.as_slice())
 }
 
 /// Returns the greatest id that was ever given. That is what sqlite has counted, unless another program
 /// has changed the count.
-pub(crate) fn last_id<S: Alter>(conn: &mut Connection<S>) -> Result<i64, Error> {
+pub(crate) fn last_id<S: Alter>(conn: &mut Connection<S>) -> Result<i64, Error>
+    ensures { OnOk result (HasCleanDisk (state S.Store conn.new)
+        → HasCleanDisk (state S.Store conn.old)) }
+{
     let given = last_given(conn)?;
     Ok(given.max(last_stored(conn)?))
 }
 
 /// Returns the number of the last use of a stored response.
-pub(crate) fn last_use<S: Alter>(conn: &mut Connection<S>) -> Result<i64, Error> {
+pub(crate) fn last_use<S: Alter>(conn: &mut Connection<S>) -> Result<i64, Error>
+    ensures { OnOk result (HasCleanDisk (state S.Store conn.new)
+        → HasCleanDisk (state S.Store conn.old)) }
+{
     let rows = conn.query_all("SELECT max(last_use) FROM response", &[])?;
     number_in(rows.as_slice())
 }

@@ -59,7 +59,8 @@ pub(crate) fn readable_policy(alloc: Global, text: &str) -> Result<Option<CacheP
     }
 }
 
-/// Returns what a row of an id, a target, a policy and a body holds.
+/// Returns what a row of an id, a target, a policy and a body holds. Only a row that can't be read is
+/// called unreadable.
 pub(crate) fn found_in(alloc: Global, row: &Row) -> Result<Found, StoreError>
     ensures { IfOk result (IsReadFrom row.now) }
 {

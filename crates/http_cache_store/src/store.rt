@@ -2,6 +2,13 @@
 //!
 //! Each method of the shelf is a few lines: the journal writes the change, and then memory has it. What
 //! is stored, as the clauses of the trait see it, is what is in memory.
+ghost use Rattle.std.specs.Prelude.{◌≡◌, ℕ, List, [], IfOk};
+ghost use Rattle.sqlite.specs.Held.{state};
+ghost use Rattle.sqlite.specs.State.{HasCleanDisk};
+ghost use Rattle.sqlite.specs.Files.{over_files};
+ghost use Rattle.sqlite.specs.Steps.{over_memory};
+ghost use Rattle.http_cache_store.specs.Loaded.{AreOfFile};
+
 use crate::error::StoreError;
 use crate::format::prepare;
 use crate::journal::Journal;
@@ -30,7 +37,10 @@ pub struct Store<S: Alter> {
     limits: Limits,
 }
 
-fn empty_shelf(rt: &HostRuntime, limits: Limits) -> Result<MemoryShelf, StoreError> {
+fn empty_shelf(rt: &HostRuntime, limits: Limits) -> Result<MemoryShelf, StoreError>
+    ensures { IfOk result (λ shelf. (text : List ℕ)
+        → ⟦<MemoryShelf as Shelf>⟧.stored shelf text ≡ []) }
+{
     let Ok(hasher) = RandomState::new(rt) else {
         return Err(StoreError::NoKeys);
     };
@@ -41,7 +51,10 @@ fn journal_over<S: Alter + Drop>(
     alloc: Global,
     mut conn: Connection<S>,
     options: &StoreOptions,
-) -> Result<Journal<S>, StoreError> {
+) -> Result<Journal<S>, StoreError>
+    ensures { IfOk result (λ journal. HasCleanDisk (state S.Store journal.conn)
+        → HasCleanDisk (state S.Store conn)) }
+{
     let next_id = last_id(&mut conn)?.saturating_add(1);
     let next_use = last_use(&mut conn)?.saturating_add(1);
     Ok(Journal::new(alloc, conn, options, next_id, next_use))
@@ -53,7 +66,11 @@ impl<S: Alter + Drop> Store<S> {
         rt: &HostRuntime,
         mut conn: Connection<S>,
         options: StoreOptions,
-    ) -> Result<Store<S>, StoreError> {
+    ) -> Result<Store<S>, StoreError>
+        ensures stored { IfOk result (λ store. AreOfFile S.Store store.journal.conn
+            (⟦<Store<S> as Shelf>⟧.stored store)) }
+        ensures limits { IfOk result (λ store. store.limits ≡ options.limits) }
+    {
         prepare(rt.alloc(), &mut conn)?;
         let mut memory = empty_shelf(rt, options.limits)?;
         load(rt.alloc(), &mut conn, &mut memory)?;
@@ -70,8 +87,9 @@ impl<S: Alter + Drop> Store<S> {
 impl Store<FileStore<File>> {
     /// Opens the file at a path, or makes it, and reads all that is stored into memory.
     ///
-    /// A row that can't be read is removed from the file, and so is what is over a limit. A file of the
-    /// first format is converted.
+    /// Each response that is stored then is of a row of the file: for the row's target and under its id,
+    /// with its policy and its body. A row that can't be read is removed from the file, and so is what
+    /// is over a limit. A file of the first format is converted.
     ///
     /// # Errors
     ///
@@ -85,7 +103,11 @@ impl Store<FileStore<File>> {
         rt: &HostRuntime,
         path: &str,
         options: StoreOptions,
-    ) -> Result<Store<FileStore<File>>, StoreError> {
+    ) -> Result<Store<FileStore<File>>, StoreError>
+        ensures stored { IfOk result (λ store. AreOfFile over_files store.journal.conn
+            (⟦<Store<FileStore<File>> as Shelf>⟧.stored store)) }
+        ensures limits { IfOk result (λ store. store.limits ≡ options.limits) }
+    {
         Store::over(rt, Connection::open_with_sums(rt, path)?, options)
     }
 
@@ -114,7 +136,11 @@ impl Store<MemStore> {
     pub fn open_in_memory(
         rt: &HostRuntime,
         options: StoreOptions,
-    ) -> Result<Store<MemStore>, StoreError> {
+    ) -> Result<Store<MemStore>, StoreError>
+        ensures stored { IfOk result (λ store. AreOfFile over_memory store.journal.conn
+            (⟦<Store<MemStore> as Shelf>⟧.stored store)) }
+        ensures limits { IfOk result (λ store. store.limits ≡ options.limits) }
+    {
         Store::over(rt, Connection::open_in_memory(rt.alloc())?, options)
     }
 }
@@ -135,8 +161,10 @@ impl<S: Alter> Store<S> {
         self.memory.size()
     }
 
-    /// Returns how much is stored at most.
-    pub fn limits(&self) -> Limits {
+    /// Returns how much is stored at most, as the options of `open` said.
+    pub fn limits(&self) -> Limits
+        ensures { result ≡ self.now.limits }
+    {
         self.limits
     }
 

@@ -1,8 +1,13 @@
 //! A target from its text.
 //!
 //! A `Target` is made of a request alone, so a request is made up that has the target of the text.
-ghost use Rattle.std.specs.Prelude.{◌≡◌, IfOk, IfSome};
+ghost use Rattle.std.specs.Prelude.{◌≡◌, ◌++◌, Some, None, codes, IfOk, IfSome, IfNone, MatchOption};
+ghost use Rattle.http_uri.specs.Uri.{Spells, SpellsNone};
+ghost use Rattle.http_uri.specs.declared.uri.Uri.{Uri as SeenUri};
+ghost use Rattle.http_cache_semantics.specs.Headers.{Headers, headers_of, first_text};
+ghost use Rattle.http_cache_semantics.specs.Text.{text_of as visible_text};
 ghost use Rattle.http_cache_shelf.specs.Target.{text_of};
+ghost use Rattle.http_cache_store.specs.Target.{host_in, path_in, IsMadeUp, IsFound, IsTargetText};
 
 use crate::error::StoreError;
 use http::header::HOST;
@@ -13,7 +18,9 @@ use http_uri::UriError;
 use std::alloc::{AllocError, Global};
 
 // A URI, or None where the text is none.
-fn uri_of(alloc: Global, text: &str) -> Result<Option<Uri>, AllocError> {
+fn uri_of(alloc: Global, text: &str) -> Result<Option<Uri>, AllocError>
+    ensures { IfOk result (λ uri. MatchOption uri (SpellsNone text.now) (Spells text.now)) }
+{
     match Uri::from_bytes(alloc, text.as_bytes()) {
         Ok(uri) => Ok(Some(uri)),
         Err(UriError::OutOfMemory) => Err(AllocError),
@@ -22,7 +29,11 @@ fn uri_of(alloc: Global, text: &str) -> Result<Option<Uri>, AllocError> {
 }
 
 // The target of a URI with a scheme, whose text lacks the colon.
-fn absolute(alloc: Global, scheme: &str, rest: &str) -> Result<Option<Target>, StoreError> {
+fn absolute(alloc: Global, scheme: &str, rest: &str) -> Result<Option<Target>, StoreError>
+    ensures { IfOk result (λ found. (uri : SeenUri) (headers : Headers)
+        → Spells (scheme.now ++ (codes "://" ++ rest.now)) uri
+        → first_text headers (codes "host") ≡ None → IsFound found uri headers) }
+{
     let text = format!(in alloc; "{scheme}://{rest}")?;
     match uri_of(alloc, text.as_str())? {
         Some(uri) => Ok(Some(Target::of(alloc, &uri, &HeaderMap::new(alloc))?)),
@@ -31,7 +42,10 @@ fn absolute(alloc: Global, scheme: &str, rest: &str) -> Result<Option<Target>, S
 }
 
 // The headers of a request to a host, or None where its name is no field value.
-fn headers_to(alloc: Global, host: &str) -> Result<Option<HeaderMap>, StoreError> {
+fn headers_to(alloc: Global, host: &str) -> Result<Option<HeaderMap>, StoreError>
+    ensures { IfOk result (λ found. MatchOption found (visible_text host.now ≡ None)
+        (λ headers. first_text (headers_of headers) (codes "host") ≡ visible_text host.now)) }
+{
     let value = match HeaderValue::from_str(alloc, host) {
         Ok(value) => value,
         Err(HeaderValueError::OutOfMemory) => return Err(StoreError::Memory),
@@ -45,7 +59,10 @@ fn headers_to(alloc: Global, host: &str) -> Result<Option<HeaderMap>, StoreError
 }
 
 // The target of a path that is asked of a host.
-fn at_host(alloc: Global, host: &str, path: &str) -> Result<Option<Target>, StoreError> {
+fn at_host(alloc: Global, host: &str, path: &str) -> Result<Option<Target>, StoreError>
+    ensures { IfOk result (λ found. (uri : SeenUri) (headers : Headers) → Spells path.now uri
+        → first_text headers (codes "host") ≡ Some host.now → IsFound found uri headers) }
+{
     let Some(uri) = uri_of(alloc, path)? else {
         return Ok(None);
     };
@@ -55,24 +72,36 @@ fn at_host(alloc: Global, host: &str, path: &str) -> Result<Option<Target>, Stor
     }
 }
 
-// The target that a text spells, if it spells one: `SCHEME//HOST/PATH`, or `//HOST/PATH`.
-fn spelled(alloc: Global, text: &str) -> Result<Option<Target>, StoreError> {
+// The host and the path of `HOST/PATH`.
+fn host_and_path(rest: &str) -> (&str, &str)
+    ensures host { result.0.now ≡ host_in rest.now }
+    ensures path { result.1.now ≡ path_in rest.now }
+{
+    let (host, _) = rest.split_once('/').unwrap_or((rest, ""));
+    (host, rest.strip_prefix(host).unwrap_or(""))
+}
+
+// The target of the request that is made up from a text, `SCHEME//HOST/PATH` or `//HOST/PATH`.
+fn asked(alloc: Global, text: &str) -> Result<Option<Target>, StoreError>
+    ensures { IfOk result (λ found. (uri : SeenUri) (headers : Headers)
+        → IsMadeUp text.now uri (first_text headers (codes "host")) → IsFound found uri headers) }
+{
     let Some((scheme, rest)) = text.split_once("//") else {
         return Ok(None);
     };
     if !scheme.is_empty() {
         return absolute(alloc, scheme, rest);
     }
-    let (host, _) = rest.split_once('/').unwrap_or((rest, ""));
-    let path = rest.strip_prefix(host).unwrap_or("");
+    let (host, path) = host_and_path(rest);
     at_host(alloc, host, path)
 }
 
 /// Returns the target of a text, or None where the text is of no target.
 pub(crate) fn target_of(alloc: Global, text: &str) -> Result<Option<Target>, StoreError>
-    ensures { IfOk result (λ found. IfSome found (λ target. text_of target ≡ text.now)) }
+    ensures some { IfOk result (λ found. IfSome found (λ target. text_of target ≡ text.now)) }
+    ensures none { IfOk result (λ found. IfNone found (¬ (IsTargetText text.now))) }
 {
-    match spelled(alloc, text)? {
+    match asked(alloc, text)? {
         Some(target) if target.as_str() == text => Ok(Some(target)),
         _ => Ok(None),
     }

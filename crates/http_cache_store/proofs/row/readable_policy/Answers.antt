@@ -1,6 +1,14 @@
--- A text that is refused as malformed is of no exchange.
+-- The policy is that of the exchange of the text, and a text that is refused as malformed is of none.
 use Rattle.std.proofs.Common.{Err, ap, ◌∙◌}
 use Rattle.http_cache_store.proofs.row.readable_policy.Goals as goal
+
+pub returns-in-Ok-clause-some : goal.returns-in-Ok-clause-some
+returns-in-Ok-clause-some c =
+    let it = c.in-Ok.ensures in record {
+      read = (it.reads.0, it.reads.1, it.value it.reads.0 it.reads.1);
+      restored = it.restored;
+      same = it.same;
+    }
 
 pub returns-in-Err-Malformed-clause-none : goal.returns-in-Err-Malformed-clause-none
 returns-in-Err-Malformed-clause-none c =
