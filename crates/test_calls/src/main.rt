@@ -1,15 +1,52 @@
-//! Makes calls on policies and headers, one for each line of input, and writes what each returned. It
-//! is for the worked cases of `tests/cases/calls`.
+//! Makes calls on policies and headers, one for each line of input, and writes what each returned. It is for
+//! the worked cases of `tests/cases/calls`.
+//!
+//! A line has fields with `|` between them, the first of which names a call:
+//!
+//! | fields of a line | call |
+//! |---|---|
+//! | headers | `directives`, `joined_headers`, `read_date` |
+//! | stored headers, received headers | `updated_headers` |
+//! | nanoseconds | `http_date` |
+//! | as `member` reads them | `member` |
+//! | stored method and headers, status and headers, a word for the options; then method or status, headers, nanoseconds, target | all others, on a policy |
 #![tactic(auto)]
 
-mod answer;
-mod explanation;
+mod headers;
+mod make;
 mod member;
 mod policy;
-mod shown;
 
-use answer::answer_to;
+use headers::OfHeaders;
+use http_cache_semantics::forwarding::http_date;
+use make::make_with;
+use member::member;
+use policy::{OfPolicy, among, policy};
+use std::alloc::Global;
 use std::test::Fail;
+use test_cases::fixtures::{after, field, headers};
+
+// The date of so many nanoseconds after the start, or none.
+fn dated(alloc: Global, nanos: &str) -> Result<String, Fail> {
+    match http_date(after(nanos.parse::<i64>()?)?) {
+        Some(date) => Ok(String::from_utf8(Vec::from_slice(alloc, &date)?)?),
+        None => Ok(String::from_str(alloc, "none")?),
+    }
+}
+
+// What the call returns that the first field names.
+fn answer_to(alloc: Global, case: &str) -> Result<String, Fail> {
+    let first = field(case, 1)?;
+    match field(case, 0)? {
+        "http_date" => dated(alloc, first),
+        "member" => member(alloc, case),
+        "directives" | "joined_headers" | "read_date" | "updated_headers" => {
+            make_with(alloc, headers(alloc, first), OfHeaders, case)
+        }
+        "cache_status_among" => among(alloc, policy(alloc, case), case),
+        _ => make_with(alloc, policy(alloc, case), OfPolicy, case),
+    }
+}
 
 fn main(rt: HostRuntime) -> Result<(), Fail> {
     for line in rt.lines(rt.alloc()) {

@@ -1,12 +1,22 @@
-//! Policies of cases, and what they return.
-use crate::shown::{lines_or_error, word};
-use http::{request, response};
-use http_cache_semantics::directives::format_cache_control;
+//! Policies of cases, and calls on them.
+use crate::headers::lines;
+use crate::make::{Make, make_with};
+use http::{Method, Uri, Version, request, response};
+use http_cache_semantics::directives::{CacheControl, format_cache_control};
 use http_cache_semantics::stale_use::StaleUse;
-use http_cache_semantics::{CacheOptions, CachePolicy};
+use http_cache_semantics::{CacheError, CacheOptions, CachePolicy, Variants};
+use jiff::Timestamp;
 use std::alloc::Global;
 use std::test::Fail;
-use test_cases::fixtures::{after, field, request, response};
+use test_cases::fixtures::{after, field, headers, request, response};
+
+/// A call on a policy.
+#[derive(Clone, Copy)]
+pub struct OfPolicy;
+
+/// The policy of an exchange.
+#[derive(Clone, Copy)]
+pub struct OfExchange;
 
 // The options that a word names: `own` is a private cache, `cargo` ignores cargo cult.
 fn options(word: &str) -> CacheOptions {
@@ -17,26 +27,52 @@ fn options(word: &str) -> CacheOptions {
     }
 }
 
-/// The policy of an exchange, received at the start, by the options that a word names.
-pub fn policy_of(
-    alloc: Global,
-    request: &request::Parts,
-    response: &response::Parts,
-    word: &str,
-) -> Result<CachePolicy, Fail> {
-    let opts = options(word);
-    Ok(CachePolicy::new_options(alloc, request, response, after(0)?, opts)?)
+// The time of the call, so many nanoseconds after the response was received.
+fn now(case: &str) -> Result<Timestamp, Fail> {
+    after(field(case, 8)?.parse::<i64>()?)
 }
 
-fn policy_with(alloc: Global, word: &str, status: &str, lines: &str) -> Result<CachePolicy, Fail> {
-    let request = request(alloc, "GET", "")?;
-    let response = response(alloc, status, lines)?;
-    policy_of(alloc, &request, &response, word)
+/// The policy of the exchange of a case.
+pub fn policy(alloc: Global, case: &str) -> Result<CachePolicy, Fail> {
+    let request = request(alloc, field(case, 1)?, field(case, 2)?);
+    make_with(alloc, request, OfExchange, case)
 }
 
-// The policy of a case, whose second to fourth fields are a word, a status and headers.
-fn policy(alloc: Global, case: &str) -> Result<CachePolicy, Fail> {
-    policy_with(alloc, field(case, 1)?, field(case, 2)?, field(case, 3)?)
+impl Make<OfExchange> for request::Parts {
+    type Made = CachePolicy;
+
+    fn make(&self, alloc: Global, _by: OfExchange, case: &str) -> Result<CachePolicy, Fail> {
+        let response = response(alloc, field(case, 3)?, field(case, 4)?);
+        make_with(alloc, response, self, case)
+    }
+}
+
+impl Make<&request::Parts> for response::Parts {
+    type Made = CachePolicy;
+
+    fn make(
+        &self,
+        alloc: Global,
+        request: &request::Parts,
+        case: &str,
+    ) -> Result<CachePolicy, Fail> {
+        let options = options(field(case, 5)?);
+        Ok(CachePolicy::new_options(alloc, request, self, after(0)?, options)?)
+    }
+}
+
+// The request of a case for a target.
+fn asking(alloc: Global, case: &str) -> Result<request::Parts, Fail> {
+    Ok(request::Parts {
+        method: Method::from_bytes(alloc, field(case, 6)?.as_bytes())?,
+        uri: Uri::from_str(alloc, field(case, 9)?)?,
+        version: Version::HTTP_11,
+        headers: headers(alloc, field(case, 7)?)?,
+    })
+}
+
+fn word(alloc: Global, holds: bool) -> Result<String, Fail> {
+    Ok(String::from_str(alloc, if holds { "yes" } else { "no" })?)
 }
 
 fn use_word(allowed: StaleUse) -> &'static str {
@@ -48,67 +84,98 @@ fn use_word(allowed: StaleUse) -> &'static str {
     }
 }
 
-fn use_by(alloc: Global, policy: &CachePolicy, case: &str) -> Result<&'static str, Fail> {
-    let now = after(field(case, 6)?.parse::<i64>()?)?;
-    let request = request(alloc, field(case, 4)?, field(case, 5)?)?;
-    Ok(use_word(policy.stale_use(&request, now)))
+fn sent(alloc: Global, parts: Result<response::Parts, CacheError>) -> Result<String, Fail> {
+    match parts {
+        Ok(parts) => lines(alloc, &parts.headers),
+        Err(e) => Ok(format!(in alloc; "{e}")?),
+    }
 }
 
-/// Which use of a stale response is allowed to a request, after so many nanoseconds.
-pub fn stale_use(alloc: Global, case: &str) -> Result<&'static str, Fail> {
-    let policy = policy(alloc, case)?;
-    use_by(alloc, &policy, case)
+fn line(alloc: Global, read: Result<CacheControl, CacheError>) -> Result<String, Fail> {
+    match read {
+        Ok(read) => Ok(format_cache_control(alloc, &read)?),
+        Err(e) => Err(e)?,
+    }
 }
 
-/// Whether the stored response says that it isn't used stale.
-pub fn forbids_stale(alloc: Global, case: &str) -> Result<&'static str, Fail> {
-    let policy = policy(alloc, case)?;
-    Ok(word(policy.forbids_stale()))
+impl Make<OfPolicy> for CachePolicy {
+    type Made = String;
+
+    fn make(&self, alloc: Global, _by: OfPolicy, case: &str) -> Result<String, Fail> {
+        match field(case, 0)? {
+            "forbids_stale" => word(alloc, self.forbids_stale()),
+            "storability" => {
+                Ok(format!(in alloc; "{} ~ {}", self.storability(), self.freshness())?)
+            }
+            "response_at" => sent(alloc, self.response_at(alloc, now(case)?)),
+            "stored_directives" => line(alloc, self.stored_directives(alloc)),
+            "is_confirmed_by" => {
+                let response = response(alloc, field(case, 6)?, field(case, 7)?);
+                make_with(alloc, response, self, case)
+            }
+            _ => make_with(alloc, asking(alloc, case), self, case),
+        }
+    }
 }
 
-fn is_answered_by(alloc: Global, policy: &CachePolicy, case: &str) -> Result<&'static str, Fail> {
-    let request = request(alloc, field(case, 4)?, field(case, 5)?)?;
-    Ok(word(policy.is_not_modified_for(&request)))
+// Whether this response confirms the stored one.
+impl Make<&CachePolicy> for response::Parts {
+    type Made = String;
+
+    fn make(&self, alloc: Global, policy: &CachePolicy, _case: &str) -> Result<String, Fail> {
+        word(alloc, policy.is_confirmed_by(self))
+    }
 }
 
-/// Whether a 304 answers a request's own conditions.
-pub fn is_not_modified_for(alloc: Global, case: &str) -> Result<&'static str, Fail> {
-    let policy = policy(alloc, case)?;
-    is_answered_by(alloc, &policy, case)
+// What the policy says of this request.
+impl Make<&CachePolicy> for request::Parts {
+    type Made = String;
+
+    fn make(&self, alloc: Global, policy: &CachePolicy, case: &str) -> Result<String, Fail> {
+        match field(case, 0)? {
+            "stale_use" => {
+                let text = use_word(policy.stale_use(self, now(case)?));
+                Ok(String::from_str(alloc, text)?)
+            }
+            "is_not_modified_for" => word(alloc, policy.is_not_modified_for(self)),
+            "explain" => Ok(policy.explain(self, now(case)?).to_string(alloc)?),
+            "cache_status" => {
+                let said = policy.explain(self, now(case)?);
+                Ok(said.cache_status(alloc, "ExampleCache")?)
+            }
+            _ => Err("no such call")?,
+        }
+    }
 }
 
-fn is_confirmed(alloc: Global, policy: &CachePolicy, case: &str) -> Result<&'static str, Fail> {
-    let answer = response(alloc, field(case, 4)?, field(case, 5)?)?;
-    Ok(word(policy.is_confirmed_by(&answer)))
+fn added<T: Drop>(added: Result<(), (T, CacheError)>) -> Result<(), Fail> {
+    match added {
+        Ok(()) => Ok(()),
+        Err((_, e)) => Err(e)?,
+    }
 }
 
-/// Whether another response confirms the stored one.
-pub fn is_confirmed_by(alloc: Global, case: &str) -> Result<&'static str, Fail> {
-    let policy = policy(alloc, case)?;
-    is_confirmed(alloc, &policy, case)
+fn among_these(
+    alloc: Global,
+    variants: &mut Variants,
+    policy: Result<CachePolicy, Fail>,
+    case: &str,
+) -> Result<String, Fail> {
+    added(variants.add(policy?))?;
+    make_with(alloc, asking(alloc, case), &*variants, case)
 }
 
-fn sent(alloc: Global, policy: &CachePolicy, nanos: &str) -> Result<String, Fail> {
-    let now = after(nanos.parse::<i64>()?)?;
-    lines_or_error(
-        alloc,
-        policy.response_at(alloc, now).map(|parts| parts.headers),
-    )
+/// The member of Cache-Status by several policies, of which there is one.
+pub fn among(alloc: Global, policy: Result<CachePolicy, Fail>, case: &str) -> Result<String, Fail> {
+    let mut variants = Variants::new(alloc);
+    among_these(alloc, &mut variants, policy, case)
 }
 
-/// What is sent of the stored response, after so many nanoseconds.
-pub fn response_at(alloc: Global, case: &str) -> Result<String, Fail> {
-    let policy = policy(alloc, case)?;
-    sent(alloc, &policy, field(case, 4)?)
-}
+impl Make<&Variants> for request::Parts {
+    type Made = String;
 
-fn line(alloc: Global, policy: &CachePolicy) -> Result<String, Fail> {
-    let directives = policy.stored_directives(alloc)?;
-    Ok(format_cache_control(alloc, &directives)?)
-}
-
-/// The directives by which a policy decides, as a line.
-pub fn stored_directives(alloc: Global, case: &str) -> Result<String, Fail> {
-    let policy = policy(alloc, case)?;
-    line(alloc, &policy)
+    fn make(&self, alloc: Global, variants: &Variants, case: &str) -> Result<String, Fail> {
+        let said = variants.explain(self, now(case)?);
+        Ok(said.cache_status(alloc, "ExampleCache")?)
+    }
 }

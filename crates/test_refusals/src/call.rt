@@ -1,6 +1,10 @@
-//! The calls.
+//! The calls, and the exchange on which each is made.
+use crate::exchange::{EXAMPLE, Exchange, MAIN, PRIVATE, VARIANTS, VARIED};
 
-/// A call that may take memory.
+/// How many calls may take memory. They come first.
+const TAKING_MEMORY: usize = 30;
+
+/// A call.
 #[derive(Clone, Copy, Debug)]
 pub enum Call {
     New,
@@ -53,10 +57,75 @@ pub enum Call {
     Detail,
     /// `text` of a member that says all that a cache learns.
     Member,
+    IsStorable,
+    Age,
+    TimeToLive,
+    IsStale,
+    Storability,
+    Freshness,
+    StoredTarget,
+    StoredMethod,
+    StoredStatus,
+    StoredHeaders,
+    StoredResponseTime,
+    /// Of a request that matches, and of one that doesn't.
+    MatchesRequest,
+    /// The same.
+    FreshAt,
+    /// The same.
+    Explain,
+    /// `outcome` of both explanations.
+    Outcome,
+    /// `time_left` of the first.
+    TimeLeft,
+    /// Of a request that is to be validated, where no use of a stale response is allowed.
+    StaleUse,
+    /// Of a response that doesn't say so.
+    ForbidsStale,
+    /// Of a request whose If-None-Match has another tag.
+    IsNotModifiedFor,
+    SatisfiesWithoutRevalidation,
+    GetStr,
+    /// With each step to the end.
+    GetAllComma,
+    Len,
+    ContainsKey,
+    Get,
+    EntryAt,
+    Fraction,
+    DefaultOptions,
+    OptionsFromValue,
+    MomentFromValue,
+    IsSameUri,
+    Method,
+    /// Of a request and of a response.
+    Headers,
+    Status,
+    /// `new`, `len` and `is_empty` of variants.
+    NewVariants,
+    PolicyAt,
+    Replace,
+    Remove,
+    /// `choose`, where none of the variants matches.
+    ChooseNothing,
+    FreshPlace,
+    MatchingPlace,
+    /// `explain` of variants, for a request that one answers, and where none matches.
+    ExplainVariants,
+    /// From 1900 on, and before.
+    PrintDate,
+    /// The same.
+    HttpDate,
+    /// Of the usual length.
+    ReadDate,
+    IsConfirmedBy,
+    IsEmpty,
+    /// `iter`, with each step to the end.
+    Iter,
 }
 
 /// Each call once.
-pub const CALLS: [Call; 30] = [
+pub const CALLS: [Call; 78] = [
     Call::New,
     Call::NewOptions,
     Call::TryClone,
@@ -87,4 +156,71 @@ pub const CALLS: [Call; 30] = [
     Call::CacheStatus,
     Call::Detail,
     Call::Member,
+    Call::IsStorable,
+    Call::Age,
+    Call::TimeToLive,
+    Call::IsStale,
+    Call::Storability,
+    Call::Freshness,
+    Call::StoredTarget,
+    Call::StoredMethod,
+    Call::StoredStatus,
+    Call::StoredHeaders,
+    Call::StoredResponseTime,
+    Call::MatchesRequest,
+    Call::FreshAt,
+    Call::Explain,
+    Call::Outcome,
+    Call::TimeLeft,
+    Call::StaleUse,
+    Call::ForbidsStale,
+    Call::IsNotModifiedFor,
+    Call::SatisfiesWithoutRevalidation,
+    Call::GetStr,
+    Call::GetAllComma,
+    Call::Len,
+    Call::ContainsKey,
+    Call::Get,
+    Call::EntryAt,
+    Call::Fraction,
+    Call::DefaultOptions,
+    Call::OptionsFromValue,
+    Call::MomentFromValue,
+    Call::IsSameUri,
+    Call::Method,
+    Call::Headers,
+    Call::Status,
+    Call::NewVariants,
+    Call::PolicyAt,
+    Call::Replace,
+    Call::Remove,
+    Call::ChooseNothing,
+    Call::FreshPlace,
+    Call::MatchingPlace,
+    Call::ExplainVariants,
+    Call::PrintDate,
+    Call::HttpDate,
+    Call::ReadDate,
+    Call::IsConfirmedBy,
+    Call::IsEmpty,
+    Call::Iter,
 ];
+
+/// Returns the exchange on which the call at a position is made.
+pub fn exchange_of(call: Call, at: usize) -> Exchange {
+    match call {
+        Call::Unstorable => PRIVATE,
+        Call::ReplayExample => EXAMPLE,
+        Call::ChooseFresh
+        | Call::ChooseValidated
+        | Call::ChooseNothing
+        | Call::PolicyAt
+        | Call::Replace
+        | Call::Remove
+        | Call::FreshPlace
+        | Call::MatchingPlace
+        | Call::ExplainVariants => VARIANTS,
+        _ if at < TAKING_MEMORY => MAIN,
+        _ => VARIED,
+    }
+}

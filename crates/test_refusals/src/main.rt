@@ -1,19 +1,23 @@
-//! Makes each call of the library, or the one whose place it is given, and names it: those that may
-//! take memory, and behind them those that take none. One that is refused is told, and made again,
-//! once it is seen that nothing has changed.
+//! Makes each call of the library, or the one whose position it is given, and names it: those that may
+//! take memory, and after them those that take none. A refused one is reported, and made again once it is
+//! seen that nothing has changed.
 //!
 //! It is for runs with requests for memory refused. Without that, no call is refused.
 #![tactic(auto)]
 
-mod answers;
+mod answer;
 mod call;
 mod case;
+mod exchange;
 mod look;
+mod wanted;
 
-use call::{CALLS, Call};
-use case::Case;
-use http_cache_semantics::CacheError;
-use look::{LOOKS, Look};
+use cache_script::Script;
+use call::{CALLS, Call, exchange_of};
+use case::{Alone, Case, Scene, form, script_of};
+use exchange::Exchange;
+use http::HeaderMap;
+use http_cache_semantics::{CacheError, CachePolicy, Variants};
 use std::alloc::Global;
 use std::process::ExitCode;
 use std::{env, io};
@@ -23,7 +27,7 @@ use std::{env, io};
 enum End {
     Answered,
     Refused,
-    // The exchange couldn't be made, so there was no call.
+    // What the call is made on couldn't be made, so there was no call.
     Unmade,
     Wrong,
 }
@@ -39,59 +43,133 @@ impl End {
     }
 }
 
-fn is_as_before(alloc: Global, case: &Case, call: Call) -> Result<bool, CacheError> {
-    Ok(case.is_unchanged(call)? && case.is_written_so(alloc)? && case.is_right(alloc, call)?)
+fn unmade(e: CacheError) -> End {
+    match e {
+        CacheError::Memory => End::Unmade,
+        _ => End::Wrong,
+    }
 }
 
-// After a refusal for want of memory: the policy is as it was, and the call is right.
-fn again(alloc: Global, case: &Case, call: Call, e: CacheError) -> End {
-    match (e, is_as_before(alloc, case, call)) {
+// Whether nothing has changed, and the call is right when it is made again.
+fn is_as_before<S: Scene>(
+    alloc: Global,
+    scene: &mut S,
+    case: Case<'_>,
+    call: Call,
+) -> Result<bool, CacheError> {
+    Ok(case.is_unchanged() && case.is_written_so(alloc)? && scene.is_right(alloc, case, call)?)
+}
+
+fn again<S: Scene>(alloc: Global, scene: &mut S, case: Case<'_>, call: Call, e: CacheError) -> End {
+    match (e, is_as_before(alloc, scene, case, call)) {
         (CacheError::Memory, Ok(true)) => End::Refused,
         _ => End::Wrong,
     }
 }
 
-// The call is named, and made. What is told of a refusal ends it, where all requests up to a write
-// are refused.
-fn made(rt: &HostRuntime, case: &Case, call: Call) -> End {
+// Names a call and makes it. The line that reports a refusal ends it where all requests up to a write are
+// refused.
+fn made<S: Scene>(rt: &HostRuntime, scene: &mut S, case: Case<'_>, call: Call) -> End {
     let _ = println!(rt; "{call:?}");
-    match case.is_right(rt.alloc(), call) {
+    match scene.is_right(rt.alloc(), case, call) {
         Ok(true) => End::Answered,
         Ok(false) => End::Wrong,
         Err(e) => {
             let _ = println!(rt; "refused");
-            again(rt.alloc(), case, call, e)
+            again(rt.alloc(), scene, case, call, e)
         }
     }
 }
 
-fn end_of(rt: &HostRuntime, call: Call) -> End {
-    match Case::new(rt.alloc(), call) {
-        Ok(case) => made(rt, &case, call),
-        Err(CacheError::Memory) => End::Unmade,
-        Err(_) => End::Wrong,
+fn in_scene<S: Scene + Drop>(
+    rt: &HostRuntime,
+    scene: Result<S, CacheError>,
+    case: Case<'_>,
+    call: Call,
+) -> End {
+    match scene {
+        Ok(mut scene) => made(rt, &mut scene, case, call),
+        Err(e) => unmade(e),
     }
 }
 
-fn end_of_look(rt: &HostRuntime, look: Look) -> End {
-    match look::is_right(rt, look) {
-        Ok(true) => End::Answered,
-        Ok(false) => End::Wrong,
-        Err(CacheError::Memory) => End::Unmade,
-        Err(_) => End::Wrong,
+fn in_case(rt: &HostRuntime, case: Case<'_>, call: Call) -> End {
+    let alloc = rt.alloc();
+    match call {
+        Call::Format
+        | Call::Len
+        | Call::ContainsKey
+        | Call::Get
+        | Call::EntryAt
+        | Call::IsEmpty
+        | Call::Iter => in_scene(rt, case.directives(alloc), case, call),
+        Call::ChooseFresh
+        | Call::ChooseValidated
+        | Call::ChooseNothing
+        | Call::PolicyAt
+        | Call::Replace
+        | Call::Remove
+        | Call::FreshPlace
+        | Call::MatchingPlace
+        | Call::ExplainVariants => in_scene(rt, case.variants(alloc), case, call),
+        Call::FromValue | Call::OptionsFromValue | Call::MomentFromValue => {
+            in_scene(rt, form(alloc), case, call)
+        }
+        Call::SatisfiesWithoutRevalidation => in_scene(rt, case.answer_at(alloc, 0), case, call),
+        Call::Add => in_scene(rt, Ok(Variants::new(alloc)), case, call),
+        Call::Append => in_scene(rt, Ok(HeaderMap::new(alloc)), case, call),
+        _ => made(rt, &mut Alone, case, call),
     }
 }
 
-// What is refused ends with the first call that is, so no other ends otherwise than at once.
+fn by_policy(
+    rt: &HostRuntime,
+    exchange: Exchange,
+    script: &Script,
+    policy: Result<CachePolicy, CacheError>,
+    call: Call,
+) -> End {
+    match policy {
+        Ok(policy) => {
+            let case = Case {
+                exchange,
+                script,
+                policy: &policy,
+            };
+            in_case(rt, case, call)
+        }
+        Err(e) => unmade(e),
+    }
+}
+
+fn by_script(
+    rt: &HostRuntime,
+    exchange: Exchange,
+    script: Result<Script, CacheError>,
+    call: Call,
+) -> End {
+    match script {
+        Ok(script) => by_policy(rt, exchange, &script, script.policy(rt.alloc()), call),
+        Err(e) => unmade(e),
+    }
+}
+
+fn end_of(rt: &HostRuntime, call: Call, exchange: Exchange) -> End {
+    by_script(rt, exchange, script_of(rt.alloc(), &exchange), call)
+}
+
+// The call at a position.
+fn end_at(rt: &HostRuntime, at: usize) -> End {
+    match CALLS.get(at) {
+        Some(call) => end_of(rt, *call, exchange_of(*call, at)),
+        None => End::Wrong,
+    }
+}
+
+// A run in which a request is refused ends with the call that made it.
 fn end_of_all(rt: &HostRuntime) -> End {
-    for call in CALLS {
-        let end = end_of(rt, call);
-        if end.status() != 0 {
-            return end;
-        }
-    }
-    for look in LOOKS {
-        let end = end_of_look(rt, look);
+    for at in 0..CALLS.len() {
+        let end = end_at(rt, at);
         if end.status() != 0 {
             return end;
         }
@@ -99,27 +177,17 @@ fn end_of_all(rt: &HostRuntime) -> End {
     End::Answered
 }
 
-// The call at a place, of all.
-fn end_at(rt: &HostRuntime, place: usize) -> End {
-    if let Some(call) = CALLS.get(place) {
-        return end_of(rt, *call);
-    }
-    LOOKS
-        .get(place.saturating_sub(CALLS.len()))
-        .map_or(End::Wrong, |look| end_of_look(rt, *look))
-}
-
-// The word behind the program's name, as a number.
-fn place(rt: &HostRuntime) -> io::Result<Option<usize>> {
+// The word after the program's name, as a number.
+fn position(rt: &HostRuntime) -> io::Result<Option<usize>> {
     let mut words = env::args(rt)?;
     let _program = words.next();
     Ok(words.next().and_then(|word| word.as_str().parse().ok()))
 }
 
 fn run(rt: &HostRuntime) -> End {
-    match place(rt) {
+    match position(rt) {
         Ok(None) => end_of_all(rt),
-        Ok(Some(place)) => end_at(rt, place),
+        Ok(Some(at)) => end_at(rt, at),
         Err(_) => End::Unmade,
     }
 }
