@@ -30,48 +30,49 @@ impl Call<'_> {
     }
 }
 
-fn weight_of_answer(answer: &BeforeRequest) -> u64 {
-    match answer {
-        BeforeRequest::Fresh(parts) => parts.headers.len() as u64,
-        BeforeRequest::Stale { request, .. } => request.headers.len() as u64,
+// What a call makes, of which something is added up, so that no call can be left out.
+trait Weight {
+    fn weight(&self) -> u64;
+}
+
+impl Weight for CachePolicy {
+    fn weight(&self) -> u64 {
+        u64::from(self.is_storable())
     }
 }
 
-fn weight_of_update(answer: &AfterResponse) -> u64 {
-    match answer {
-        AfterResponse::NotModified(_, parts) => parts.headers.len() as u64,
-        AfterResponse::Modified(_, parts) => parts.headers.len() as u64,
+impl Weight for BeforeRequest {
+    fn weight(&self) -> u64 {
+        match self {
+            BeforeRequest::Fresh(parts) => parts.headers.len() as u64,
+            BeforeRequest::Stale { request, .. } => request.headers.len() as u64,
+        }
     }
 }
 
-fn made_weight(alloc: Global, script: &Script) -> Result<u64, CacheError> {
-    Ok(u64::from(script.policy(alloc)?.is_storable()))
+impl Weight for AfterResponse {
+    fn weight(&self) -> u64 {
+        match self {
+            AfterResponse::NotModified(_, parts) => parts.headers.len() as u64,
+            AfterResponse::Modified(_, parts) => parts.headers.len() as u64,
+        }
+    }
 }
 
-fn copy_weight(alloc: Global, policy: &CachePolicy) -> Result<u64, CacheError> {
-    Ok(u64::from(policy.try_clone(alloc)?.is_storable()))
+impl Weight for Choice {
+    fn weight(&self) -> u64 {
+        match self {
+            Choice::Fresh { place, .. } | Choice::Validate { place, .. } => *place as u64,
+            Choice::Nothing => 1,
+        }
+    }
 }
 
-fn answer_weight(
-    alloc: Global,
-    policy: &CachePolicy,
-    request: &request::Parts,
-    now: Timestamp,
-) -> Result<u64, CacheError> {
-    Ok(weight_of_answer(&policy.before_request(alloc, request, now)?))
+// Drops what a call made, and returns its weight.
+fn weight_of<T: Weight + Drop>(made: Result<T, CacheError>) -> Result<u64, CacheError> {
+    Ok(made?.weight())
 }
 
-fn update_weight(
-    alloc: Global,
-    policy: &CachePolicy,
-    exchange: (&request::Parts, &response::Parts),
-    now: Timestamp,
-) -> Result<u64, CacheError> {
-    let (request, response) = exchange;
-    Ok(weight_of_update(&policy.after_response(alloc, request, response, now)?))
-}
-
-// Makes a call, and tells something of its answer, so that no call can be left out.
 #[inline(never)]
 fn once(
     alloc: Global,
@@ -80,12 +81,14 @@ fn once(
     call: &Call<'_>,
 ) -> Result<u64, CacheError> {
     match call {
-        Call::NewOptions => made_weight(alloc, script),
-        Call::TryClone => copy_weight(alloc, policy),
+        Call::NewOptions => weight_of(script.policy(alloc)),
+        Call::TryClone => weight_of(policy.try_clone(alloc)),
         Call::FreshAt(request, now) => Ok(u64::from(policy.fresh_at(*request, *now))),
-        Call::BeforeRequest(request, now) => answer_weight(alloc, policy, *request, *now),
+        Call::BeforeRequest(request, now) => {
+            weight_of(policy.before_request(alloc, *request, *now))
+        }
         Call::AfterResponse(request, response, now) => {
-            update_weight(alloc, policy, (*request, *response), *now)
+            weight_of(policy.after_response(alloc, *request, *response, *now))
         }
     }
 }
@@ -105,19 +108,23 @@ pub fn repeat(
     Some(sum)
 }
 
-fn add_copy(
-    alloc: Global,
-    variants: &mut Variants,
-    policy: &CachePolicy,
-) -> Result<(), CacheError> {
-    variants.add(policy.try_clone(alloc)?).map_err(|(_, e)| e)
+// Whether a value was added. One that wasn't is dropped.
+fn is_added<T: Drop>(added: Result<(), (T, CacheError)>) -> Result<(), CacheError> {
+    match added {
+        Ok(()) => Ok(()),
+        Err((_, e)) => Err(e),
+    }
+}
+
+fn add(variants: &mut Variants, policy: Result<CachePolicy, CacheError>) -> Result<(), CacheError> {
+    is_added(variants.add(policy?))
 }
 
 /// So many copies of a policy.
 pub fn copies_of(alloc: Global, policy: &CachePolicy, len: u64) -> Result<Variants, CacheError> {
     let mut variants = Variants::new(alloc);
     for _ in 0..len {
-        add_copy(alloc, &mut variants, policy)?;
+        add(&mut variants, policy.try_clone(alloc))?;
     }
     Ok(variants)
 }
@@ -129,10 +136,7 @@ fn choice_weight(
     request: &request::Parts,
     now: Timestamp,
 ) -> Result<u64, CacheError> {
-    match variants.choose(alloc, request, now)? {
-        Choice::Fresh { place, .. } | Choice::Validate { place, .. } => Ok(place as u64),
-        Choice::Nothing => Ok(1),
-    }
+    weight_of(variants.choose(alloc, request, now))
 }
 
 /// Chooses so many times, and sums up what the choices weigh; nothing where one is refused.

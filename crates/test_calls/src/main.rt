@@ -9,7 +9,10 @@
 //! | stored headers, received headers | `updated_headers` |
 //! | nanoseconds | `http_date` |
 //! | as `member` reads them | `member` |
-//! | stored method and headers, status and headers, a word for the options; then method or status, headers, nanoseconds, target | all others, on a policy |
+//! | an exchange, and what a policy of it is asked | all others |
+//!
+//! An exchange has the method and the headers of its request, the status and the headers of its response, and a
+//! word for the options. Then come a method or a status, headers, nanoseconds and a target.
 #![tactic(auto)]
 
 mod headers;
