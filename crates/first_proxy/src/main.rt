@@ -112,10 +112,7 @@ fn serve_stored<S: Alter + Drop>(
     serve_over(rt, store, origin)
 }
 
-fn serve_in_memory(
-    rt: &HostRuntime,
-    origin: Option<(String, String)>,
-) -> anyhow::Result<()> {
+fn serve_in_memory(rt: &HostRuntime, origin: Option<(String, String)>) -> anyhow::Result<()> {
     let hasher = RandomState::new(rt)?;
     let shelf = MemoryShelf::new(rt.alloc(), hasher, Limits::default())?;
     serve_over(rt, shelf, origin)
