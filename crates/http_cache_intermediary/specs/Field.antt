@@ -1,4 +1,4 @@
--- Headers, told by the lines of one name.
+-- Header maps, stated by the field lines of one name.
 use Rattle.std.specs.Prelude.{◌≡◌, ℕ, List, bytes_eq, false}
 use Rattle.http_cache_fields.specs.Headers.{Headers, values}
 

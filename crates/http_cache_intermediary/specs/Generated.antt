@@ -40,7 +40,7 @@ pub record IsDated (time : Option ℤ) (old new : Headers) : Type 0 where
 pub record IsGenerated (name : List ℕ) (status : ℕ) (detail : List ℕ) (time : Option ℤ) (head : Parts)
     : Type 0 where
   pub status_is : head.status ≡ status
-  pub told : values (headers_of head.headers) (codes "cache-status") ≡ member_text (member_with name detail) ∷ []
+  pub cache_status : values (headers_of head.headers) (codes "cache-status") ≡ member_text (member_with name detail) ∷ []
   pub dates : AreDateLines time (values (headers_of head.headers) (codes "date"))
   pub others : (other : List ℕ) → bytes_eq (codes "cache-status") other ≡ false
       → bytes_eq (codes "date") other ≡ false → values (headers_of head.headers) other ≡ []

@@ -1,4 +1,4 @@
-//! Single changes of a head, each told by the lines of one name.
+//! Single changes of a head, each stated by the field lines of one name.
 ghost use Rattle.std.specs.Prelude.{◌≡◌, [], ◌∷◌, string_bytes, IfOk, OnOk};
 ghost use Rattle.http_cache_fields.specs.Headers.{headers_of};
 ghost use Rattle.http_cache_intermediary.specs.Field.{HasLines};

@@ -94,7 +94,7 @@ impl CachePolicy {
         if !req.is_same_uri(self.stored_target()) {
             return Some(Reason::Target);
         }
-        if !has_same_first(self.request_headers(), req.headers(), &HOST) {
+        if !has_same_first(self.stored_request_headers(), req.headers(), &HOST) {
             return Some(Reason::Host);
         }
         if *self.stored_method() != *req.method() {
@@ -111,7 +111,7 @@ impl CachePolicy {
             (varied_names self.now) }
     {
         pieces_under(self.stored_headers(), VARY).find(|name| {
-            *name == "*" || !has_same_first_under(self.request_headers(), headers, name)
+            *name == "*" || !has_same_first_under(self.stored_request_headers(), headers, name)
         })
     }
 

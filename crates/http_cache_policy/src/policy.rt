@@ -238,8 +238,8 @@ impl CachePolicy {
         &self.parts.response_headers
     }
 
-    /// The options.
-    pub(crate) fn stored_options(&self) -> CacheOptions
+    /// Returns the options that the policy was made with.
+    pub fn stored_options(&self) -> CacheOptions
         ensures { options_of result ≡ self.now.options }
     {
         self.parts.options
@@ -252,8 +252,8 @@ impl CachePolicy {
         self.parts.response_time
     }
 
-    /// The headers of the stored request.
-    pub(crate) fn request_headers(&self) -> &HeaderMap
+    /// Returns the headers of the stored request, by which it is matched.
+    pub fn stored_request_headers(&self) -> &HeaderMap
         ensures { headers_of result.now ≡ self.now.request_headers }
     {
         &self.parts.request_headers

@@ -1,5 +1,5 @@
 -- Why a request has no answer.
-use Rattle.std.proofs.Common.{◌≡◌, ◌⊎◌, inl, inr, ℕ, ℤ, List, Option, None, Some, Result, Ok, Err, IfErr, OnErr, option_map, refl, []}
+use Rattle.std.proofs.Common.{◌≡◌, ◌⊎◌, inl, inr, ℕ, ℤ, List, Option, None, Some, Result, Ok, Err, IfErr, IsErrOf, OnErr, option_map, refl, subst, []}
 use Rattle.http.specs.Request.{head_of}
 use Rattle.http.specs.declared.request.Request.{Request}
 use Rattle.http.specs.declared.response.Response.{Response as Answer}
@@ -12,7 +12,8 @@ use Rattle.http_cache_client.specs.declared.origin.FetchError.TheVariants as fet
 use Rattle.http_cache_proxy.specs.Failure.{failure_of}
 use Rattle.http_cache_proxy.specs.Proxy.{IsSentOnAs, IsFetchFailure, IsCause, HasKept}
 use Rattle.http_cache_proxy.specs.Proxy.{IsAnswered, IsUnanswered}
-use Rattle.http_cache_proxy.specs.Write.{IsOutcome}
+use Rattle.http_cache_intermediary.specs.declared.refusal.Refusal.{Refusal}
+use Rattle.http_cache_proxy.specs.Write.{IsFailure, IsOutcome}
 use Rattle.http_cache_proxy.specs.declared.origin.NoAnswer.{NoAnswer}
 use Rattle.http_cache_proxy.specs.declared.origin.NoAnswer.TheVariants as answer
 use Rattle.http_cache_proxy.specs.declared.failure.Failure.{Failure}
@@ -77,6 +78,14 @@ answered-by sent before after name old nb new na time request response (Ok answe
     inr (inr bare)
 answered-by sent before after name old nb new na time request response (Err e) cause kept failure =
     inr (inl (record { cause = e; is_cause = cause; is_failure = failure; kept = kept }))
+
+-- the answer to a request that is refused is that refusal
+pub refused-by : {O : Type 0} (before after : O) (name method : List ℕ) (time : Option ℤ)
+    (response : Response) (r : Result (Answer (List ℕ)) Failure) (refusal : Refusal)
+    → IsErrOf r (Refused refusal) × (after ≡ before) → IsOutcome name method r time response
+    → (after ≡ before) × IsFailure name method (Refused refusal) time response
+refused-by before after name method time response r refusal is outcome =
+    (is.1, subst (λ s. IsOutcome name method s time response) is.0 outcome)
 
 pub none-of : {A B : Type 0} (f : A → B) (o : Option A) → option_map f o ≡ None → o ≡ None
 none-of f None e = refl

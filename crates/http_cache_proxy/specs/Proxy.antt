@@ -12,6 +12,7 @@ use Rattle.http_cache_client.specs.Fetch.{Outcome, Sends, HasSent, HasSentBoth, 
 use Rattle.http_cache_intermediary.specs.Refusal.{refusal_of}
 use Rattle.http_cache_intermediary.specs.Request.{IsForwarded}
 use Rattle.http_cache_intermediary.specs.declared.length.Content.TheVariants.{Known}
+use Rattle.http_cache_intermediary.specs.declared.refusal.Refusal.{Refusal}
 use Rattle.http_cache_proxy.specs.Write.{IsWritten, IsFailure}
 use Rattle.http_cache_proxy.specs.declared.failure.Failure.{Failure}
 use Rattle.http_cache_proxy.specs.declared.failure.Failure.TheVariants.{Refused, Unsendable, Memory, Lost, Cut}
@@ -91,13 +92,16 @@ module _ {O : Type 0} (sent : Sends O) (before after : O) (name : List ℕ)
     pub answer : Answer (List ℕ)
     pub is_written : IsWritten name (head_of request).method answer response
 
-  -- at the time that the clock showed, a request is sent on and answered. Without a time nothing is stored.
+  -- at the time that the clock showed, a request is sent on and answered, or refused where a rule refuses it.
+  -- Without a time nothing is stored.
   -- Where there is no memory for an answer, the response has only the status 500
   pub record IsProxied {C : Type 0} (shown : C → Option ℤ → C → Type 0) (clock_before clock_after : C)
       (request : Request (List ℕ)) (response : Response) : Type 0 where
     pub time : Option ℤ
     pub is_shown : shown clock_before time clock_after
     pub sent_on : IsSentAtMost sent before after name request
+    pub refused : (refusal : Refusal) → refusal_of name request false ≡ Some refusal
+        → (after ≡ before) × IsFailure name (head_of request).method (Refused refusal) time response
     pub unstored : time ≡ None → next_after ≡ next_before
     pub answered : IsAnswered request response
         ⊎ (IsUnanswered time request response ⊎ IsResponse 500 [] [] response)

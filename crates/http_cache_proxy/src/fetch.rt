@@ -1,9 +1,10 @@
 //! The answer to a request by way of the client, or why there is none.
-ghost use Rattle.std.specs.Prelude.{◌≡◌, ◌⊎◌, true, None, IfOk, IfErr, OnErr};
+ghost use Rattle.std.specs.Prelude.{◌≡◌, ◌⊎◌, true, false, Some, None, IfOk, IfErr, IsErrOf, OnErr};
 ghost use Rattle.http_cache_shelf.specs.Shelf.{KeepsAll};
 ghost use Rattle.http_cache_client.specs.Ask.{fields_of, IsOnlyIfCached};
 ghost use Rattle.http_cache_client.specs.Fetch.{Outcome, HasSentBoth, HasSentTwiceAtMost};
 ghost use Rattle.http_cache_messages.specs.Asking.{is_looked_up};
+ghost use Rattle.http_cache_intermediary.specs.Refusal.{refusal_of};
 ghost use Rattle.http_cache_proxy.specs.Proxy.{IsSentOnAs, IsFetchFailure, IsSentAtMost, IsCause, HasKept};
 
 use crate::failure::{Failure, failure_of};
@@ -11,7 +12,7 @@ use crate::origin::WholeOrigin;
 use bytes::Bytes;
 use http::{Request, Response as Answer};
 use http_cache_client::{Client, Origin};
-use http_cache_intermediary::{Content, Intermediary};
+use http_cache_intermediary::{Content, Intermediary, Refusal};
 use http_cache_semantics::CacheError;
 use http_cache_shelf::Shelf;
 use jiff::Timestamp;
@@ -134,6 +135,8 @@ where
     O::Error: Drop,
     ensures sent { IsSentAtMost ⟦<WholeOrigin<O> as Origin>⟧.sent origin.old origin.new
         intermediary.now request.now }
+    ensures refused { (refusal : Refusal) → refusal_of intermediary.now request.now false ≡ Some refusal
+        → IsErrOf result (Failure.Refused refusal) × (origin.new ≡ origin.old) }
     ensures cause { IfErr result (IsCause ⟦<WholeOrigin<O> as Origin>⟧.sent origin.old origin.new
         intermediary.now request.now) }
     ensures kept { OnErr result (HasKept ⟦<WholeOrigin<O> as Origin>⟧.sent origin.old origin.new

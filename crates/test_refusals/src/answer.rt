@@ -196,7 +196,7 @@ impl Answer for AfterResponse {
     }
 }
 
-// A position, and what is told of the request.
+// A position, and the request's report.
 impl Answer for Choice {
     type Wanted = (usize, &'static str);
 

@@ -67,6 +67,8 @@ pub enum Call {
     StoredMethod,
     StoredStatus,
     StoredHeaders,
+    StoredRequestHeaders,
+    StoredOptions,
     StoredResponseTime,
     /// Of a request that matches, and of one that doesn't.
     MatchesRequest,
@@ -125,7 +127,7 @@ pub enum Call {
 }
 
 /// Each call once.
-pub const CALLS: [Call; 78] = [
+pub const CALLS: [Call; 80] = [
     Call::New,
     Call::NewOptions,
     Call::TryClone,
@@ -166,6 +168,8 @@ pub const CALLS: [Call; 78] = [
     Call::StoredMethod,
     Call::StoredStatus,
     Call::StoredHeaders,
+    Call::StoredRequestHeaders,
+    Call::StoredOptions,
     Call::StoredResponseTime,
     Call::MatchesRequest,
     Call::FreshAt,

@@ -35,6 +35,8 @@ fn is_right_of_policy(case: Case<'_>, call: Call) -> bool {
             policy.stored_headers().get_str("cache-control")
                 == Some("max-age=10, a=\"b c\", public")
         }
+        Call::StoredRequestHeaders => policy.stored_request_headers().get_str("accept") == Some("a"),
+        Call::StoredOptions => policy.stored_options() == case.script.options,
         Call::StoredResponseTime => policy.stored_response_time().as_second() == 1_704_067_200,
         _ => !policy.forbids_stale(),
     }
@@ -66,7 +68,7 @@ fn explained_at(case: Case<'_>, at: usize) -> Option<(CacheOutcome, TimeLeft)> {
     }
 }
 
-// Whether a request that is answered and one with another Accept are told apart.
+// Whether a request that is answered and one with another Accept have different results.
 fn is_right_of_request(case: Case<'_>, call: Call) -> bool {
     match call {
         Call::Outcome => {

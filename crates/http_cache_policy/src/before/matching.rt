@@ -20,7 +20,7 @@ impl CachePolicy {
             → IsForStored self.now (Req.seen req.now) }
     {
         req.is_same_uri(self.stored_target())
-            && has_same_first(self.request_headers(), req.headers(), &HOST)
+            && has_same_first(self.stored_request_headers(), req.headers(), &HOST)
             && self.vary_matches(req.headers())
             && *self.stored_method() == *req.method()
     }
@@ -31,7 +31,7 @@ impl CachePolicy {
         ensures { result ≡ vary_matches self.now (varied_values self.now (headers_of headers.now)) }
     {
         get_all_comma(self.stored_headers().get_all(VARY)).all(|name| {
-            name != "*" && has_same_first_under(self.request_headers(), headers, name)
+            name != "*" && has_same_first_under(self.stored_request_headers(), headers, name)
         })
     }
 }

@@ -18,13 +18,13 @@ add_date-requires c =
 pub returns : goal.returns
 returns c = record {
   status_is = refl;
-  told = c.in_ok-add_date.ensures.others (codes "cache-status") refl
+  cache_status = c.in_ok-add_date.ensures.others (codes "cache-status") refl
       ∙ c.in_ok-set.ensures.is
       ∙ ap (λ (v : List ℕ). v ∷ []) (c.in_ok-value_of.ensures
       ∙ c.in_ok-text.ensures.value
       ∙ ap (λ (n : List ℕ). member_text (member_with n c.args.detail.now)) c.name.ensures);
   dates = c.in_ok-add_date.ensures.dates;
-  others = λ other told date. c.in_ok-add_date.ensures.others other date
-      ∙ c.in_ok-set.ensures.others other told
+  others = λ other member date. c.in_ok-add_date.ensures.others other date
+      ∙ c.in_ok-set.ensures.others other member
       ∙ none c.new-headers.result other c.new-headers.ensures;
 }

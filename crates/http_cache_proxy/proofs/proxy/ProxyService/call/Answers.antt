@@ -1,7 +1,7 @@
 -- What is written is by the outcome of the request, at the time that the clock showed.
 use Rattle.std.specs.Prelude.{option_map}
 use Rattle.jiff.specs.declared.timestamp.Timestamp.{Timestamp}
-use Rattle.http_cache_proxy.proofs.CauseLemmas.{answered-by, none-of}
+use Rattle.http_cache_proxy.proofs.CauseLemmas.{answered-by, refused-by, none-of}
 use Rattle.http_cache_proxy.proofs.proxy.ProxyService.call.Goals as goal
 
 pub returns-clause-ok : goal.returns-clause-ok
@@ -9,6 +9,8 @@ returns-clause-ok g c = record {
   time = option_map (λ (t : Timestamp). t.nanosecond) c.now-time.result;
   is_shown = c.now-time.ensures;
   sent_on = c.answer_to-answer.ensures.sent;
+  refused = λ refusal is. refused-by _ _ _ _ _ _ c.answer_to-answer.result refusal
+      (c.answer_to-answer.ensures.refused refusal is) c.write_outcome.ensures;
   unstored = λ none. c.answer_to-answer.ensures.unstored
       (none-of (λ (t : Timestamp). t.nanosecond) c.now-time.result none);
   answered = answered-by _ _ _ _ _ _ _ _ _ _ _ c.answer_to-answer.result
