@@ -11,7 +11,7 @@ use crate::lint::hints_of;
 use crate::tell::{listed, plain_line, plain_line_of_skip, request_text};
 use http_cache_recording::{Reading, Recorded};
 use http_cache_semantics::CacheOptions;
-use http_cache_summary::summary::{Summary, summary_of};
+use http_cache_walk::summary::{Summary, summary_of};
 use http_cache_walk::session::session;
 use http_cache_walk::walk::walk;
 use http_cache_walk::{Verdict, Walked};

@@ -5,7 +5,7 @@ ghost use Rattle.http_cache_audit.specs.Lines.{IsBehind};
 
 use crate::tell::request_text;
 use http_cache_recording::Recorded;
-use http_cache_summary::marks::{Mark, Obstacle, first_of, missed_by_name_of};
+use http_cache_walk::marks::{Mark, Obstacle, first_of, missed_by_name_of};
 use http_cache_walk::{Cause, Verdict, Walked};
 use std::alloc::{AllocError, Global};
 

@@ -1,4 +1,5 @@
 -- The lemmas about a walk.
 pub mod SessionLemmas
 pub mod ShelfLemmas
+pub mod SummaryLemmas
 pub mod WalkLemmas

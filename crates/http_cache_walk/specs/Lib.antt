@@ -4,4 +4,5 @@ pub mod Heard
 pub mod Key
 pub mod Session
 pub mod Shelf
+pub mod Summary
 pub mod Walk

@@ -1,11 +1,14 @@
-//! A walk over a recorded session: what a cache would have answered to each request.
+//! A walk over a recorded session: what a cache would have answered to each request, and the counts over
+//! the verdicts.
 #![tactic(auto)]
 
 pub mod asked;
 pub mod heard;
+pub mod marks;
 pub mod session;
 mod shelf;
 mod shelves;
+pub mod summary;
 mod target;
 pub mod walk;
 

@@ -1,8 +1,8 @@
 -- The sum so far is that of the entries so far.
 use Rattle.std.proofs.Common.{◌≡◌, ◌-◌, ◌^◌, min, take, sum_by}
 use Rattle.std.specs.List.{zip}
-use Rattle.http_cache_summary.specs.Summary.{bytes_if}
-use Rattle.http_cache_summary.proofs.summary.bytes_of.Given as goal
+use Rattle.http_cache_walk.specs.Summary.{bytes_if}
+use Rattle.http_cache_walk.proofs.summary.bytes_of.Given as goal
 
 abbrev pub invariant-loop-place : goal.invariant-loop-place
 invariant-loop-place l =

@@ -1,16 +1,16 @@
 //! What a whole audit counts.
 ghost use Rattle.std.specs.Prelude.{◌≡◌, ◌≢◌, ◌*◌, ◌/◌, not};
 ghost use Rattle.http_cache_recording.specs.Entry.{answer_seen, reading_seen, skip_seen};
-ghost use Rattle.http_cache_summary.specs.Summary.{count_of, bytes_for, bytes_if, bytes_of, not_storable_of};
-ghost use Rattle.http_cache_summary.specs.Summary.{zero_lifetimes_of, is_skip, is_skipped_for, skips_of, skipped_of};
-ghost use Rattle.http_cache_summary.specs.Summary.{assumed_of, sets_cookies, is_private, has_private, any_private};
+ghost use Rattle.http_cache_walk.specs.Summary.{count_of, bytes_for, bytes_if, bytes_of, not_storable_of};
+ghost use Rattle.http_cache_walk.specs.Summary.{zero_lifetimes_of, is_skip, is_skipped_for, skips_of, skipped_of};
+ghost use Rattle.http_cache_walk.specs.Summary.{assumed_of, sets_cookies, is_private, has_private, any_private};
 
 use crate::marks::{Came, Mark, Obstacle, count_of, has_mark};
 use http::header::{AUTHORIZATION, COOKIE, SET_COOKIE};
 use http_cache_fields::headers::contains_key;
 use http_cache_recording::{Answer, Reading, Recorded, Skip};
 use http_cache_semantics::explain::LifetimeSource;
-use http_cache_walk::{Verdict, Walked};
+use crate::walk::{Verdict, Walked};
 use std::fmt;
 
 /// Why an entry isn't audited: a variant of `Skip`.

@@ -2,12 +2,14 @@
 ghost use Rattle.std.specs.Prelude.{◌≡◌};
 ghost use Rattle.http_cache_walk.specs.Heard.{heard_seen, kept_seen};
 ghost use Rattle.http_cache_walk.specs.Walk.{verdict_seen};
-ghost use Rattle.http_cache_summary.specs.Summary.{is_validated, is_missed, is_missed_by_vary, has_come, is_changed};
-ghost use Rattle.http_cache_summary.specs.Summary.{has_obstacle, is_forbidden_by, source_number, gives_zero, is_zero_by};
-ghost use Rattle.http_cache_summary.specs.Summary.{has_mark, count_of, first_of, is_missed_by_name, missed_by_name_of};
+ghost use Rattle.http_cache_walk.specs.Summary.{is_validated, is_missed, is_missed_by_vary, has_come, is_changed};
+ghost use Rattle.http_cache_walk.specs.Summary.{has_obstacle, is_forbidden_by, source_number, gives_zero, is_zero_by};
+ghost use Rattle.http_cache_walk.specs.Summary.{has_mark, count_of, first_of, is_missed_by_name, missed_by_name_of};
 
 use http_cache_semantics::explain::{LifetimeSource, Obstacles};
-use http_cache_walk::{Cause, Heard, Kept, Verdict};
+use crate::asked::Cause;
+use crate::heard::{Heard, Kept};
+use crate::walk::Verdict;
 
 /// A condition that forbids to store a response: a field of `Obstacles`.
 #[derive(Clone, Copy, Debug)]

@@ -4,9 +4,9 @@ use Rattle.std.specs.List.{zip}
 use Rattle.std.proofs.lemmas.Option.{slice_get_read}
 use Rattle.std.proofs.lemmas.Slice.Zip.{length-zip}
 use Rattle.indexmap.proofs.ReorderLemmas.{slice_get-zip_some}
-use Rattle.http_cache_summary.specs.Summary.{bytes_if}
-use Rattle.http_cache_summary.proofs.SummaryLemmas.{stopped-next, sum-whole}
-use Rattle.http_cache_summary.proofs.summary.bytes_of.Goals as goal
+use Rattle.http_cache_walk.specs.Summary.{bytes_if}
+use Rattle.http_cache_walk.proofs.SummaryLemmas.{stopped-next, sum-whole}
+use Rattle.http_cache_walk.proofs.summary.bytes_of.Goals as goal
 
 pub loop-place-preserved : goal.loop-place-preserved
 loop-place-preserved c =

@@ -2,8 +2,8 @@
 use Rattle.std.proofs.Common.{rules, tests}
 use Rattle.std.proofs.lemmas.Iterator.{YieldsList-from_slice}
 use Rattle.std.proofs.lemmas.Iterator.Search.{any_from_yields_List}
-use Rattle.http_cache_summary.specs.Summary.{has_private}
-use Rattle.http_cache_summary.proofs.summary.any_private.Goals as goal
+use Rattle.http_cache_walk.specs.Summary.{has_private}
+use Rattle.http_cache_walk.proofs.summary.any_private.Goals as goal
 
 pub returns : goal.returns
 returns c =

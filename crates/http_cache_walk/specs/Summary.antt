@@ -14,17 +14,17 @@ use Rattle.http_cache_recording.specs.Entry.{upgrade, service_worker, no_moment,
 use Rattle.http_cache_recording.specs.declared.entry.Recorded.{Recorded}
 use Rattle.http_cache_walk.specs.declared.walk.Walked.{Walked}
 use Rattle.http_cache_walk.specs.declared.walk.Verdict.{Verdict}
-use Rattle.http_cache_summary.specs.declared.marks.Mark.{Mark}
-use Rattle.http_cache_summary.specs.declared.marks.Mark.TheVariants as mark
-use Rattle.http_cache_summary.specs.declared.marks.Came.{Came}
-use Rattle.http_cache_summary.specs.declared.marks.Came.TheVariants as came
-use Rattle.http_cache_summary.specs.declared.marks.Obstacle.{Obstacle}
-use Rattle.http_cache_summary.specs.declared.marks.Obstacle.TheVariants as obstacle
-use Rattle.http_cache_summary.specs.declared.summary.SkipKind.{SkipKind}
-use Rattle.http_cache_summary.specs.declared.summary.SkipKind.TheVariants as kind
-use Rattle.http_cache_summary.specs.declared.summary.NotStorable.{NotStorable}
-use Rattle.http_cache_summary.specs.declared.summary.ZeroLifetimes.{ZeroLifetimes}
-use Rattle.http_cache_summary.specs.declared.summary.Skipped.{Skipped}
+use Rattle.http_cache_walk.specs.declared.marks.Mark.{Mark}
+use Rattle.http_cache_walk.specs.declared.marks.Mark.TheVariants as mark
+use Rattle.http_cache_walk.specs.declared.marks.Came.{Came}
+use Rattle.http_cache_walk.specs.declared.marks.Came.TheVariants as came
+use Rattle.http_cache_walk.specs.declared.marks.Obstacle.{Obstacle}
+use Rattle.http_cache_walk.specs.declared.marks.Obstacle.TheVariants as obstacle
+use Rattle.http_cache_walk.specs.declared.summary.SkipKind.{SkipKind}
+use Rattle.http_cache_walk.specs.declared.summary.SkipKind.TheVariants as kind
+use Rattle.http_cache_walk.specs.declared.summary.NotStorable.{NotStorable}
+use Rattle.http_cache_walk.specs.declared.summary.ZeroLifetimes.{ZeroLifetimes}
+use Rattle.http_cache_walk.specs.declared.summary.Skipped.{Skipped}
 use Rattle.http_cache_walk.specs.Heard.{HeardSeen, KeptSeen, browser, stored, seeded, updated, updated_other}
 use Rattle.http_cache_walk.specs.Heard.{not_storable, not_selected, nothing_stored, failed as nothing_came}
 use Rattle.http_cache_walk.specs.Walk.{VerdictSeen, verdict_seen}

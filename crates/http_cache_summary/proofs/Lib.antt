@@ -1,2 +1,0 @@
--- The lemmas about counts.
-pub mod SummaryLemmas

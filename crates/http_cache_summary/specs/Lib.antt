@@ -1,2 +1,0 @@
--- What the answers over a recorded session come to.
-pub mod Summary
