@@ -2,12 +2,14 @@
 
     shelves.py WORD..    (WORD..: the command of bench_shelf; bin/bench --scaling calls it)
 
-A row a number of responses: over a shelf in memory the microseconds of a hit, the least of three runs of 20,000 hits, by
-how much it has grown since the row before, and the greatest memory of a run; over a store the same, with the size of its
-file and how long it takes to fill it and to open it.
+A row a number of responses: over a shelf in memory the instructions of a hit with the making of its request, where
+valgrind is installed, the microseconds of a hit, the least of three runs of 20,000 hits, by how much they have grown since
+the row before, and the greatest memory of a run; over a store the microseconds and memory, with the size of its file and
+how long it takes to fill it and to open it.
 """
 import os
 import re
+import shutil
 import subprocess
 import sys
 import tempfile
@@ -17,6 +19,9 @@ COMMAND = sys.argv[1:]
 HITS = "20000"
 RUNS = 3
 SIZES = [10, 100, 1000, 10000, 100000, 1000000]
+COUNTED = 1000
+MOST_COUNTED = 100000
+VALGRIND = ["valgrind", "--tool=callgrind", "--callgrind-out-file=/dev/null", "--trace-children=yes"]
 
 
 def run(*words):
@@ -39,15 +44,28 @@ def least(*words):
     return min(runs, key=lambda run: run[0]["hit_ns"])
 
 
+def collected(size, hits):
+    """The instructions of a whole run over a shelf in memory."""
+    ran = subprocess.run([*VALGRIND, *COMMAND, "memory", str(size), str(hits)], capture_output=True, text=True, check=True)
+    return int(re.findall(r"Collected : (\d+)", ran.stderr)[-1])
+
+
+def instructions(size):
+    """The instructions of a hit with the making of its request, as a cell of the table."""
+    if size > MOST_COUNTED or shutil.which("valgrind") is None:
+        return "-"
+    return str((collected(size, 2 * COUNTED) - collected(size, COUNTED)) // COUNTED)
+
+
 def shown(numbers, memory, before):
     grown = f"{numbers['hit_ns'] / before:.2f}" if before else "-"
     return f"{numbers['hit_ns'] / 1000:.2f} | {grown} | {memory / 1e6:.0f}"
 
 
 def main():
-    print("| responses | hit in memory, µs | grown | memory, MB | hit over a store, µs | grown | memory, MB "
-          "| file, MB | filled, s | opened, s |")
-    print("|---|---|---|---|---|---|---|---|---|---|")
+    print("| responses | instructions | hit in memory, µs | grown | memory, MB | hit over a store, µs | grown "
+          "| memory, MB | file, MB | filled, s | opened, s |")
+    print("|---|---|---|---|---|---|---|---|---|---|---|")
     before = before_file = None
     for size in SIZES:
         kept, memory = least("memory", str(size), HITS)
@@ -56,7 +74,7 @@ def main():
             filled, _ = run("fill", str(size), str(path))
             length = path.stat().st_size
             opened, memory_of_file = least("file", HITS, str(path))
-        print(f"| {size} | {shown(kept, memory, before)} | {shown(opened, memory_of_file, before_file)} "
+        print(f"| {size} | {instructions(size)} | {shown(kept, memory, before)} | {shown(opened, memory_of_file, before_file)} "
               f"| {length / 1e6:.1f} | {filled['fill_ns'] / 1e9:.2f} | {opened['open_ns'] / 1e9:.2f} |", flush=True)
         before, before_file = kept["hit_ns"], opened["hit_ns"]
 

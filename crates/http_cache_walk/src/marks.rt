@@ -6,10 +6,10 @@ ghost use Rattle.http_cache_walk.specs.Summary.{is_validated, is_missed, is_miss
 ghost use Rattle.http_cache_walk.specs.Summary.{has_obstacle, is_forbidden_by, source_number, gives_zero, is_zero_by};
 ghost use Rattle.http_cache_walk.specs.Summary.{has_mark, count_of, first_of, is_missed_by_name, missed_by_name_of};
 
-use http_cache_semantics::explain::{LifetimeSource, Obstacles};
 use crate::asked::Cause;
 use crate::heard::{Heard, Kept};
 use crate::walk::Verdict;
+use http_cache_semantics::explain::{LifetimeSource, Obstacles};
 
 /// A condition that forbids to store a response: a field of `Obstacles`.
 #[derive(Clone, Copy, Debug)]

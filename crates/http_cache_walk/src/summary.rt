@@ -6,11 +6,11 @@ ghost use Rattle.http_cache_walk.specs.Summary.{zero_lifetimes_of, is_skip, is_s
 ghost use Rattle.http_cache_walk.specs.Summary.{assumed_of, sets_cookies, is_private, has_private, any_private};
 
 use crate::marks::{Came, Mark, Obstacle, count_of, has_mark};
+use crate::walk::{Verdict, Walked};
 use http::header::{AUTHORIZATION, COOKIE, SET_COOKIE};
 use http_cache_fields::headers::contains_key;
 use http_cache_recording::{Answer, Reading, Recorded, Skip};
 use http_cache_semantics::explain::LifetimeSource;
-use crate::walk::{Verdict, Walked};
 use std::fmt;
 
 /// Why an entry isn't audited: a variant of `Skip`.

@@ -35,7 +35,8 @@ fn is_right_of_policy(case: Case<'_>, call: Call) -> bool {
             policy.stored_headers().get_str("cache-control")
                 == Some("max-age=10, a=\"b c\", public")
         }
-        Call::StoredRequestHeaders => policy.stored_request_headers().get_str("accept") == Some("a"),
+        Call::StoredRequestHeaders => policy.stored_request_headers().get_str("accept")
+            == Some("a"),
         Call::StoredOptions => policy.stored_options() == case.script.options,
         Call::StoredResponseTime => policy.stored_response_time().as_second() == 1_704_067_200,
         _ => !policy.forbids_stale(),
