@@ -1,0 +1,292 @@
+/* When a stored HTTP response may be used again (RFC 7234, RFC 9111, RFC 5861, RFC 9211).
+
+   A message is its head, as HTTP/1.1 sends it: the request or status line, the field lines, and the
+   empty line, with nothing after it (RFC 9112). Lines end in CRLF, or in LF only. A policy is its
+   stored form: bytes that hcs_new and hcs_after write, to be kept beside the body. Its first byte
+   is 1 in the compact form, and anything else is JSON. Each call reads both.
+
+   Each sentence on a call is proved of it; the word in parentheses is the name of the clause that
+   says so, in the contract of the function of that name in crates/http_cache_c/src.
+
+   Results. 0 and above: the call did what it is for. Below 0: one of enum hcs_error. After an error
+   no buffer is written (kept), but *needed and *form_needed are.
+   Buffers. A call writes its bytes to the front of the caller's buffer, and nothing after them.
+   *needed is how many bytes they are, also where the buffer is too small. It is 0 after any other error.
+   Pointers. Each has the length after it. A pointer of length 0 may be null, every other may not.
+   What is written may not overlap what is read, or another thing that is written.
+   Memory. A call allocates by malloc and frees all of it before it returns. Nothing has to be freed.
+   Threads. A call keeps nothing, so any number of them may run at once.
+   Not from a signal handler, nor in the child of a fork of a process with several threads. */
+#ifndef HTTP_CACHE_SEMANTICS_H
+#define HTTP_CACHE_SEMANTICS_H
+
+#include <stddef.h>
+#include <stdint.h>
+
+#ifdef __cplusplus
+extern "C" {
+#endif
+
+/* Why a call did nothing. */
+enum hcs_error {
+  HCS_NO_MEMORY = -1,     /* out of memory */
+  HCS_MALFORMED = -2,     /* a stored form or a head can't be read */
+  HCS_FULL = -3,          /* a header map has no room for the fields: 24,576 names */
+  HCS_UNDATED = -4,       /* the Date of a fresh response would be before 1900 */
+  HCS_TOO_SMALL = -5,     /* a buffer is shorter than *needed or *form_needed */
+  HCS_BAD_ARGUMENT = -6   /* a time, options or a name out of range */
+};
+
+/* What a cache does with a request: the result of hcs_before. */
+enum hcs_verdict {
+  HCS_FRESH = 0,     /* it sends the stored body, under the head that was written */
+  HCS_VALIDATE = 1,  /* it sends the request that was written, and passes the response to hcs_after */
+  HCS_FORWARD = 2    /* it forwards the client's request, for which nothing is stored */
+};
+
+/* What is stored after a response: the result of hcs_after. */
+enum hcs_next {
+  HCS_NOT_MODIFIED = 0,  /* the stored body, under the form that was written */
+  HCS_MODIFIED = 1,      /* the received body, under the form that was written */
+  HCS_NOT_STORABLE = 2   /* nothing: the received response may not be stored */
+};
+
+/* What lets a response be stored: the result of hcs_storability. */
+enum hcs_permission {
+  HCS_FORBIDDEN = 0,
+  HCS_BY_EXPIRES = 1,
+  HCS_BY_MAX_AGE = 2,
+  HCS_BY_S_MAXAGE = 3,
+  HCS_BY_PUBLIC = 4,
+  HCS_BY_STATUS = 5
+};
+
+/* What forbids to store a response: the bits of *obstacles. */
+enum hcs_obstacle {
+  HCS_REQUEST_NO_STORE = 1,
+  HCS_METHOD = 2,
+  HCS_STATUS = 4,
+  HCS_RESPONSE_NO_STORE = 8,
+  HCS_PRIVATE = 16,
+  HCS_AUTHORIZATION = 32,
+  HCS_NO_PERMISSION = 64
+};
+
+/* What decides how long a response stays fresh: the result of hcs_freshness. */
+enum hcs_source {
+  HCS_SOURCE_NOT_STORABLE = 0,
+  HCS_SOURCE_NO_CACHE = 1,
+  HCS_SOURCE_OWN_COOKIES = 2,
+  HCS_SOURCE_VARY_ANY = 3,
+  HCS_SOURCE_PROXY_REVALIDATE = 4,
+  HCS_SOURCE_S_MAXAGE = 5,
+  HCS_SOURCE_MAX_AGE = 6,
+  HCS_SOURCE_UNREADABLE_EXPIRES = 7,
+  HCS_SOURCE_PAST_EXPIRES = 8,
+  HCS_SOURCE_EXPIRES = 9,
+  HCS_SOURCE_LAST_MODIFIED = 10,
+  HCS_SOURCE_IMMUTABLE = 11,
+  HCS_SOURCE_NOTHING = 12
+};
+
+/* Which use of a stale response is allowed: the result of hcs_stale_use has these bits, or is 0. */
+enum hcs_stale {
+  HCS_WHILE_REVALIDATE = 1,  /* while it is validated (RFC 5861, section 3) */
+  HCS_IF_ERROR = 2           /* if the origin server fails (RFC 5861, section 4) */
+};
+
+/* How stored forms are written: the member `form` of struct hcs_cache. */
+enum hcs_form {
+  HCS_COMPACT = 0,
+  HCS_JSON = 1
+};
+
+/* How a cache behaves. hcs_defaults writes all of it. */
+struct hcs_cache {
+  uint64_t secret;                 /* random bits, chosen once a process, against */
+  uint64_t more_secret;            /* header names that collide */
+  uint64_t immutable_seconds;      /* least lifetime of a response that says `immutable` */
+  uint32_t immutable_nanoseconds;  /* and its nanoseconds, below 1,000,000,000 */
+  uint32_t heuristic_numerator;    /* fraction of the time since Last-Modified */
+  uint32_t heuristic_denominator;  /* for which a response stays fresh; not 0 */
+  uint8_t shared;                  /* not 0 for a shared cache */
+  uint8_t ignore_cargo_cult;       /* not 0 if cargo-cult directives are ignored */
+  uint8_t form;                    /* an enum hcs_form */
+};
+
+/* A time: the whole seconds since 1970, rounded down, and the nanoseconds after them. */
+struct hcs_time {
+  int64_t seconds;
+  uint32_t nanoseconds;  /* below 1,000,000,000 */
+};
+
+/* A duration: the whole seconds, and the nanoseconds after them. */
+struct hcs_duration {
+  uint64_t seconds;
+  uint32_t nanoseconds;  /* below 1,000,000,000 */
+};
+
+/* Returns the version: a byte each for major, minor and patch. */
+uint32_t hcs_version(void);
+
+/* Writes the options of RFC 7234's shared cache and a secret of 0. */
+void hcs_defaults(struct hcs_cache *cache);
+
+/* Makes the policy of a response to a request, which was received at `received`.
+   1 if the response may be stored, else 0; out has the stored form of the policy of the request and
+   the response under the options of cache (stored).
+   HCS_MALFORMED only if request is no head of a request, or response no head of a response (malformed).
+   HCS_FULL only if one of them has more fields than a header map holds (full).
+   HCS_UNDATED is never returned (never_undated).
+   HCS_TOO_SMALL only if out is shorter than *needed (too_small).
+   HCS_BAD_ARGUMENT only if the options, the form or the time are out of range (bad_argument).
+   After an error out is as it was (kept). */
+int32_t hcs_new(const struct hcs_cache *cache, const uint8_t *request, size_t request_len,
+                const uint8_t *response, size_t response_len, const struct hcs_time *received,
+                uint8_t *out, size_t out_len, size_t *needed);
+
+/* Returns what a cache with the stored response does with a request at `now` (RFC 7234, section 4).
+   An enum hcs_verdict; out has the head that it sends: of the response for the client if it is
+   HCS_FRESH, else of the request that validates what is stored (answer).
+   HCS_MALFORMED only if stored is no stored form, or request no head of a request (malformed).
+   HCS_FULL only if a header map can't hold the fields of the request, or of what is sent (full).
+   HCS_UNDATED only if the response is fresh and its Date would be before 1900 (undated).
+   HCS_TOO_SMALL only if out is shorter than *needed (too_small).
+   HCS_BAD_ARGUMENT only if the time is out of range (bad_argument).
+   After an error out is as it was (kept). */
+int32_t hcs_before(const struct hcs_cache *cache, const uint8_t *stored, size_t stored_len,
+                   const uint8_t *request, size_t request_len, const struct hcs_time *now,
+                   uint8_t *out, size_t out_len, size_t *needed);
+
+/* Returns what is stored after the origin server has responded at `now` to a request that matched
+   (RFC 7234, section 4.3.4).
+   An enum hcs_next; form has the stored form of the next policy, and out the head for the client (next).
+   HCS_MALFORMED only if stored is no stored form, or one of the heads can't be read (malformed).
+   HCS_FULL only if a header map can't hold the fields of a head, or of what is sent (full).
+   HCS_UNDATED only if the Date of what is sent would be before 1900 (undated).
+   HCS_TOO_SMALL only if form is shorter than *form_needed, or out than *needed (too_small).
+   HCS_BAD_ARGUMENT only if the form or the time is out of range (bad_argument).
+   After an error form is as it was (form_kept), and so is out (kept). */
+int32_t hcs_after(const struct hcs_cache *cache, const uint8_t *stored, size_t stored_len,
+                  const uint8_t *request, size_t request_len, const uint8_t *response, size_t response_len,
+                  const struct hcs_time *now, uint8_t *form, size_t form_len, size_t *form_needed,
+                  uint8_t *out, size_t out_len, size_t *needed);
+
+/* Says why the stored response is used for a request at `now` or not (RFC 9211, section 2).
+   0; out has the member of Cache-Status for a cache of the name (member).
+   HCS_MALFORMED only if stored is no stored form, or request no head of a request (malformed).
+   HCS_FULL only if a header map can't hold the fields of the request (full).
+   HCS_UNDATED is never returned (never_undated).
+   HCS_TOO_SMALL only if out is shorter than *needed (too_small).
+   HCS_BAD_ARGUMENT only if the time is out of range, or the name isn't UTF-8 (bad_argument).
+   After an error out is as it was (kept). */
+int32_t hcs_explain(const struct hcs_cache *cache, const uint8_t *stored, size_t stored_len,
+                    const uint8_t *request, size_t request_len, const struct hcs_time *now,
+                    const uint8_t *name, size_t name_len, uint8_t *out, size_t out_len, size_t *needed);
+
+/* Says what lets the stored response be stored, or what forbids it (RFC 7234, section 3).
+   An enum hcs_permission (value); *obstacles has the bits of enum hcs_obstacle that apply (obstacles).
+   HCS_MALFORMED only if stored is no stored form (malformed).
+   No other error but HCS_NO_MEMORY is returned (others).
+   After an error *obstacles is as it was (kept). */
+int32_t hcs_storability(const uint8_t *stored, size_t stored_len, uint32_t *obstacles);
+
+/* Says how long the stored response stays fresh from when it was made (RFC 7234, section 4.2.1).
+   An enum hcs_source; *lifetime has the freshness lifetime (value).
+   HCS_MALFORMED only if stored is no stored form (malformed).
+   No other error but HCS_NO_MEMORY is returned (others).
+   After an error *lifetime is as it was (kept). */
+int32_t hcs_freshness(const uint8_t *stored, size_t stored_len, struct hcs_duration *lifetime);
+
+/* Says how long the stored response has been in caches at `now` (RFC 7234, section 4.2.3).
+   0; *out has the current age (value).
+   HCS_MALFORMED only if stored is no stored form (malformed).
+   HCS_BAD_ARGUMENT only if the time is out of range (bad_argument).
+   No other error but HCS_NO_MEMORY is returned (others).
+   After an error *out is as it was (kept). */
+int32_t hcs_age(const uint8_t *stored, size_t stored_len, const struct hcs_time *now,
+                struct hcs_duration *out);
+
+/* Says how much of the freshness lifetime is left at `now`, or zero (RFC 7234, section 4.2).
+   0; *out has what is left (value).
+   HCS_MALFORMED only if stored is no stored form (malformed).
+   HCS_BAD_ARGUMENT only if the time is out of range (bad_argument).
+   No other error but HCS_NO_MEMORY is returned (others).
+   After an error *out is as it was (kept). */
+int32_t hcs_time_to_live(const uint8_t *stored, size_t stored_len, const struct hcs_time *now,
+                         struct hcs_duration *out);
+
+/* Says whether the stored response may be used for a request at `now` without validation.
+   1 if it may, else 0 (value).
+   HCS_MALFORMED only if stored is no stored form, or request no head of a request (malformed).
+   HCS_FULL only if a header map can't hold the fields of the request (full).
+   HCS_BAD_ARGUMENT only if the time is out of range (bad_argument).
+   No other error but HCS_NO_MEMORY is returned (others). */
+int32_t hcs_fresh_at(const struct hcs_cache *cache, const uint8_t *stored, size_t stored_len,
+                     const uint8_t *request, size_t request_len, const struct hcs_time *now);
+
+/* Says which use of the stored response is allowed for a request once it is stale (RFC 5861).
+   The bits of enum hcs_stale, or 0 for neither (value).
+   HCS_MALFORMED only if stored is no stored form, or request no head of a request (malformed).
+   HCS_FULL only if a header map can't hold the fields of the request (full).
+   HCS_BAD_ARGUMENT only if the time is out of range (bad_argument).
+   No other error but HCS_NO_MEMORY is returned (others). */
+int32_t hcs_stale_use(const struct hcs_cache *cache, const uint8_t *stored, size_t stored_len,
+                      const uint8_t *request, size_t request_len, const struct hcs_time *now);
+
+/* Says whether a 304 answers the request's own conditions, once the stored response may be used
+   (RFC 9110, section 13.2.2).
+   1 if it does, else 0 (value).
+   HCS_MALFORMED only if stored is no stored form, or request no head of a request (malformed).
+   HCS_FULL only if a header map can't hold the fields of the request (full).
+   No other error but HCS_NO_MEMORY is returned (others). */
+int32_t hcs_is_not_modified_for(const struct hcs_cache *cache, const uint8_t *stored, size_t stored_len,
+                                const uint8_t *request, size_t request_len);
+
+/* Says whether a response is a 304 that selects the stored response (RFC 9111, section 4.3.4).
+   1 if it is, else 0 (value).
+   HCS_MALFORMED only if stored is no stored form, or response no head of a response (malformed).
+   HCS_FULL only if a header map can't hold the fields of the response (full).
+   No other error but HCS_NO_MEMORY is returned (others). */
+int32_t hcs_is_confirmed_by(const struct hcs_cache *cache, const uint8_t *stored, size_t stored_len,
+                            const uint8_t *response, size_t response_len);
+
+/* Writes the stored response as it may be sent at `now`, fresh or stale: its status, every field line
+   but those of one connection, and its Age (RFC 9111, sections 4.2.4 and 5.1).
+   0; out has the head (head).
+   HCS_MALFORMED only if stored is no stored form (malformed).
+   HCS_FULL only if the fields have no room for Age (full).
+   HCS_UNDATED is never returned (never_undated).
+   HCS_TOO_SMALL only if out is shorter than *needed (too_small).
+   HCS_BAD_ARGUMENT only if the time is out of range (bad_argument).
+   After an error out is as it was (kept). */
+int32_t hcs_response_at(const uint8_t *stored, size_t stored_len, const struct hcs_time *now,
+                        uint8_t *out, size_t out_len, size_t *needed);
+
+/* Writes the head of a response with one field line for each name (RFC 9110, section 5.3), as it is
+   to be passed to hcs_new.
+   0; out has the head (head).
+   HCS_MALFORMED only if response is no head of a response (malformed).
+   HCS_FULL only if a header map can't hold its fields (full).
+   HCS_TOO_SMALL only if out is shorter than *needed (too_small).
+   No other error but HCS_NO_MEMORY is returned (others).
+   After an error out is as it was (kept). */
+int32_t hcs_joined(const struct hcs_cache *cache, const uint8_t *response, size_t response_len,
+                   uint8_t *out, size_t out_len, size_t *needed);
+
+/* Writes the head of a stored response with the fields of a received 304 in place of the stored ones of
+   their names, and new names too (RFC 9111, section 3.2).
+   0; out has the head (head).
+   HCS_MALFORMED only if one of the two is no head of a response (malformed).
+   HCS_FULL only if a header map can't hold the fields of one, or of both (full).
+   HCS_TOO_SMALL only if out is shorter than *needed (too_small).
+   No other error but HCS_NO_MEMORY is returned (others).
+   After an error out is as it was (kept). */
+int32_t hcs_updated(const struct hcs_cache *cache, const uint8_t *stored, size_t stored_len,
+                    const uint8_t *received, size_t received_len, uint8_t *out, size_t out_len,
+                    size_t *needed);
+
+#ifdef __cplusplus
+}
+#endif
+#endif

@@ -1,0 +1,3 @@
+-- The lemmas about calls over bytes.
+mod ResultLemmas
+mod FormLemmas

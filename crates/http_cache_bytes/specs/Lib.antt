@@ -1,0 +1,6 @@
+pub mod Form
+pub mod Cause
+pub mod Facts
+pub mod Answer
+pub mod Next
+pub mod Message

@@ -1,0 +1,2 @@
+-- The lemmas about what crosses to C.
+mod BorderLemmas

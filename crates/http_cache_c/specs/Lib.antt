@@ -1,0 +1,4 @@
+pub mod Arguments
+pub mod Codes
+pub mod Buffer
+pub mod Results

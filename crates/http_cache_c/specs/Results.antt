@@ -1,0 +1,24 @@
+-- What is written of each result.
+use Rattle.std.specs.Prelude.{◌≡◌, ℕ, ℤ, List}
+use Rattle.http_cache_bytes.specs.declared.answer.Answer.{Answer}
+use Rattle.http_cache_bytes.specs.declared.form.Stored.{Stored}
+use Rattle.http_cache_bytes.specs.declared.next.Next.{Next}
+use Rattle.http_cache_c.specs.Codes.{verdict_code, bool_code, next_code}
+use Rattle.http_cache_c.specs.Buffer.{IsWritten, IsHanded}
+
+-- the stored form, with 1 if the response may be stored, else 0
+abbrev pub IsStoredOut : Stored → ℤ → ℕ → List ℕ → List ℕ → Type 0
+IsStoredOut s result needed old new =
+    IsHanded (bool_code s.storable) s.form.items result needed old new
+
+-- the head, with the code of the verdict
+abbrev pub IsAnswerOut : Answer → ℤ → ℕ → List ℕ → List ℕ → Type 0
+IsAnswerOut a result needed old new =
+    IsHanded (verdict_code a.verdict) a.head.items result needed old new
+
+-- the stored form and the head, each in its buffer
+pub record IsNextOut (n : Next) (result : ℤ) (form_needed : ℕ) (old_form new_form : List ℕ)
+    (needed : ℕ) (old new : List ℕ) : Type 0 where
+  pub code_is : result ≡ next_code n
+  pub form : IsWritten n.stored.form.items form_needed old_form new_form
+  pub head : IsWritten n.head.items needed old new

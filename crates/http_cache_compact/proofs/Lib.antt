@@ -1,0 +1,6 @@
+-- The lemmas about the compact form.
+mod FieldLemmas
+mod TextLemmas
+mod PairLemmas
+mod BackLemmas
+mod ReadsBackLemmas

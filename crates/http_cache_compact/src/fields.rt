@@ -1,0 +1,141 @@
+//! Field lines of the compact form.
+ghost use Rattle.std.specs.Prelude.{◌≡◌, ◌≢◌, ◌≤◌, Err, Some, None, IfOk, IfSome, IfNone, OnOk, IsErrOf, List, length};
+ghost use Rattle.http_header.specs.FieldName.{IsFieldName};
+ghost use Rattle.http_header.specs.FieldValue.{IsFieldValue, plain_value};
+ghost use Rattle.http_header.specs.Token.{lowercase};
+ghost use Rattle.http_cache_fields.specs.Headers.{Headers, headers_of};
+ghost use Rattle.http_cache_stored.specs.Pairs.{Pair, Fits, with_pair};
+ghost use Rattle.http_cache_compact.specs.Compact.{cut, field_of, fields_of, IsField, AreHeaders};
+
+use crate::numbers::{number_2, number_4};
+use http_cache_fields::CacheError;
+use http_header::{
+    HeaderMap, HeaderMapError, HeaderName, HeaderNameError, HeaderValue, HeaderValueError,
+};
+use std::alloc::Global;
+
+/// So many bytes at the front, and what follows them.
+#[derive(Clone, Copy)]
+pub(crate) struct Halves<'a> {
+    pub(crate) front: &'a [u8],
+    pub(crate) rest: &'a [u8],
+}
+
+/// Returns so many bytes at the front, if there are, and what follows them.
+#[tactic(auto, unfolding(crate::specs::Compact::cut))]
+pub(crate) fn cut(bytes: &[u8], length: u32) -> Option<Halves<'_>>
+    ensures some { IfSome result (λ c. cut length bytes.now ≡ Some (c.front.now, c.rest.now)) }
+    ensures none { IfNone result (cut length bytes.now ≡ None) }
+{
+    let (front, rest) = bytes.split_at_checked(length as usize)?;
+    Some(Halves { front, rest })
+}
+
+/// A field line, and what follows it.
+#[derive(Clone, Copy)]
+pub(crate) struct Field<'a> {
+    name: &'a [u8],
+    value: &'a [u8],
+    rest: &'a [u8],
+}
+
+// The field line at the front.
+#[tactic(auto, unfolding(crate::specs::Compact::field_of, crate::specs::Compact::cut))]
+fn field_of(bytes: &[u8]) -> Option<Field<'_>>
+    ensures some { IfSome result (λ f.
+        field_of bytes.now ≡ Some ((f.name.now, f.value.now), f.rest.now)) }
+    ensures none { IfNone result (field_of bytes.now ≡ None) }
+{
+    if bytes.len() < 6 {
+        return None;
+    }
+    let (name, others) = bytes[6..].split_at_checked(number_2(bytes, 0) as usize)?;
+    let (value, rest) = others.split_at_checked(number_4(bytes, 2) as usize)?;
+    Some(Field { name, value, rest })
+}
+
+/// Returns what follows so many field lines at the front.
+pub(crate) fn after_fields(count: u32, bytes: &[u8]) -> Option<&[u8]>
+    ensures some { IfSome result (λ rest. (fields : List Pair)
+        × (fields_of count bytes.now ≡ Some (fields, rest.now))) }
+    ensures none { IfNone result (fields_of count bytes.now ≡ None) }
+{
+    let mut rest = bytes;
+    let mut left = count;
+    while left > 0 {
+        rest = field_of(rest)?.rest;
+        left -= 1;
+    }
+    Some(rest)
+}
+
+fn name_of(alloc: Global, bytes: &[u8]) -> Result<HeaderName, CacheError>
+    ensures ok { IfOk result (λ name. name ≡ lowercase bytes.now) }
+    ensures valid { OnOk result (IsFieldName bytes.now) }
+    ensures malformed { IsErrOf result CacheError.Malformed → ¬ (IsFieldName bytes.now) }
+    ensures never_full { result ≢ Err CacheError.HeaderMapFull }
+    ensures printable { result ≢ Err CacheError.DateNotPrintable }
+{
+    match HeaderName::from_bytes(alloc, bytes) {
+        Ok(name) => Ok(name),
+        Err(HeaderNameError::OutOfMemory) => Err(CacheError::Memory),
+        Err(HeaderNameError::Invalid) => Err(CacheError::Malformed),
+    }
+}
+
+fn value_of(alloc: Global, bytes: &[u8]) -> Result<HeaderValue, CacheError>
+    ensures ok { IfOk result (λ value. value ≡ plain_value bytes.now) }
+    ensures valid { OnOk result (IsFieldValue bytes.now) }
+    ensures malformed { IsErrOf result CacheError.Malformed → ¬ (IsFieldValue bytes.now) }
+    ensures never_full { result ≢ Err CacheError.HeaderMapFull }
+    ensures printable { result ≢ Err CacheError.DateNotPrintable }
+{
+    match HeaderValue::from_bytes(alloc, bytes) {
+        Ok(value) => Ok(value),
+        Err(HeaderValueError::OutOfMemory) => Err(CacheError::Memory),
+        Err(HeaderValueError::Invalid) => Err(CacheError::Malformed),
+    }
+}
+
+// Adds a field line to headers, if it is valid and they have room.
+fn add(alloc: Global, headers: &mut HeaderMap, name: &[u8], value: &[u8]) -> Result<(), CacheError>
+    requires { Fits headers.now }
+    ensures added { OnOk result (headers.new ≡ with_pair headers.old (name.now, value.now)) }
+    ensures fits { OnOk result (Fits headers.new) }
+    ensures valid { OnOk result (IsField (name.now, value.now)) }
+    ensures malformed { IsErrOf result CacheError.Malformed → IsField (name.now, value.now)
+        → Fits (with_pair headers.old (name.now, value.now)) → ⊥ }
+    ensures never_full { result ≢ Err CacheError.HeaderMapFull }
+    ensures printable { result ≢ Err CacheError.DateNotPrintable }
+{
+    let name = name_of(alloc, name)?;
+    let value = value_of(alloc, value)?;
+    match headers.append(name, value) {
+        Ok(_) => Ok(()),
+        Err(HeaderMapError::MaxSizeReached) => Err(CacheError::Malformed),
+        Err(HeaderMapError::OutOfMemory) => Err(CacheError::Memory),
+    }
+}
+
+/// Returns the headers of so many field lines at the front.
+pub(crate) fn headers_in(alloc: Global, count: u32, bytes: &[u8]) -> Result<HeaderMap, CacheError>
+    ensures found { IfOk result (λ headers. IfSome (fields_of count bytes.now)
+        (λ p. AreHeaders p.0 (headers_of headers))) }
+    ensures malformed { IsErrOf result CacheError.Malformed → IfSome (fields_of count bytes.now)
+        (λ p. (h : Headers) → AreHeaders p.0 h → ⊥) }
+    ensures never_full { result ≢ Err CacheError.HeaderMapFull }
+    ensures printable { result ≢ Err CacheError.DateNotPrintable }
+{
+    let mut headers = HeaderMap::new(alloc);
+    let mut rest = bytes;
+    let mut left = count;
+    while left > 0 {
+        let Some(field) = field_of(rest) else {
+            return Err(CacheError::Malformed);
+        };
+        add(alloc, &mut headers, field.name, field.value)?;
+        rest = field.rest;
+        left -= 1;
+    }
+    Ok(headers)
+}

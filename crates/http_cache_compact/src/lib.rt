@@ -1,0 +1,17 @@
+//! The compact form of what a policy keeps.
+//!
+//! specs/Compact.antt says where each number and text is. A number is tested where it is read, and
+//! a text by the type that is made of it. It relies on the rules for what is kept, and on the JSON
+//! form for which headers field lines are.
+#![tactic(auto)]
+
+mod fields;
+mod numbers;
+mod read;
+mod write;
+
+pub use read::parts_from_compact;
+pub use write::{Kept, compact_of};
+
+/// The version of the form, which is its first byte.
+pub const VERSION: u8 = 1;

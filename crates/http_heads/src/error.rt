@@ -1,0 +1,28 @@
+//! Why a head can't be read or written.
+ghost use Rattle.std.specs.Prelude.{◌≡◌};
+ghost use Rattle.http_heads.specs.declared.error.HeadError.TheVariants.{Memory};
+
+use std::alloc::AllocError;
+use thiserror::Error;
+
+/// Why a head can't be read or written.
+#[derive(Clone, Copy, Debug, PartialEq, Eq, Error)]
+pub enum HeadError {
+    /// Out of memory.
+    #[error("out of memory")]
+    Memory,
+    /// The bytes aren't the head of a message, or are more than it.
+    #[error("not the head of a message")]
+    Malformed,
+    /// The head has more names or values than a header map holds.
+    #[error("header map full")]
+    HeaderMapFull,
+}
+
+impl From<AllocError> for HeadError {
+    ghost from_gives = { λ _ e. e ≡ Memory };
+
+    fn from(_e: AllocError) -> HeadError {
+        HeadError::Memory
+    }
+}
