@@ -1,0 +1,38 @@
+//! Calls on responses that have no policy.
+use crate::calls;
+use crate::error::Error;
+use crate::heads;
+use crate::messages::ResponseLike;
+use crate::options::CacheOptions;
+use crate::policy::head_of_response;
+use http::response;
+
+/// Returns a response with one line for each field name (RFC 9110, section 5.3). A policy sends the last line of
+/// each field, so a cache that keeps all of them joins them before it makes the policy.
+///
+/// # Errors
+///
+/// Returns `HeaderMapFull` if there are too many fields.
+pub fn joined<Res: ResponseLike>(response: &Res) -> Result<response::Parts, Error> {
+    heads::response_parts(&calls::joined(
+        &CacheOptions::default().cache(),
+        &head_of_response(response),
+    )?)
+}
+
+/// Returns a stored response with the fields of a received 304 in place of its own (RFC 9111, section 3.2).
+///
+/// # Errors
+///
+/// Returns `HeaderMapFull` if there is no room for the fields of both.
+pub fn updated<Res: ResponseLike, Received: ResponseLike>(
+    stored: &Res,
+    received: &Received,
+) -> Result<response::Parts, Error> {
+    let (stored, received) = (head_of_response(stored), head_of_response(received));
+    heads::response_parts(&calls::updated(
+        &CacheOptions::default().cache(),
+        &stored,
+        &received,
+    )?)
+}

@@ -1,0 +1,73 @@
+/* threads COUNT ROUNDS: every call, so many times in so many threads at once, each with its own form and buffers. Then
+   JSON that is nested deep takes the place of the form. The threads have the stack that docs/C.md says is enough.
+   Prints what is wrong, and ends with 0 if nothing is. */
+#include "calls.h"
+#include <pthread.h>
+#include <stdio.h>
+#include <stdlib.h>
+#include <string.h>
+
+enum { BUFFER = 4096, MOST_THREADS = 64, STACK = 256 * 1024, DEEPEST = 256 };
+
+struct work {
+  pthread_t thread;
+  long rounds, done, wrong;
+  uint8_t kind;
+};
+
+/* Every depth, to that at which a reader of JSON has to stop. */
+static void nested_forms(const struct hcs_cache *cache, const struct text *exchange, struct work *work) {
+  uint8_t text[BUFFER], next[BUFFER], deep[DEEPEST];
+  struct text in[INPUTS];
+  memcpy(in, exchange, sizeof in);
+  memset(deep, '[', DEEPEST);
+  in[FORM].at = deep;
+  for (in[FORM].len = 1; in[FORM].len <= DEEPEST; in[FORM].len++)
+    for (size_t i = 0; i < call_count; i++) {
+      struct results results = {{text, BUFFER, 0}, {next, BUFFER, 0}, 0};
+      if (calls[i].reads & 1u << FORM)
+        work->wrong += calls[i].run(cache, in, &results) != MALFORMED;
+    }
+}
+
+static void *all_calls(void *given) {
+  struct work *work = given;
+  uint8_t form[FORM_SIZE], text[BUFFER], next[BUFFER];
+  struct text in[INPUTS];
+  struct hcs_cache cache;
+  hcs_defaults(&cache);
+  cache.form = work->kind;
+  if (!make_exchange(work->kind, form, in))
+    work->wrong++;
+  for (long round = 0; round < work->rounds; round++)
+    for (size_t i = 0; i < call_count; i++) {
+      struct results results = {{text, BUFFER, 0}, {next, BUFFER, 0}, 0};
+      int32_t code = calls[i].run(&cache, in, &results);
+      work->wrong += !is_expected(&calls[i], code, &results);
+      work->done++;
+    }
+  nested_forms(&cache, in, work);
+  return NULL;
+}
+
+int main(int argc, char **argv) {
+  static struct work works[MOST_THREADS];
+  long count = argc > 2 ? atol(argv[1]) : 4, done = 0, wrong = 0;
+  pthread_attr_t attributes;
+  if (count < 1 || count > MOST_THREADS || pthread_attr_init(&attributes) != 0 ||
+      pthread_attr_setstacksize(&attributes, STACK) != 0)
+    return 2;
+  for (long i = 0; i < count; i++) {
+    works[i].rounds = argc > 2 ? atol(argv[2]) : 1000;
+    works[i].kind = (uint8_t)(i % 2);
+    if (pthread_create(&works[i].thread, &attributes, all_calls, &works[i]) != 0)
+      return 2;
+  }
+  for (long i = 0; i < count; i++) {
+    pthread_join(works[i].thread, NULL);
+    done += works[i].done;
+    wrong += works[i].wrong;
+  }
+  printf("%ld calls, %ld wrong\n", done, wrong);
+  return wrong != 0;
+}
