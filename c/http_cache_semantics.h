@@ -9,7 +9,7 @@
    says so, in the contract of the function of that name in crates/http_cache_c/src.
 
    Results. 0 and above: the call did what it is for. Below 0: one of enum hcs_error. After an error
-   no buffer is written (kept), but *needed and *form_needed are.
+   no buffer is written (kept), but *needed, *form_needed and *index are.
    Buffers. A call writes its bytes to the front of the caller's buffer, and nothing after them.
    *needed is how many bytes they are, also where the buffer is too small. It is 0 after any other error.
    Pointers. Each has the length after it. A pointer of length 0 may be null, every other may not.
@@ -37,7 +37,7 @@ enum hcs_error {
   HCS_BAD_ARGUMENT = -6   /* a time, options or a name out of range */
 };
 
-/* What a cache does with a request: the result of hcs_before. */
+/* What a cache does with a request: the result of hcs_before and of hcs_choose. */
 enum hcs_verdict {
   HCS_FRESH = 0,     /* it sends the stored body, under the head that was written */
   HCS_VALIDATE = 1,  /* it sends the request that was written, and passes the response to hcs_after */
@@ -129,7 +129,11 @@ struct hcs_duration {
 /* Returns the version: a byte each for major, minor and patch. */
 uint32_t hcs_version(void);
 
-/* Writes the options of RFC 7234's shared cache and a secret of 0. */
+/* Writes how a cache behaves by default.
+   cache has the default options: of a shared cache, with a tenth of the time since Last-Modified, 24 hours
+   for `immutable`, and no directive ignored (options).
+   They are in range (valid).
+   The secrets are 0 (secret), and form is HCS_COMPACT (form). */
 void hcs_defaults(struct hcs_cache *cache);
 
 /* Makes the policy of a response to a request, which was received at `received`.
@@ -157,6 +161,23 @@ int32_t hcs_new(const struct hcs_cache *cache, const uint8_t *request, size_t re
 int32_t hcs_before(const struct hcs_cache *cache, const uint8_t *stored, size_t stored_len,
                    const uint8_t *request, size_t request_len, const struct hcs_time *now,
                    uint8_t *out, size_t out_len, size_t *needed);
+
+/* Chooses among several stored responses for a request at `now`: the first that is fresh, else the first
+   that is a response to the request, which has to be validated (RFC 7234, sections 4 and 4.1). forms has
+   the stored forms one after another, and lengths the length of each, of which there are `count`.
+   An enum hcs_verdict; *index is the index of the chosen one from 0, and out has the head as that of
+   hcs_before, or with HCS_FORWARD *index is count, and *needed 0 (choice).
+   HCS_MALFORMED only if the lengths don't add up to forms_len, one of the forms is no stored form, or
+   request is no head of a request (malformed).
+   HCS_FULL only if a header map can't hold the fields of the request, or of what is sent (full).
+   HCS_UNDATED only if the chosen response is fresh and its Date would be before 1900 (undated).
+   HCS_TOO_SMALL only if out is shorter than *needed (too_small).
+   HCS_BAD_ARGUMENT only if the time is out of range (bad_argument).
+   After an error out is as it was (kept). */
+int32_t hcs_choose(const struct hcs_cache *cache, const uint8_t *forms, size_t forms_len,
+                   const size_t *lengths, size_t count, const uint8_t *request, size_t request_len,
+                   const struct hcs_time *now, size_t *index, uint8_t *out, size_t out_len,
+                   size_t *needed);
 
 /* Returns what is stored after the origin server has responded at `now` to a request that matched
    (RFC 7234, section 4.3.4).

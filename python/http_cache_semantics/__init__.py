@@ -24,6 +24,7 @@ from ._messages import Headers, Request, Response
 from ._options import CacheOptions, Time
 from ._policy import (
     CachePolicy,
+    Choice,
     Fresh,
     Freshness,
     Modified,
@@ -31,6 +32,7 @@ from ._policy import (
     Stale,
     StaleUse,
     Storability,
+    choose,
     joined,
     updated,
 )
@@ -39,6 +41,7 @@ __all__ = [
     "BadArgument",
     "CacheOptions",
     "CachePolicy",
+    "Choice",
     "DateNotPrintable",
     "Fresh",
     "Freshness",
@@ -55,6 +58,7 @@ __all__ = [
     "StaleUse",
     "Storability",
     "Time",
+    "choose",
     "joined",
     "library_version",
     "updated",

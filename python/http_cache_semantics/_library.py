@@ -52,6 +52,7 @@ _ARGUMENTS = {
     "hcs_new": _CACHE + _BYTES + _BYTES + _TIME + _OUT,
     "hcs_before": _CACHE + _BYTES + _BYTES + _TIME + _OUT,
     "hcs_after": _CACHE + _BYTES + _BYTES + _BYTES + _TIME + _OUT + _OUT,
+    "hcs_choose": _CACHE + _BYTES + [POINTER(c_size_t), c_size_t] + _BYTES + _TIME + _COUNT + _OUT,
     "hcs_explain": _CACHE + _BYTES + _BYTES + _TIME + _BYTES + _OUT,
     "hcs_storability": _BYTES + [POINTER(c_uint32)],
     "hcs_freshness": _BYTES + _DURATION,

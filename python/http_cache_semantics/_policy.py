@@ -1,9 +1,9 @@
 """Policies: what a cache decides for one stored response. Every decision is a call of the library."""
 from __future__ import annotations
 
-from ctypes import byref, c_uint32
+from ctypes import byref, c_size_t, c_uint32
 from dataclasses import dataclass
-from typing import Any, NamedTuple, Optional, Tuple, Union
+from typing import Any, NamedTuple, Optional, Sequence, Tuple, Union
 
 from ._library import Buffer, DurationStruct, called, filled, LIBRARY
 from ._messages import Headers, Request, Response, request_from, request_of, response_from, response_of
@@ -100,6 +100,14 @@ class StaleUse(NamedTuple):
 
     while_revalidating: bool
     after_error: bool
+
+
+@dataclass(frozen=True)
+class Choice:
+    """The stored response that is used for a request: the index of its policy, and what to do."""
+
+    index: int
+    decision: Union[Fresh, Stale]
 
 
 def _sized(data: bytes) -> Tuple[bytes, int]:
@@ -270,6 +278,20 @@ class CachePolicy:
     def __repr__(self) -> str:
         storable, reasons = self.storability()
         return f"<CachePolicy {'' if storable else 'not '}storable: {', '.join(reasons)}>"
+
+
+def choose(policies: Sequence[CachePolicy], request: RequestLike, now: Optional[Time] = None) -> Optional[Choice]:
+    """Returns which of several stored responses is used for a request: the first that is fresh, else the first that is a
+    response to the request, which has to be validated, else None (RFC 7234, sections 4 and 4.1).
+
+    Raises what `before_request` does."""
+    asked, forms = request_of(request), [policy.to_bytes() for policy in policies]
+    struct, index = CacheOptions()._struct(), c_size_t()
+    lengths = (c_size_t * len(forms))(*map(len, forms))
+    stored = (*_sized(b"".join(forms)), lengths, len(forms))
+    arguments = (byref(struct), *stored, *_sized(asked.head()), time_struct(now), byref(index))
+    code, [head] = filled(lambda *out: LIBRARY.hcs_choose(*arguments, *out), [Buffer(_USUAL_SIZE)])
+    return None if code == _NO_MATCH else Choice(index.value, _decision(code, head, asked))
 
 
 def _made(name: str, *heads: bytes) -> Response:

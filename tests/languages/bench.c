@@ -101,6 +101,7 @@ int main(int argc, char **argv) {
     return 2;
   in[FORM].at = files[FORM];
   in[FORM].len = results.form.needed;
+  in[OTHER] = in[FORM];
   for (size_t i = 0; i < call_count; i++) {
     requests = held = most = 0;
     int32_t code = measured(&calls[i], &cache, in, atol(argv[3]));

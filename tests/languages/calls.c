@@ -2,6 +2,7 @@
 #include <string.h>
 
 static const char request[] = "GET /a HTTP/1.1\r\nHost: example.com\r\nIf-None-Match: \"1\"\r\n\r\n";
+static const char other[] = "GET /b HTTP/1.1\r\nHost: example.com\r\n\r\n";
 static const char response[] =
     "HTTP/1.1 200 OK\r\nCache-Control: max-age=10, stale-while-revalidate=5\r\nETag: \"1\"\r\nX-A: 1\r\nX-A: 2\r\n\r\n";
 static const char confirming[] = "HTTP/1.1 304 Not Modified\r\nETag: \"1\"\r\nX-A: 3\r\n\r\n";
@@ -24,6 +25,23 @@ static int32_t after_304(PARAMETERS) {
 
 static int32_t after_200(PARAMETERS) {
   return hcs_after(c, IN(FORM), IN(REQUEST), IN(RESPONSE), &stale, OUT(r->form), OUT(r->text));
+}
+
+/* Chooses between the form of another target and that of the exchange. */
+static int32_t choose(PARAMETERS) {
+  enum { MOST = 16384 };
+  uint8_t forms[FORMS * MOST];
+  size_t lengths[FORMS] = {in[OTHER].len, in[FORM].len}, index = 0;
+  if (in[OTHER].len > MOST || in[FORM].len > MOST)
+    return BAD_ARGUMENT;
+  if (in[OTHER].len)
+    memcpy(forms, in[OTHER].at, in[OTHER].len);
+  if (in[FORM].len)
+    memcpy(forms + in[OTHER].len, in[FORM].at, in[FORM].len);
+  int32_t code = hcs_choose(c, forms, in[OTHER].len + in[FORM].len, lengths, FORMS, IN(REQUEST), &fresh, &index,
+                            OUT(r->text));
+  r->number = index;
+  return code;
 }
 
 static int32_t explain(PARAMETERS) {
@@ -109,6 +127,8 @@ const struct call calls[] = {
      {OK, LIFETIME, TAG, "x-a: 3\r\n", DATED("0", "12"), END}},
     {"hcs_after, a 200", after_200, BIT(FORM) | BIT(REQUEST) | BIT(RESPONSE), 1, 1, MODIFIED, 0,
      {OK, LIFETIME, TAG, "x-a: 2\r\n", DATED("0", "12"), END}},
+    {"hcs_choose", choose, BIT(FORM) | BIT(OTHER) | BIT(REQUEST), 1, 0, FRESH, 1,
+     {OK, LIFETIME, TAG, "x-a: 2\r\n", DATED("4", "04"), END}},
     {"hcs_explain", explain, BIT(FORM) | BIT(REQUEST) | BIT(NAME), 1, 0, 0, 0, {"ExampleCache; hit; ttl=6"}},
     {"hcs_storability", storability, BIT(FORM), 0, 0, BY_MAX_AGE, 0, {0}},
     {"hcs_freshness", freshness, BIT(FORM), 0, 0, FROM_MAX_AGE, 10, {0}},
@@ -130,20 +150,26 @@ static struct text text_of(const char *at) {
   return text;
 }
 
-int make_exchange(uint8_t kind, uint8_t *form, struct text *inputs) {
-  struct hcs_cache cache;
+/* Makes the stored form of the response to a request. */
+static int make_form(const struct hcs_cache *cache, const char *asked, uint8_t *form, struct text *made) {
   size_t len = 0;
+  struct text q = text_of(asked), r = text_of(response);
+  int32_t code = hcs_new(cache, q.at, q.len, r.at, r.len, &start, form, FORM_SIZE, &len);
+  made->at = form;
+  made->len = len;
+  return code == 1;
+}
+
+int make_exchange(uint8_t kind, uint8_t *forms, struct text *inputs) {
+  struct hcs_cache cache;
   hcs_defaults(&cache);
   cache.form = kind;
   inputs[REQUEST] = text_of(request);
   inputs[RESPONSE] = text_of(response);
   inputs[RECEIVED] = text_of(confirming);
   inputs[NAME] = text_of(name);
-  int32_t code = hcs_new(&cache, inputs[REQUEST].at, inputs[REQUEST].len, inputs[RESPONSE].at,
-                         inputs[RESPONSE].len, &start, form, FORM_SIZE, &len);
-  inputs[FORM].at = form;
-  inputs[FORM].len = len;
-  return code == 1;
+  return make_form(&cache, request, forms, &inputs[FORM]) &&
+         make_form(&cache, other, forms + FORM_SIZE, &inputs[OTHER]);
 }
 
 size_t length_of(const struct call *call) {

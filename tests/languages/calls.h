@@ -9,7 +9,8 @@ enum { FRESH, VALIDATE, NO_MATCH };
 enum { NOT_MODIFIED, MODIFIED, MODIFIED_NOT_STORABLE };
 enum { BY_MAX_AGE = 2, FROM_MAX_AGE = 6, FROM_NOTHING = 12, WHILE_REVALIDATING = 1 };
 
-enum input { FORM, REQUEST, RESPONSE, RECEIVED, NAME, INPUTS };
+/* OTHER is the stored form of another target. */
+enum input { FORM, OTHER, REQUEST, RESPONSE, RECEIVED, NAME, INPUTS };
 
 struct text {
   const uint8_t *at;
@@ -42,10 +43,10 @@ extern const size_t call_count;
 /* When the response is received, and when it is fresh and stale. */
 extern struct hcs_time start, fresh, stale;
 
-enum { FORM_SIZE = 4096 };
+enum { FORM_SIZE = 4096, FORMS = 2 };
 
-/* The exchange, with a stored form of a kind, which is kept in a buffer of FORM_SIZE. */
-int make_exchange(uint8_t kind, uint8_t *form, struct text *inputs);
+/* The exchange, with stored forms of a kind, which are kept in a buffer of FORMS times FORM_SIZE. */
+int make_exchange(uint8_t kind, uint8_t *forms, struct text *inputs);
 
 /* The bytes of a call's lines. */
 size_t length_of(const struct call *call);

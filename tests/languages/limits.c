@@ -11,11 +11,11 @@
 #include <sys/mman.h>
 #include <unistd.h>
 
-enum { BUFFER = 4096, CHANGES = 100000, UNTOUCHED = 0xEE, CALLS_WITH_TIMES = 11 };
+enum { BUFFER = 4096, CHANGES = 100000, UNTOUCHED = 0xEE, CALLS_WITH_TIMES = 12 };
 
 static struct hcs_cache cache;
 static struct text exchange[INPUTS];
-static uint8_t form[FORM_SIZE];
+static uint8_t forms[FORMS * FORM_SIZE];
 static uint8_t *text_end, *form_end, *input_end[INPUTS];
 static size_t wrong, wrong_times;
 
@@ -155,9 +155,11 @@ static int is_head(const struct out *out) {
   return 0;
 }
 
-/* Whether a call has written a head, if it is one that writes heads. */
-static int is_head_of(const struct call *call, const struct out *out) {
-  return !call->writes_text || call->lines[1] == NULL || is_head(out);
+/* Whether a call has written a head, if it is one that writes heads. Where none of several responses is for the request,
+   hcs_choose writes none. */
+static int is_head_of(const struct call *call, int32_t code, const struct out *out) {
+  int is_none = call->reads & 1u << OTHER && code == NO_MATCH;
+  return is_none ? out->needed == 0 : !call->writes_text || call->lines[1] == NULL || is_head(out);
 }
 
 static uint32_t random_number(void) {
@@ -182,7 +184,7 @@ static void changed(const struct call *call) {
   int is_error = code < 0 && code >= BAD_ARGUMENT && code != OUT_OF_MEMORY && code != TOO_SMALL;
   if (is_error ? !is_without_result(&results) : code < 0 || code > FROM_NOTHING || !writes_no_more(call, &results))
     fail("changed byte", call, at, code);
-  if (!is_error && !is_head_of(call, &results.text))
+  if (!is_error && !is_head_of(call, code, &results.text))
     fail("no head after a changed byte", call, at, code);
 }
 
@@ -303,6 +305,24 @@ static void a_name_that_is_no_text(void) {
     fail("a name that is no text", &calls[0], 0, code);
 }
 
+/* hcs_choose for forms whose lengths don't add up, for none, and for one that isn't for the request. */
+static void lengths_of_forms(void) {
+  struct text in[INPUTS];
+  place_all(in);
+  size_t len = in[OTHER].len, lengths[][2] = {{len - 1, 0}, {len + 1, 0}, {len, 1}, {SIZE_MAX, len + 1}, {0, 0}, {len, 0}};
+  size_t counts[] = {1, 1, 2, 2, 0, 1};
+  int32_t codes[] = {MALFORMED, MALFORMED, MALFORMED, MALFORMED, NO_MATCH, NO_MATCH};
+  for (size_t i = 0; i < sizeof counts / sizeof *counts; i++) {
+    struct results results = empty_results(BUFFER, BUFFER);
+    size_t index = 99;
+    int32_t code = hcs_choose(&cache, in[OTHER].at, counts[i] ? len : 0, counts[i] ? lengths[i] : NULL, counts[i],
+                              in[REQUEST].at, in[REQUEST].len, &fresh, &index, results.text.at, results.text.len,
+                              &results.text.needed);
+    if (code != codes[i] || !is_without_result(&results) || (code == NO_MATCH && index != counts[i]))
+      fail("lengths of forms", &calls[0], i, code);
+  }
+}
+
 int main(int argc, char **argv) {
   uint8_t kind = (uint8_t)(argc > 1 ? atoi(argv[1]) : 0);
   text_end = guarded();
@@ -312,7 +332,7 @@ int main(int argc, char **argv) {
   hcs_defaults(&cache);
   cache.form = kind;
   cache.secret = 1;
-  if (!make_exchange(kind, form, exchange) || (kind ? form[0] != '{' : form[0] != 1)) {
+  if (!make_exchange(kind, forms, exchange) || (kind ? forms[0] != '{' : forms[0] != 1)) {
     printf("no stored form of this kind\n");
     return 2;
   }
@@ -325,6 +345,7 @@ int main(int argc, char **argv) {
   arguments_out_of_range();
   times_out_of_range();
   a_name_that_is_no_text();
+  lengths_of_forms();
   for (size_t i = 0; i < CHANGES; i++)
     changed(&calls[i % call_count]);
   printf("%zu wrong\n", wrong);

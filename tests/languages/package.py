@@ -166,6 +166,26 @@ class Policies(unittest.TestCase):
     def test_a_name_that_is_no_token(self):
         self.assertEqual(policy().explain(PAGE, "Example Cache", START), '"Example Cache"; hit; ttl=10')
 
+    def test_choice(self):
+        """RFC 7234, sections 4 and 4.1: a fresh one before a stale one, the first of several, and only what matches."""
+
+        def varied(language, fields):
+            asked = Request("GET", "/a", {"Accept-Language": language})
+            return CachePolicy(asked, Response(200, {"Vary": "Accept-Language", "X-L": language, **fields}), START)
+
+        german = varied("de", {"Cache-Control": "max-age=10"})
+        stale = varied("en", {"Cache-Control": "max-age=1"})
+        english = varied("en", {"Cache-Control": "max-age=10", "Age": "3"})
+        asked = Request("GET", "/a", {"Accept-Language": "en"})
+        chosen = hcs.choose([german, stale, english, english], asked, START + 4)
+        self.assertEqual((chosen.index, chosen.decision.response.get("age")), (2, "7"))
+        chosen = hcs.choose([german, stale, english], asked, START + 8)
+        self.assertEqual((chosen.index, chosen.decision.matches), (1, True))
+        self.assertIsNone(hcs.choose([german, stale], Request("GET", "/a", {"Accept-Language": "fr"}), START))
+        self.assertIsNone(hcs.choose([], asked, START))
+        with self.assertRaises(hcs.DateNotPrintable):
+            hcs.choose([german, english], asked, -2_300_000_000)
+
     def test_threads(self):
         made, wrong = policy(), []
 

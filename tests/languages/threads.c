@@ -32,12 +32,12 @@ static void nested_forms(const struct hcs_cache *cache, const struct text *excha
 
 static void *all_calls(void *given) {
   struct work *work = given;
-  uint8_t form[FORM_SIZE], text[BUFFER], next[BUFFER];
+  uint8_t forms[FORMS * FORM_SIZE], text[BUFFER], next[BUFFER];
   struct text in[INPUTS];
   struct hcs_cache cache;
   hcs_defaults(&cache);
   cache.form = work->kind;
-  if (!make_exchange(work->kind, form, in))
+  if (!make_exchange(work->kind, forms, in))
     work->wrong++;
   for (long round = 0; round < work->rounds; round++)
     for (size_t i = 0; i < call_count; i++) {

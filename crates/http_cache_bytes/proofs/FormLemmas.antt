@@ -17,7 +17,7 @@ use Rattle.http_cache_semantics.specs.Kept.{kept_exchange}
 use Rattle.http_cache_semantics.specs.Stored.{ReadsBack}
 use Rattle.http_cache_policy.proofs.ReadLemmas.{kept-restored}
 use Rattle.http_cache_compact.specs.Compact.{IsCompactOf}
-use Rattle.http_cache_bytes.specs.Form.{is_compact, IsTextOf, IsJsonOf, IsFormOf, IsTextFor, IsWrittenFor}
+use Rattle.http_cache_bytes.specs.Form.{is_compact, IsTextFor, IsWrittenFor}
 
 -- the first byte is that of the compact form
 first_is : (bytes : List ℕ) → slice_index bytes 0 ≡ 1 → is_compact bytes ≡ true

@@ -1,3 +1,4 @@
 -- The lemmas about calls over bytes.
 mod ResultLemmas
 mod FormLemmas
+mod ChoiceLemmas

@@ -1,12 +1,9 @@
 -- What a cache does with a request, as bytes.
-use Rattle.std.specs.Prelude.{◌≡◌, ℤ, ℕ, List, string_bytes, if◌then◌else◌}
-use Rattle.std.specs.declared.string.String.{String}
+use Rattle.std.specs.Prelude.{◌≡◌, ℤ, if◌then◌else◌}
 use Rattle.http_heads.specs.Texts.{request_text, response_text}
 use Rattle.http_cache_semantics.specs.Messages.{RequestSeen}
 use Rattle.http_cache_semantics.specs.Exchange.{Exchange}
 use Rattle.http_cache_policy.specs.Run.{IsAnswer}
-use Rattle.http_cache_semantics.specs.Explain.{explanation}
-use Rattle.http_cache_semantics.specs.CacheStatus.{cache_status}
 use Rattle.http_cache_policy.specs.declared.before.BeforeRequest.{BeforeRequest}
 use Rattle.http_cache_policy.specs.declared.before.BeforeRequest.TheVariants.{Fresh, Stale}
 use Rattle.http_cache_bytes.specs.declared.answer.Verdict.TheVariants as verdict

@@ -4,3 +4,4 @@ pub mod Facts
 pub mod Answer
 pub mod Next
 pub mod Message
+pub mod Choice

@@ -7,15 +7,13 @@ ghost use Rattle.http_cache_semantics.specs.Messages.{request_seen};
 ghost use Rattle.http_heads.specs.Heads.{IsNoResponse, OverfillsResponse};
 ghost use Rattle.http_cache_semantics.specs.Kept.{kept_exchange};
 ghost use Rattle.http_cache_semantics.specs.Stored.{Reads, ReadsBack};
-ghost use Rattle.http_cache_rules.specs.Exchange.{exchange_in};
 ghost use Rattle.http_cache_compact.specs.Compact.{IsCompactOf};
 ghost use Rattle.http_cache_bytes.specs.Cause.{ForResponse, IsNoExchange, OverfillsExchange};
 ghost use Rattle.http_cache_bytes.specs.Form.{is_compact, IsTextFor, IsJsonOf, IsNoJson, IsNoCompact, IsNoForm, IsPolicyIn, IsPolicyOf, IsWrittenFor, IsStoredFor};
 
 use crate::heads::{request_in, response_in};
-use http::{Version, request, response};
+use http::request;
 use http_cache_compact::{Kept, VERSION, compact_of, parts_from_compact};
-use http_cache_rules::parts::StoredParts;
 use http_cache_semantics::{CacheError, CacheOptions, CachePolicy};
 use jiff::Timestamp;
 use serde_json::Value;
@@ -128,31 +126,6 @@ fn policy_in_json(alloc: Global, stored: &[u8]) -> Result<CachePolicy, CacheErro
     }
 }
 
-// The policy of what it keeps.
-fn policy_of_parts(alloc: Global, parts: StoredParts) -> Result<CachePolicy, CacheError>
-    ensures value { IfOk result (λ policy. policy ≡ kept_exchange (exchange_in parts)) }
-    ensures only_memory { IsOkUnless result CacheError.Memory }
-{
-    let request = request::Parts {
-        method: parts.method,
-        uri: parts.target,
-        version: Version::HTTP_11,
-        headers: parts.request_headers,
-    };
-    let response = response::Parts {
-        status: parts.status,
-        version: Version::HTTP_11,
-        headers: parts.response_headers,
-    };
-    CachePolicy::new_options(
-        alloc,
-        &request,
-        &response,
-        parts.response_time,
-        parts.options,
-    )
-}
-
 // The policy of a compact form.
 fn policy_in_compact(alloc: Global, stored: &[u8]) -> Result<CachePolicy, CacheError>
     ensures found { IfOk result (λ policy. (e : Exchange) × IsCompactOf stored.now e
@@ -162,7 +135,7 @@ fn policy_in_compact(alloc: Global, stored: &[u8]) -> Result<CachePolicy, CacheE
     ensures printable { result ≢ Err CacheError.DateNotPrintable }
 {
     match parts_from_compact(alloc, stored) {
-        Ok(parts) => policy_of_parts(alloc, parts),
+        Ok(parts) => CachePolicy::from_details(alloc, parts),
         Err(e) => Err(e),
     }
 }

@@ -5,6 +5,7 @@
 #![tactic(auto)]
 
 mod answer;
+mod choice;
 mod facts;
 mod form;
 mod heads;
@@ -12,6 +13,7 @@ mod message;
 mod next;
 
 pub use answer::{Answer, Verdict, before, explain};
+pub use choice::{Chosen, choose};
 pub use facts::{
     age, fresh_at, freshness, is_confirmed_by, is_not_modified_for, stale_use, storability,
     time_to_live,

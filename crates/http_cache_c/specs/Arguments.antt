@@ -1,5 +1,5 @@
 -- What the arguments of a call say.
-use Rattle.std.specs.Prelude.{◌≡◌, ℕ, ◌+◌, ◌*◌, ◌<◌, ◌≢◌, ℤ, pos, ◌+ℤ◌, ◌*ℤ◌, not, ◌==◌}
+use Rattle.std.specs.Prelude.{ℕ, ◌+◌, ◌*◌, ◌<◌, ◌≢◌, ℤ, pos, ◌+ℤ◌, ◌*ℤ◌, not, ◌==◌}
 use Rattle.jiff_core.specs.Timestamp.{IsTimestampNanos}
 use Rattle.http_cache_semantics.specs.Options.{Options}
 use Rattle.http_cache_c.specs.declared.arguments.HcsCache.{HcsCache}

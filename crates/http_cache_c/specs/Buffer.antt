@@ -1,5 +1,5 @@
 -- What is written to a buffer.
-use Rattle.std.specs.Prelude.{◌≡◌, ◌≤◌, ◌<◌, ℕ, ℤ, List, ◌++◌, length, drop}
+use Rattle.std.specs.Prelude.{◌≡◌, ◌≤◌, ℕ, ℤ, List, ◌++◌, length, drop}
 
 -- the bytes are at the front of the buffer, and what follows them is as it was
 pub record IsWritten (bytes : List ℕ) (needed : ℕ) (old new : List ℕ) : Type 0 where

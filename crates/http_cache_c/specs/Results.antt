@@ -1,6 +1,8 @@
 -- What is written of each result.
-use Rattle.std.specs.Prelude.{◌≡◌, ℕ, ℤ, List}
+use Rattle.std.specs.Prelude.{◌≡◌, ℕ, ℤ, List, Option, Some, None}
 use Rattle.http_cache_bytes.specs.declared.answer.Answer.{Answer}
+use Rattle.http_cache_bytes.specs.declared.answer.Verdict.TheVariants.{Forward}
+use Rattle.http_cache_bytes.specs.declared.choice.Chosen.{Chosen}
 use Rattle.http_cache_bytes.specs.declared.form.Stored.{Stored}
 use Rattle.http_cache_bytes.specs.declared.next.Next.{Next}
 use Rattle.http_cache_c.specs.Codes.{verdict_code, bool_code, next_code}
@@ -15,6 +17,13 @@ IsStoredOut s result needed old new =
 abbrev pub IsAnswerOut : Answer → ℤ → ℕ → List ℕ → List ℕ → Type 0
 IsAnswerOut a result needed old new =
     IsHanded (verdict_code a.verdict) a.head.items result needed old new
+
+-- the index and the head, with the code of the verdict; for none how many there are, and no head
+abbrev pub IsChosenOut : Option Chosen → ℕ → ℤ → ℕ → ℕ → List ℕ → List ℕ → Type 0
+IsChosenOut (Some c) count result index needed old new =
+    (index ≡ c.index) × IsAnswerOut c.answer result needed old new
+IsChosenOut None count result index needed old new =
+    (index ≡ count) × (result ≡ verdict_code Forward) × (needed ≡ 0) × (new ≡ old)
 
 -- the stored form and the head, each in its buffer
 pub record IsNextOut (n : Next) (result : ℤ) (form_needed : ℕ) (old_form new_form : List ℕ)

@@ -4,9 +4,14 @@
 //! the caller's buffers.
 #![tactic(auto)]
 
+ghost use Rattle.std.specs.Prelude.{◌≡◌};
+ghost use Rattle.http_cache_semantics.specs.Options.{default_options};
+ghost use Rattle.http_cache_c.specs.Arguments.{options_in, AreOptions};
+
 mod answer;
 mod arguments;
 mod buffer;
+mod choice;
 mod codes;
 mod facts;
 mod message;
@@ -14,6 +19,7 @@ mod next;
 
 pub use answer::{hcs_before, hcs_explain, hcs_new};
 pub use arguments::{HcsCache, HcsDuration, HcsTime};
+pub use choice::hcs_choose;
 pub use facts::{
     hcs_age, hcs_fresh_at, hcs_freshness, hcs_is_confirmed_by, hcs_is_not_modified_for,
     hcs_stale_use, hcs_storability, hcs_time_to_live,
@@ -29,7 +35,12 @@ pub extern "C" fn hcs_version() -> u32 {
 
 /// Writes the default options, with a secret of 0.
 #[unsafe(no_mangle)]
-pub extern "C" fn hcs_defaults(cache: &mut HcsCache) {
+pub extern "C" fn hcs_defaults(cache: &mut HcsCache)
+    ensures options { options_in cache.new ≡ default_options }
+    ensures valid { AreOptions cache.new }
+    ensures secret { (cache.new.secret ≡ 0) × (cache.new.more_secret ≡ 0) }
+    ensures form { cache.new.form ≡ 0 }
+{
     *cache = HcsCache {
         secret: 0,
         more_secret: 0,

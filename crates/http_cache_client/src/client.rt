@@ -1,10 +1,12 @@
 //! A caching client: its shelf, its name and its options.
-ghost use Rattle.std.specs.Prelude.{◌≡◌, ◌⊎◌, ℕ, List, true, string_bytes, IfOk, OnErr};
-ghost use Rattle.http_cache_shelf.specs.Shelf.{KeepsAll, KeepsOthers};
-ghost use Rattle.http_cache_shelf.specs.Target.{text_of};
+ghost use Rattle.std.specs.Prelude.{◌≡◌, ◌⊎◌, ◌∷◌, [], ℕ, List, true, string_bytes, length, IfOk, OnOk, OnErr};
+ghost use Rattle.http_cache_fields.specs.Headers.{headers_of};
+ghost use Rattle.http_cache_shelf.specs.Shelf.{KeepsAll, KeepsOthers, RemovesThese};
+ghost use Rattle.http_cache_shelf.specs.Target.{text_of, target_text};
 ghost use Rattle.http_cache_plans.specs.Plan.{Stores, IsChangeOf};
 
 use bytes::Bytes;
+use http::{HeaderMap, Uri};
 use http_cache_plans::plan::{Change, Settled};
 use http_cache_plans::reply::Reply;
 use http_cache_semantics::CacheOptions;
@@ -72,6 +74,35 @@ impl<S: Shelf + Drop> Client<S> {
         ensures given_once { S.next_id self.new.shelf ≡ S.next_id self.old.shelf }
     {
         self.shelf.sweep(now)
+    }
+
+    /// Removes all that is stored for a target, as a purge does, and returns how many responses that
+    /// were. The target is that of a request with the URI and the headers: by its Host, if the URI names
+    /// no host.
+    ///
+    /// # Errors
+    ///
+    /// That of the shelf, or `Memory`. Then the shelf has what it had.
+    pub fn remove(
+        &mut self,
+        alloc: Global,
+        uri: &Uri,
+        headers: &HeaderMap,
+    ) -> Result<usize, ShelfError>
+        ensures removed { OnOk result
+            (RemovesThese (target_text uri.now (headers_of headers.now) ∷ [])
+            (S.stored self.old.shelf) (S.stored self.new.shelf)) }
+        ensures count { IfOk result (λ count. count ≡ length (S.stored self.old.shelf
+            (target_text uri.now (headers_of headers.now)))) }
+        ensures kept { OnErr result (KeepsAll (S.stored self.old.shelf) (S.next_id self.old.shelf)
+            (S.stored self.new.shelf) (S.next_id self.new.shelf)) }
+        ensures given_once { S.next_id self.new.shelf ≡ S.next_id self.old.shelf }
+    {
+        let target = Target::of(alloc, uri, headers)?;
+        self.shelf.look_up(alloc, &target)?;
+        let count = self.shelf.found(&target).len();
+        self.shelf.remove_targets(&[target])?;
+        Ok(count)
     }
 
     // Reads what is stored for a target, and returns whether the shelf could.

@@ -1,7 +1,7 @@
 -- A compact form that is written reads back.
-use Rattle.std.proofs.Common.{◌≡◌, ℕ, ◌+◌, ◌-◌, ◌*◌, ◌/◌, ◌%◌, ◌<◌, ◌≤◌, ◌^◌, ◌==◌, ◌&&◌, suc, le-leb, lt-ltb, neg_ℤ, ◌+ℤ◌, ℤ, pos, negsuc, Bool, true, false, if◌then◌else◌, nat_le, nat_lt, List, [], ◌∷◌, ◌++◌, length, take, drop, Option, Some, refl, sym, ap, ◌∙◌, subst, arith, append_assoc, append-nil}
+use Rattle.std.proofs.Common.{◌≡◌, ℕ, ◌+◌, ◌-◌, ◌*◌, ◌/◌, ◌%◌, ◌<◌, ◌≤◌, ◌^◌, ◌==◌, ◌&&◌, suc, le-leb, lt-ltb, neg_ℤ, ◌+ℤ◌, ℤ, pos, negsuc, Bool, true, false, if◌then◌else◌, nat_le, nat_lt, List, [], ◌∷◌, ◌++◌, length, take, drop, Option, Some, refl, sym, ap, ◌∙◌, arith, append_assoc, append-nil}
 use Rattle.std.specs.List.{flat_map, AllByRecursion}
-use Rattle.std.specs.Int.{w16, w32, w64, cast_signed, cast_unsigned, int_div_euclid, int_rem_euclid}
+use Rattle.std.specs.Int.{w64, cast_signed, cast_unsigned, int_div_euclid, int_rem_euclid}
 use Rattle.std.specs.Prelude.{unsigned_abs}
 use Rattle.std.proofs.Math.Facts.{leb_yes}
 use Rattle.std.proofs.Math.Seq.{take-append_seam, drop-append_seam}
@@ -13,8 +13,8 @@ use Rattle.http_cache_rules.specs.Exchange.{Exchange}
 use Rattle.http_cache_rules.specs.Options.{Options}
 use Rattle.http_cache_stored.specs.Form.{given, ◌>>=◌, is_instant, instant_at}
 use Rattle.http_cache_stored.specs.Pairs.{Pair}
-use Rattle.http_cache_compact.specs.Compact.{Texts, number_2, number_4, number_8, cut, field_of, fields_of, options_at, are_options, time_at, time_of, texts_of, has_numbers}
-use Rattle.http_cache_compact.specs.Written.{text_2, text_4, text_8, flags_of, options_text, time_text, numbers_text, field_text, compact_text, IsWritableField, AreWritable, IsWritable}
+use Rattle.http_cache_compact.specs.Compact.{Texts, number_2, number_4, number_8, cut, field_of, fields_of, options_at, are_options, time_of, texts_of, has_numbers}
+use Rattle.http_cache_compact.specs.Written.{text_2, text_4, text_8, options_text, time_text, numbers_text, field_text, compact_text, IsWritableField, IsWritable}
 
 -- so many bytes, and what follows them
 cut_back : (n : ℕ) (a b bytes : List ℕ) → n ≡ length a → bytes ≡ a ++ b → cut n bytes ≡ Some (a, b)

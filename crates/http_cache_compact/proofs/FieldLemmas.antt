@@ -1,11 +1,11 @@
 -- Field lines that are read one after another.
-use Rattle.std.proofs.Common.{◌≡◌, ℕ, ◌+◌, ◌-◌, ◌<◌, zero, suc, List, [], ◌∷◌, ◌++◌, Option, Some, None, refl, sym, ap, ◌∙◌, subst, arith, append_assoc, append-nil}
+use Rattle.std.proofs.Common.{◌≡◌, ℕ, ◌-◌, ◌<◌, zero, suc, List, [], ◌∷◌, ◌++◌, Option, Some, None, refl, sym, ap, ◌∙◌, subst, arith, append_assoc, append-nil}
 use Rattle.std.specs.Prelude.{IfSome}
 use Rattle.std.specs.List.{AllByRecursion}
 use Rattle.http_header.specs.FieldValue.{FieldValue}
 use Rattle.http_header.specs.HeaderMap.{Entries}
 use Rattle.http_cache_fields.specs.Headers.{Headers, headers_of}
-use Rattle.http_cache_stored.specs.Pairs.{Pair, Fits, with_pair, with_pairs, HoldsPairs}
+use Rattle.http_cache_stored.specs.Pairs.{Pair, Fits, with_pair, with_pairs}
 use Rattle.http_cache_stored.proofs.AppendLemmas.{with_pairs-after, fits_before}
 use Rattle.http_cache_stored.proofs.HeldLemmas.{Gathers, gathers_none, gathers_all, holds_gathered, fits_held}
 use Rattle.http_cache_compact.specs.Compact.{field_of, fields_of, IsField, AreHeaders}

@@ -1,5 +1,6 @@
 -- The lemmas about the compact form.
 mod FieldLemmas
+mod ValueLemmas
 mod TextLemmas
 mod PairLemmas
 mod BackLemmas

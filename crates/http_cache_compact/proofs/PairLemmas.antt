@@ -1,13 +1,12 @@
 -- The field lines of a header map, in its order, are held by its headers.
-use Rattle.std.proofs.Common.{◌≡◌, ℕ, ◌<◌, suc, Bool, true, false, List, [], ◌∷◌, ◌++◌, map, filter, length, Some, refl, sym, ap, ◌∙◌, subst, arith, append_assoc, append-nil, inl, inr, bytes_eq}
+use Rattle.std.proofs.Common.{◌≡◌, ℕ, ◌<◌, suc, true, false, List, [], ◌∷◌, ◌++◌, map, filter, length, refl, sym, ap, ◌∙◌, subst, arith, append_assoc, append-nil, inl, inr, bytes_eq}
 use Rattle.std.specs.List.{flat_map, AllByRecursion}
 use Rattle.std.proofs.lemmas.Bool.{cases_Bool}
 use Rattle.std.proofs.lemmas.List.{map-append}
 use Rattle.std.proofs.lemmas.List.Elements.{filter-append}
 use Rattle.std.proofs.lemmas.Slice.Eq.{bytes_eq-Decides}
 use Rattle.http_header.specs.Token.{lowercase}
-use Rattle.http_header.specs.FieldName.{IsHeaderName}
-use Rattle.http_header.specs.FieldValue.{FieldValue, IsFieldValue}
+use Rattle.http_header.specs.FieldValue.{FieldValue}
 use Rattle.http_header.specs.HeaderMap.{Entry, Entries, entry_at, get_all, IsUnique, IsHeaderMap}
 use Rattle.http_cache_fields.specs.Headers.{headers_of, bytes_of}
 use Rattle.http_cache_fields.proofs.HeadersLemmas.{get-headers_of, non_empty, len-headers_of, value_count-headers_of}

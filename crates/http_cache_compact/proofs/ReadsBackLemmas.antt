@@ -1,8 +1,7 @@
 -- What is written of a policy reads as the same policy, but for its target.
-use Rattle.std.proofs.Common.{◌≡◌, ◌↔◌, ℕ, List, Option, Some, Result, Ok, Err, refl, sym, ap, ◌∙◌, subst}
-use Rattle.std.specs.Prelude.{IfOk, OnOk, IsSomeAnd, slice_index}
+use Rattle.std.proofs.Common.{◌≡◌, ◌↔◌, ℕ, List, Result, Ok, Err, refl, sym, ap, ◌∙◌, subst}
+use Rattle.std.specs.Prelude.{IfOk, OnOk, slice_index}
 use Rattle.http_header.specs.HeaderMap.{IsHeaderMap}
-use Rattle.http_uri.specs.Uri.{Spells}
 use Rattle.http_cache_rules.specs.Exchange.{Exchange}
 use Rattle.http_cache_stored.specs.ReadBack.{IsReadBack}
 use Rattle.http_cache_stored.proofs.HeldLemmas.{HoldsPairs-unique}

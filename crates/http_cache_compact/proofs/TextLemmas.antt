@@ -1,10 +1,10 @@
 -- The texts of a form, one after another.
 use Rattle.std.proofs.Common.{◌≡◌, ℕ, ◌==◌, suc, List, [], ◌∷◌, length, drop, Option, Some, None, refl, subst, false, arith}
-use Rattle.std.specs.Prelude.{IfNone, IfSome}
+use Rattle.std.specs.Prelude.{IfNone}
 use Rattle.std.proofs.lemmas.Bool.{ne_eqb}
 use Rattle.http_cache_stored.specs.Form.{given}
 use Rattle.http_cache_stored.specs.Pairs.{Pair}
-use Rattle.http_cache_compact.specs.Compact.{Texts, number_4, cut, fields_of, texts_of, AreTextsIn}
+use Rattle.http_cache_compact.specs.Compact.{number_4, cut, fields_of, texts_of, AreTextsIn}
 
 -- what holds whatever there is holds if there is nothing
 pub none_holds : {A : Type 0} (o : Option A) (P : Type 0) → P → IfNone o P

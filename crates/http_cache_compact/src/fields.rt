@@ -1,5 +1,5 @@
 //! Field lines of the compact form.
-ghost use Rattle.std.specs.Prelude.{◌≡◌, ◌≢◌, ◌≤◌, Err, Some, None, IfOk, IfSome, IfNone, OnOk, IsErrOf, List, length};
+ghost use Rattle.std.specs.Prelude.{◌≡◌, ◌≢◌, ◌≤◌, ◌+◌, ◌++◌, ℕ, Err, Some, None, IfOk, IfSome, IfNone, OnOk, IsErrOf, List, length};
 ghost use Rattle.http_header.specs.FieldName.{IsFieldName};
 ghost use Rattle.http_header.specs.FieldValue.{IsFieldValue, plain_value};
 ghost use Rattle.http_header.specs.Token.{lowercase};
@@ -8,11 +8,13 @@ ghost use Rattle.http_cache_stored.specs.Pairs.{Pair, Fits, with_pair};
 ghost use Rattle.http_cache_compact.specs.Compact.{cut, field_of, fields_of, IsField, AreHeaders};
 
 use crate::numbers::{number_2, number_4};
+use bytes::Bytes;
 use http_cache_fields::CacheError;
-use http_header::{
-    HeaderMap, HeaderMapError, HeaderName, HeaderNameError, HeaderValue, HeaderValueError,
-};
+use http_header::{HeaderMap, HeaderMapError, HeaderName, HeaderNameError, HeaderValue};
 use std::alloc::Global;
+
+/// Room for more names than this is made as they are read.
+const MOST_RESERVED: usize = 64;
 
 /// So many bytes at the front, and what follows them.
 #[derive(Clone, Copy)]
@@ -44,6 +46,10 @@ pub(crate) struct Field<'a> {
 fn field_of(bytes: &[u8]) -> Option<Field<'_>>
     ensures some { IfSome result (λ f.
         field_of bytes.now ≡ Some ((f.name.now, f.value.now), f.rest.now)) }
+    ensures parts { IfSome result (λ f. (front : List ℕ)
+        × (bytes.now ≡ front ++ (f.value.now ++ f.rest.now))) }
+    ensures within { IfSome result (λ f.
+        length f.value.now + length f.rest.now ≤ length bytes.now) }
     ensures none { IfNone result (field_of bytes.now ≡ None) }
 {
     if bytes.len() < 6 {
@@ -83,33 +89,32 @@ fn name_of(alloc: Global, bytes: &[u8]) -> Result<HeaderName, CacheError>
     }
 }
 
-fn value_of(alloc: Global, bytes: &[u8]) -> Result<HeaderValue, CacheError>
-    ensures ok { IfOk result (λ value. value ≡ plain_value bytes.now) }
-    ensures valid { OnOk result (IsFieldValue bytes.now) }
-    ensures malformed { IsErrOf result CacheError.Malformed → ¬ (IsFieldValue bytes.now) }
+fn value_of(bytes: Bytes) -> Result<HeaderValue, CacheError>
+    ensures ok { IfOk result (λ value. value ≡ plain_value bytes) }
+    ensures valid { OnOk result (IsFieldValue bytes) }
+    ensures malformed { IsErrOf result CacheError.Malformed → ¬ (IsFieldValue bytes) }
     ensures never_full { result ≢ Err CacheError.HeaderMapFull }
     ensures printable { result ≢ Err CacheError.DateNotPrintable }
 {
-    match HeaderValue::from_bytes(alloc, bytes) {
+    match HeaderValue::from_shared(bytes) {
         Ok(value) => Ok(value),
-        Err(HeaderValueError::OutOfMemory) => Err(CacheError::Memory),
-        Err(HeaderValueError::Invalid) => Err(CacheError::Malformed),
+        Err(_) => Err(CacheError::Malformed),
     }
 }
 
 // Adds a field line to headers, if it is valid and they have room.
-fn add(alloc: Global, headers: &mut HeaderMap, name: &[u8], value: &[u8]) -> Result<(), CacheError>
+fn add(alloc: Global, headers: &mut HeaderMap, name: &[u8], value: Bytes) -> Result<(), CacheError>
     requires { Fits headers.now }
-    ensures added { OnOk result (headers.new ≡ with_pair headers.old (name.now, value.now)) }
+    ensures added { OnOk result (headers.new ≡ with_pair headers.old (name.now, value)) }
     ensures fits { OnOk result (Fits headers.new) }
-    ensures valid { OnOk result (IsField (name.now, value.now)) }
-    ensures malformed { IsErrOf result CacheError.Malformed → IsField (name.now, value.now)
-        → Fits (with_pair headers.old (name.now, value.now)) → ⊥ }
+    ensures valid { OnOk result (IsField (name.now, value)) }
+    ensures malformed { IsErrOf result CacheError.Malformed → IsField (name.now, value)
+        → Fits (with_pair headers.old (name.now, value)) → ⊥ }
     ensures never_full { result ≢ Err CacheError.HeaderMapFull }
     ensures printable { result ≢ Err CacheError.DateNotPrintable }
 {
     let name = name_of(alloc, name)?;
-    let value = value_of(alloc, value)?;
+    let value = value_of(value)?;
     match headers.append(name, value) {
         Ok(_) => Ok(()),
         Err(HeaderMapError::MaxSizeReached) => Err(CacheError::Malformed),
@@ -117,7 +122,7 @@ fn add(alloc: Global, headers: &mut HeaderMap, name: &[u8], value: &[u8]) -> Res
     }
 }
 
-/// Returns the headers of so many field lines at the front.
+/// Returns the headers of so many field lines at the front. Their values share one copy of the bytes.
 pub(crate) fn headers_in(alloc: Global, count: u32, bytes: &[u8]) -> Result<HeaderMap, CacheError>
     ensures found { IfOk result (λ headers. IfSome (fields_of count bytes.now)
         (λ p. AreHeaders p.0 (headers_of headers))) }
@@ -126,15 +131,20 @@ pub(crate) fn headers_in(alloc: Global, count: u32, bytes: &[u8]) -> Result<Head
     ensures never_full { result ≢ Err CacheError.HeaderMapFull }
     ensures printable { result ≢ Err CacheError.DateNotPrintable }
 {
-    let mut headers = HeaderMap::new(alloc);
-    let mut rest = bytes;
+    let Ok(mut headers) = HeaderMap::with_capacity(alloc, (count as usize).min(MOST_RESERVED))
+    else {
+        return Err(CacheError::Memory);
+    };
+    let mut rest = Bytes::copy_from_slice(alloc, bytes)?;
     let mut left = count;
     while left > 0 {
-        let Some(field) = field_of(rest) else {
+        let Some(field) = field_of(rest.as_slice()) else {
             return Err(CacheError::Malformed);
         };
-        add(alloc, &mut headers, field.name, field.value)?;
-        rest = field.rest;
+        let end = rest.len() - field.rest.len();
+        let value = rest.slice(end - field.value.len()..end)?;
+        add(alloc, &mut headers, field.name, value)?;
+        rest.advance(end);
         left -= 1;
     }
     Ok(headers)

@@ -19,7 +19,7 @@ use http_cache_rules::asks::forbids_storing;
 use http_cache_rules::freshness::{Freshness, LifetimeSource};
 use http_cache_rules::lifetime::{elapsed_time, lifetime_of, received_age};
 pub use http_cache_rules::options::{CacheOptions, Fraction};
-use http_cache_rules::parts::StoredParts;
+pub use http_cache_rules::parts::StoredParts;
 use http_cache_rules::storable::{has_explicit_expiration, is_storable};
 use http_cache_rules::stored_directives::StoredDirectives;
 use jiff::Timestamp;
@@ -165,13 +165,15 @@ impl CachePolicy {
         CachePolicy::from_details(alloc, parts)
     }
 
-    /// The policy of parts that are given away.
+    /// Returns the policy of what it keeps, as `new_options` does of a request and a response, of which
+    /// it makes copies.
+    ///
+    /// # Errors
+    ///
+    /// `Memory` only.
     #[tactic(auto, unfolding(crate::specs::Kept::kept_exchange))]
     #[inline(always)]
-    pub(crate) fn from_details(
-        alloc: Global,
-        mut parts: StoredParts,
-    ) -> Result<CachePolicy, CacheError>
+    pub fn from_details(alloc: Global, mut parts: StoredParts) -> Result<CachePolicy, CacheError>
         ensures value { IfOk result (λ policy. policy ≡ kept_exchange (exchange_in parts)) }
         ensures only_memory { IsOkUnless result CacheError.Memory }
     {

@@ -5,7 +5,11 @@ ghost use Rattle.std.specs.Prelude.{◌≡◌, ◌++◌, IfOk, OnOk};
 ghost use Rattle.http_heads.specs.Texts.{lines_of, line_of, request_text, response_text};
 
 use http::{HeaderMap, HeaderName, HeaderValue, request, response};
+use itoa::Buffer;
 use std::alloc::{AllocError, Global};
+
+// What most heads have room in.
+const USUAL_LENGTH: usize = 1024;
 
 fn push_line(out: &mut Vec<u8>, name: &HeaderName, value: &HeaderValue) -> Result<(), AllocError>
     ensures { OnOk result (out.new.items ≡ out.old.items ++ line_of (name.now, value.now)) }
@@ -30,8 +34,9 @@ fn push_lines(out: &mut Vec<u8>, headers: &HeaderMap) -> Result<(), AllocError>
 pub fn bytes_of_response(alloc: Global, parts: &response::Parts) -> Result<Vec<u8>, AllocError>
     ensures text { IfOk result (λ bytes. bytes.items ≡ response_text parts.now) }
 {
-    let mut out = Vec::with_capacity(alloc, 512)?;
-    let status = format!(in alloc; "{}", parts.status.as_u16())?;
+    let mut out = Vec::with_capacity(alloc, USUAL_LENGTH)?;
+    let mut digits = Buffer::new();
+    let status = digits.format(parts.status.as_u16());
     out.extend_from_slice(b"HTTP/1.1 ")?;
     out.extend_from_slice(status.as_bytes())?;
     out.extend_from_slice(b" \r\n")?;
@@ -44,7 +49,7 @@ pub fn bytes_of_response(alloc: Global, parts: &response::Parts) -> Result<Vec<u
 pub fn bytes_of_request(alloc: Global, parts: &request::Parts) -> Result<Vec<u8>, AllocError>
     ensures text { IfOk result (λ bytes. bytes.items ≡ request_text parts.now) }
 {
-    let mut out = Vec::with_capacity(alloc, 512)?;
+    let mut out = Vec::with_capacity(alloc, USUAL_LENGTH)?;
     let target = &parts.uri;
     let target = format!(in alloc; "{target}")?;
     out.extend_from_slice(parts.method.as_str().as_bytes())?;

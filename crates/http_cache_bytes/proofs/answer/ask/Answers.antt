@@ -1,6 +1,6 @@
 -- The answer is to the request that was read.
 use Rattle.std.proofs.lemmas.Result.{IfOk-weaker}
-use Rattle.std.proofs.Common.{inl, inr}
+use Rattle.std.proofs.Common.{inr}
 use Rattle.http_cache_bytes.proofs.answer.ask.Goals as goal
 
 pub returns-clause-answer : goal.returns-clause-answer

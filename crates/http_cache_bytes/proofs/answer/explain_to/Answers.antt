@@ -1,6 +1,6 @@
 -- The member is of the request that was read.
 use Rattle.std.proofs.lemmas.Result.{IfOk-weaker}
-use Rattle.std.proofs.Common.{◌≡◌, List, ℕ, string_bytes, ap, ◌∙◌}
+use Rattle.std.proofs.Common.{ap, ◌∙◌}
 use Rattle.http_cache_semantics.specs.CacheStatus.{cache_status}
 use Rattle.http_cache_bytes.proofs.answer.explain_to.Goals as goal
 

@@ -1,9 +1,8 @@
 -- What is kept is what the policy keeps.
-use Rattle.std.proofs.Common.{◌≡◌, ◌↔◌, subst}
+use Rattle.std.proofs.Common.{◌↔◌, subst}
 use Rattle.http_cache_semantics.specs.Exchange.{Exchange}
 use Rattle.http_cache_semantics.specs.Stored.{ReadsBack}
 use Rattle.http_cache_compact.specs.Compact.{IsCompactOf}
-use Rattle.http_cache_compact.specs.Written.{exchange_kept}
 use Rattle.http_cache_bytes.proofs.form.compact_of_policy.Goals as goal
 
 pub returns-in-Ok-clause-back : goal.returns-in-Ok-clause-back

@@ -1,5 +1,4 @@
 -- Each form reads as the policy.
-use Rattle.std.proofs.lemmas.Result.{IfOk-weaker}
 use Rattle.http_cache_bytes.proofs.ResultLemmas.{both_ok}
 use Rattle.std.proofs.Common.{◌≡◌, rules, string_bytes, sym, subst}
 use Rattle.std.proofs.lemmas.Str.{IsUtf8-string_bytes}

@@ -6,7 +6,7 @@ use Rattle.http_cache_bytes.proofs.form.policy_in_compact.Goals as goal
 
 pub returns-in-Ok-clause-found : goal.returns-in-Ok-clause-found
 returns-in-Ok-clause-found c =
-    IfOk-weaker c.policy_of_parts.result _ _ (λ p is. (_, c.in-Ok.ensures.found, is)) c.policy_of_parts.ensures.value
+    IfOk-weaker c.from_details.result _ _ (λ p is. (_, c.in-Ok.ensures.found, is)) c.from_details.ensures.value
 
 pub returns-in-Err-clause-malformed : goal.returns-in-Err-clause-malformed
 unfolding IsNoCompact

@@ -1,6 +1,6 @@
 -- The policy is that of the JSON value.
 use Rattle.std.proofs.lemmas.Result.{IfOk-weaker}
-use Rattle.std.proofs.Common.{◌≡◌, rules, Some, None, sym, ◌∙◌}
+use Rattle.std.proofs.Common.{rules, sym, ◌∙◌}
 use Rattle.serde_json.specs.Errors.{IsMemory}
 use Rattle.http_cache_stored.proofs.SomeLemmas.{none_some}
 use Rattle.http_cache_bytes.specs.Form.{IsNoJson}

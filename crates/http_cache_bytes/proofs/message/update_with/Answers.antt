@@ -1,6 +1,6 @@
 -- The head is of the response that was read.
 use Rattle.std.proofs.lemmas.Result.{IfOk-weaker}
-use Rattle.std.proofs.Common.{inl, inr}
+use Rattle.std.proofs.Common.{inr}
 use Rattle.http_cache_bytes.proofs.message.update_with.Goals as goal
 
 pub returns-clause-head : goal.returns-clause-head

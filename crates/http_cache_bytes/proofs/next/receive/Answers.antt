@@ -1,6 +1,6 @@
 -- What is stored and sent is of the response that was read.
 use Rattle.std.proofs.lemmas.Result.{IfOk-weaker}
-use Rattle.std.proofs.Common.{inl, inr}
+use Rattle.std.proofs.Common.{inr}
 use Rattle.http_cache_bytes.proofs.next.receive.Goals as goal
 
 pub returns-clause-next : goal.returns-clause-next

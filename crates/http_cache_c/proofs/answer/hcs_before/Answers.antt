@@ -1,5 +1,5 @@
 -- What was written is the answer at the time that was passed.
-use Rattle.std.proofs.Common.{◌≡◌, rules, ℕ, ℤ, List, Err, sym, ap, ◌∙◌, subst, w32, string_bytes, inl, inr, ◌⊎◌, pos}
+use Rattle.std.proofs.Common.{ℤ, Err, sym, ap, ◌∙◌, subst, w32, ◌⊎◌}
 use Rattle.std.proofs.lemmas.Int.{to_z-of_z}
 use Rattle.http_cache_c.proofs.BorderLemmas.{same_out}
 use Rattle.http_cache_bytes.specs.Cause.{ForAsked}

@@ -1,5 +1,5 @@
 -- What was written is of the options and the time that were passed.
-use Rattle.std.proofs.Common.{◌≡◌, rules, ℕ, ℤ, List, Err, sym, ap, ◌∙◌, subst, w32, string_bytes, inl, inr, ◌⊎◌, pos}
+use Rattle.std.proofs.Common.{ℤ, subst, w32}
 use Rattle.std.proofs.lemmas.Int.{to_z-of_z}
 use Rattle.http_cache_c.proofs.BorderLemmas.{same_out}
 use Rattle.http_cache_semantics.specs.Options.{Options}

@@ -1,5 +1,5 @@
 -- What was written is of the time that was passed.
-use Rattle.std.proofs.Common.{◌≡◌, rules, ℕ, ℤ, List, Err, sym, ap, ◌∙◌, subst, w32, string_bytes, inl, inr, ◌⊎◌, pos}
+use Rattle.std.proofs.Common.{ap, ◌∙◌}
 use Rattle.http_cache_semantics.specs.Age.{age_at}
 use Rattle.http_cache_c.proofs.facts.hcs_age.Goals as goal
 

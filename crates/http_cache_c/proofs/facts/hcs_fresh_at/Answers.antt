@@ -1,7 +1,7 @@
 -- What was returned is of the time that was passed.
-use Rattle.std.proofs.Common.{◌≡◌, rules, ℕ, ℤ, List, Err, sym, ap, ◌∙◌, subst, w32, string_bytes, inl, inr, ◌⊎◌, pos}
+use Rattle.std.proofs.Common.{ap, ◌∙◌, w32}
 use Rattle.std.proofs.lemmas.Int.{to_z-of_z}
-use Rattle.http_cache_semantics.specs.Messages.{request_seen, response_seen}
+use Rattle.http_cache_semantics.specs.Messages.{request_seen}
 use Rattle.http_cache_semantics.specs.Verdict.{is_fresh_for}
 use Rattle.http_cache_c.specs.Codes.{bool_code}
 use Rattle.http_cache_c.proofs.facts.hcs_fresh_at.Goals as goal

@@ -1,5 +1,5 @@
 -- What was returned is of what was read.
-use Rattle.std.proofs.Common.{◌≡◌, rules, ℕ, ℤ, List, Err, sym, ap, ◌∙◌, subst, w32, string_bytes, inl, inr, ◌⊎◌, pos}
+use Rattle.std.proofs.Common.{ap, ◌∙◌, w32}
 use Rattle.std.proofs.lemmas.Int.{to_z-of_z}
 use Rattle.http_cache_c.specs.Codes.{bool_code}
 use Rattle.http_cache_c.proofs.facts.hcs_is_confirmed_by.Goals as goal

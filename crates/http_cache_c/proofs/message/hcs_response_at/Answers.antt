@@ -1,5 +1,5 @@
 -- What was written is the head at the time that was passed.
-use Rattle.std.proofs.Common.{◌≡◌, rules, ℕ, ℤ, List, Err, sym, ap, ◌∙◌, subst, w32, string_bytes, inl, inr, ◌⊎◌, pos}
+use Rattle.std.proofs.Common.{ℕ, ℤ, List, Err, sym, ap, ◌∙◌, subst, w32, pos}
 use Rattle.std.proofs.lemmas.Int.{to_z-of_z}
 use Rattle.http_cache_bytes.specs.Cause.{ForPolicy}
 use Rattle.http_cache_bytes.specs.Message.{IsHeadAt}

@@ -1,5 +1,5 @@
 -- What was written is of the time that was passed.
-use Rattle.std.proofs.Common.{◌≡◌, ℤ, Err, sym, ap, ◌∙◌, subst, w32, ◌⊎◌}
+use Rattle.std.proofs.Common.{ℤ, Err, sym, ap, ◌∙◌, subst, w32, ◌⊎◌}
 use Rattle.std.proofs.lemmas.Int.{to_z-of_z}
 use Rattle.http_cache_semantics.specs.Fresh.{RefusesFreshHeaders, HasNoDate}
 use Rattle.http_cache_semantics.specs.Update.{next_exchange}

@@ -1,5 +1,5 @@
 -- A header map has as many values as field lines.
-use Rattle.std.proofs.Common.{◌≡◌, length, sym, ◌∙◌}
+use Rattle.std.proofs.Common.{sym, ◌∙◌}
 use Rattle.std.proofs.lemmas.List.{length-map}
 use Rattle.http_header.specs.HeaderMap.{pairs}
 use Rattle.http_header.proofs.CountLemmas.{length-pairs}
