@@ -1,6 +1,6 @@
 """Prints how a hit, memory and opening grow with the responses that are stored, of 1 kB each.
 
-    shelves.py WORD..    (WORD..: the command of bench_shelf; bin/bench --scaling calls it)
+    shelves.py WORD..    (WORD..: the command of test_shelves; bin/bench --scaling calls it)
 
 A row a number of responses: over a shelf in memory the instructions of a hit with the making of its request, where
 valgrind is installed, the microseconds of a hit, the least of three runs of 20,000 hits, by how much they have grown since
@@ -25,12 +25,12 @@ VALGRIND = ["valgrind", "--tool=callgrind", "--callgrind-out-file=/dev/null", "-
 
 
 def run(*words):
-    """The numbers that bench_shelf prints, by name, and the greatest memory of the run in bytes."""
+    """The numbers that test_shelves prints, by name, and the greatest memory of the run in bytes."""
     ran = subprocess.Popen([*COMMAND, *words], stdout=subprocess.PIPE, text=True)
     text = ran.stdout.read()
     _, status, used = os.wait4(ran.pid, 0)
     if status != 0:
-        sys.exit(f"shelves.py: bench_shelf {' '.join(words)}: status {status}")
+        sys.exit(f"shelves.py: test_shelves {' '.join(words)}: status {status}")
     numbers = {name: int(number) for name, number in re.findall(r"(\w+) (\d+)", text)}
     return numbers, used.ru_maxrss * 1024
 

@@ -9,7 +9,7 @@ import http_cache_semantics as hcs
 
 CASES = Path(__file__).resolve().parent.parent / "cases/calls"
 START = 1704067200
-NO_CALLS = {"directives", "forbids_stale", "http_date", "member", "read_date", "stored_directives"}
+NO_CALLS = {"directives", "forbids_stale", "format_cache_control", "http_date", "member", "read_date", "stored_directives"}
 # How a table shows the lifetime behind the words for what it comes from.
 SECONDS_AFTER = {"max-age": "=", "s-maxage": "="}
 SECONDS_AFTER.update(dict.fromkeys(("Expires isn't after Date", "Expires", "Last-Modified", "immutable"), ", "))

@@ -2,7 +2,7 @@
 use crate::make::{Make, make_with};
 use http::HeaderMap;
 use http_cache_semantics::CacheError;
-use http_cache_semantics::directives::{CacheControl, parse_cache_control};
+use http_cache_semantics::directives::{CacheControl, format_cache_control, parse_cache_control};
 use http_cache_semantics::forwarding::{joined_headers, read_date, updated_headers};
 use std::alloc::Global;
 use std::fmt::Write;
@@ -57,6 +57,14 @@ fn listed(alloc: Global, read: Result<CacheControl, CacheError>) -> Result<Strin
     }
 }
 
+/// The directives as one line.
+pub fn formatted(alloc: Global, read: Result<CacheControl, CacheError>) -> Result<String, Fail> {
+    match read {
+        Ok(read) => Ok(format_cache_control(alloc, &read)?),
+        Err(e) => Err(e)?,
+    }
+}
+
 // The second of a date, or none.
 fn second(alloc: Global, headers: &HeaderMap) -> Result<String, Fail> {
     let value = headers.get("date").ok_or("no date")?;
@@ -74,6 +82,10 @@ impl Make<OfHeaders> for HeaderMap {
             "directives" => {
                 let values = self.get_all("cache-control");
                 listed(alloc, parse_cache_control(alloc, values))
+            }
+            "format_cache_control" => {
+                let values = self.get_all("cache-control");
+                formatted(alloc, parse_cache_control(alloc, values))
             }
             "joined_headers" => lines_or_error(alloc, joined_headers(alloc, self)),
             "read_date" => second(alloc, self),

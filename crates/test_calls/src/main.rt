@@ -5,21 +5,25 @@
 //!
 //! | fields of a line | call |
 //! |---|---|
-//! | headers | `directives`, `joined_headers`, `read_date` |
+//! | headers | `directives`, `format_cache_control`, `joined_headers`, `read_date` |
 //! | stored headers, received headers | `updated_headers` |
 //! | nanoseconds | `http_date` |
 //! | as `member` reads them | `member` |
+//! | as `chained` reads them | `chain` |
+//! | a stored form | `from_value` |
 //! | an exchange, and what a policy of it is asked | all others |
 //!
 //! An exchange has the method and the headers of its request, the status and the headers of its response, and a
 //! word for the options. Then come a method or a status, headers, nanoseconds and a target.
 #![tactic(auto)]
 
+mod chain;
 mod headers;
 mod make;
 mod member;
 mod policy;
 
+use chain::{chained, read_back};
 use headers::OfHeaders;
 use http_cache_semantics::forwarding::http_date;
 use make::make_with;
@@ -43,9 +47,13 @@ fn answer_to(alloc: Global, case: &str) -> Result<String, Fail> {
     match field(case, 0)? {
         "http_date" => dated(alloc, first),
         "member" => member(alloc, case),
-        "directives" | "joined_headers" | "read_date" | "updated_headers" => {
-            make_with(alloc, headers(alloc, first), OfHeaders, case)
-        }
+        "chain" => chained(alloc, case),
+        "from_value" => read_back(alloc, first),
+        "directives"
+        | "format_cache_control"
+        | "joined_headers"
+        | "read_date"
+        | "updated_headers" => { make_with(alloc, headers(alloc, first), OfHeaders, case) }
         "cache_status_among" => among(alloc, policy(alloc, case), case),
         _ => make_with(alloc, policy(alloc, case), OfPolicy, case),
     }

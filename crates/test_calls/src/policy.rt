@@ -1,8 +1,7 @@
 //! Policies of cases, and calls on them.
-use crate::headers::lines;
+use crate::headers::{formatted, lines};
 use crate::make::{Make, make_with};
 use http::{Method, Uri, Version, request, response};
-use http_cache_semantics::directives::{CacheControl, format_cache_control};
 use http_cache_semantics::stale_use::StaleUse;
 use http_cache_semantics::{CacheError, CacheOptions, CachePolicy, Variants};
 use jiff::Timestamp;
@@ -91,13 +90,6 @@ fn sent(alloc: Global, parts: Result<response::Parts, CacheError>) -> Result<Str
     }
 }
 
-fn line(alloc: Global, read: Result<CacheControl, CacheError>) -> Result<String, Fail> {
-    match read {
-        Ok(read) => Ok(format_cache_control(alloc, &read)?),
-        Err(e) => Err(e)?,
-    }
-}
-
 impl Make<OfPolicy> for CachePolicy {
     type Made = String;
 
@@ -108,7 +100,7 @@ impl Make<OfPolicy> for CachePolicy {
                 Ok(format!(in alloc; "{} ~ {}", self.storability(), self.freshness())?)
             }
             "response_at" => sent(alloc, self.response_at(alloc, now(case)?)),
-            "stored_directives" => line(alloc, self.stored_directives(alloc)),
+            "stored_directives" => formatted(alloc, self.stored_directives(alloc)),
             "is_confirmed_by" => {
                 let response = response(alloc, field(case, 6)?, field(case, 7)?);
                 make_with(alloc, response, self, case)

@@ -1,21 +1,17 @@
-//! Prints how long a hit takes over a shelf of so many responses with bodies of 1 kB.
+//! How long a hit takes over a shelf of so many responses with bodies of 1 kB.
 //!
-//! `bench_shelf memory COUNT HITS` stores so many in memory, asks for some of them, and prints how many
-//! nanoseconds a hit took. `bench_shelf fill COUNT PATH` stores so many in a file, and `bench_shelf file
-//! HITS PATH` opens it and asks. Without arguments it prints nothing.
-#![tactic(auto)]
-
-mod hits;
+//! `memory COUNT HITS` stores so many in memory, asks for some of them, and prints how many nanoseconds a
+//! hit took. `fill COUNT PATH` stores so many in a file, and `file HITS PATH` opens it and asks.
 mod pages;
+mod requests;
 
-use hits::{answered, requests};
 use http_cache_client::Client;
 use http_cache_semantics::CacheOptions;
 use http_cache_shelf::{Limits, MemoryShelf, Shelf};
 use http_cache_store::{Durability, Store, StoreOptions};
 use pages::fill;
+use requests::{answered, requests};
 use sqlite::{Alter, File, FileStore};
-use std::env;
 use std::hash::RandomState;
 use std::time::Instant;
 
@@ -92,17 +88,16 @@ fn from_file(rt: &HostRuntime, hits: u64, path: &str) -> anyhow::Result<()> {
     tell_store(rt, opened(rt, path)?, hits)
 }
 
-fn main(rt: HostRuntime) -> anyhow::Result<()> {
-    let mut words = env::args(&rt)?;
-    let _program = words.next();
-    let (Some(kind), Some(number), Some(last)) = (words.next(), words.next(), words.next()) else {
+/// Runs what the words ask for; fewer than three ask for nothing.
+pub fn run(rt: &HostRuntime, words: &[String]) -> anyhow::Result<()> {
+    let [kind, number, last] = words else {
         return Ok(());
     };
     let number = number.as_str().parse::<u64>()?;
     match kind.as_str() {
-        "memory" => in_memory(&rt, number, last.as_str().parse::<u64>()?),
-        "fill" => in_file(&rt, number, last.as_str()),
-        "file" => from_file(&rt, number, last.as_str()),
-        _ => anyhow::bail!("bench_shelf: no such shelf"),
+        "memory" => in_memory(rt, number, last.as_str().parse::<u64>()?),
+        "fill" => in_file(rt, number, last.as_str()),
+        "file" => from_file(rt, number, last.as_str()),
+        _ => anyhow::bail!("test_shelves: no such shelf"),
     }
 }

@@ -1,7 +1,7 @@
 //! A client by itself, which is handed requests as values.
-use crate::case::{Subject, options_of};
-use crate::message::{request_of, value_of_response};
-use crate::origin::{NoResponse, ScriptedOrigin};
+use crate::cases::case::{Subject, options_of};
+use crate::cases::message::{request_of, value_of_response};
+use crate::cases::origin::{NoResponse, ScriptedOrigin};
 use bytes::Bytes;
 use http::header::CACHE_STATUS;
 use http::{HeaderMap, HeaderValue, Request, Response, StatusCode, Version, response};

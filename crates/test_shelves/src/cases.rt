@@ -1,7 +1,6 @@
-//! Runs cases of conformance through `Client::fetch` or the bytes of a `Proxy`, in virtual time, over a
-//! shelf in memory or a store: JSON on standard input, and a line of JSON for each step on standard
-//! output. `tests/conformance/README.md` says what both have.
-#![tactic(auto)]
+//! Cases of conformance through `Client::fetch` or the bytes of a `Proxy`, in virtual time, over a shelf
+//! in memory or a store: JSON on standard input, and a line of JSON for each step on standard output.
+//! `tests/conformance/README.md` says what both have.
 
 mod case;
 mod client;
@@ -46,16 +45,17 @@ fn lines_over(rt: &HostRuntime, input: &Value, case: &Value) -> anyhow::Result<S
     lines_through(rt, through, memory, case)
 }
 
-fn main(rt: HostRuntime) -> anyhow::Result<()> {
+/// Runs the cases on standard input.
+pub fn run(rt: &HostRuntime) -> anyhow::Result<()> {
     let alloc = rt.alloc();
     let mut input = Vec::new(alloc);
     rt.stdin().read_to_end(&mut input)?;
     let input = Value::from_slice(alloc, input.as_slice())?;
     let Some(cases) = input.get("cases").and_then(Value::as_array) else {
-        anyhow::bail!("conformance: no list of cases");
+        anyhow::bail!("test_shelves: no list of cases");
     };
     for case in cases {
-        let lines = lines_over(&rt, &input, case)?;
+        let lines = lines_over(rt, &input, case)?;
         print!(rt; "{lines}")?;
     }
     Ok(())

@@ -1,6 +1,6 @@
 //! The origin server of a step, which answers by what the step says and keeps what it was sent.
-use crate::message::{response_of, value_of_request};
-use crate::text::{push_latin_1, text_under};
+use crate::cases::message::{response_of, value_of_request};
+use crate::cases::text::{push_latin_1, text_under};
 use bytes::Bytes;
 use http::{HeaderMap, Method, Request, Response};
 use http_cache_client::Origin;

@@ -1,5 +1,5 @@
 //! Requests for stored pages, in no order.
-use crate::pages::{request_for, start};
+use crate::hits::pages::{request_for, start};
 use bytes::Bytes;
 use http::Request;
 use http_cache_client::{Client, Decision};

@@ -1,5 +1,5 @@
 //! Requests and responses from JSON, and as JSON.
-use crate::text::{bytes_of_latin_1, bytes_under, latin_1_of_bytes, text_under};
+use crate::cases::text::{bytes_of_latin_1, bytes_under, latin_1_of_bytes, text_under};
 use bytes::Bytes;
 use http::header::HeaderName;
 use http::{

@@ -1,5 +1,5 @@
 //! One case: a subject with nothing stored, and the steps in turn. The rules of caching are the subject's.
-use crate::text::text_under;
+use crate::cases::text::text_under;
 use http_cache_semantics::CacheOptions;
 use jiff::Timestamp;
 use serde_json::{Value, json};

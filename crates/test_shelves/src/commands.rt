@@ -1,7 +1,7 @@
-//! Runs commands on the store in a file, a line of input each, and prints what each answers: for tests of
-//! what outlives the process.
+//! Commands on the store in a file, a line of input each, and what each answers: for tests of what
+//! outlives the process.
 //!
-//! The arguments are the path, how many calls are committed together (1 if left out), and how many
+//! The words are the path, how many calls are committed together (1 if left out), and how many
 //! responses are stored at most.
 //!
 //! | command | what it prints |
@@ -15,8 +15,6 @@
 //!
 //! A target is a URI, or a URI and a host. A policy is its stored form. IDS, with commas, are of superseded
 //! responses. If the store refuses a command, the line is `refused:` and the reason.
-#![tactic(auto)]
-
 mod command;
 
 use anyhow::anyhow;
@@ -25,15 +23,6 @@ use http_cache_shelf::Limits;
 use http_cache_store::{Durability, Store, StoreOptions};
 use sqlite::Alter;
 use std::alloc::Global;
-use std::env;
-
-fn words_of(rt: &HostRuntime) -> anyhow::Result<Vec<String>> {
-    let mut words = Vec::new(rt.alloc());
-    for word in env::args(rt)? {
-        words.push(word)?;
-    }
-    Ok(words)
-}
 
 // The number of an argument, or another one where it is left out.
 fn number_at(words: &[String], at: usize, default: u32) -> anyhow::Result<u32> {
@@ -46,11 +35,11 @@ fn number_at(words: &[String], at: usize, default: u32) -> anyhow::Result<u32> {
 fn options_in(words: &[String]) -> anyhow::Result<StoreOptions> {
     Ok(StoreOptions {
         limits: Limits {
-            responses: number_at(words, 3, 10_000)? as usize,
+            responses: number_at(words, 2, 10_000)? as usize,
             ..Limits::default()
         },
         durability: Durability::Batched {
-            calls: number_at(words, 2, 1)?,
+            calls: number_at(words, 1, 1)?,
         },
     })
 }
@@ -63,16 +52,12 @@ fn run_all<S: Alter>(rt: &HostRuntime, store: &mut Store<S>) -> anyhow::Result<(
     Ok(())
 }
 
-fn run(rt: &HostRuntime, words: &[String]) -> anyhow::Result<()> {
-    let Some(path) = words.get(1) else {
+/// Runs the commands on standard input on the store that the words name.
+pub fn run(rt: &HostRuntime, words: &[String]) -> anyhow::Result<()> {
+    let Some(path) = words.first() else {
         return Err(anyhow!("no path"));
     };
     let mut store = Store::open(rt, path.as_str(), options_in(words)?)?;
     run_all(rt, &mut store)?;
     Ok(store.close()?)
-}
-
-fn main(rt: HostRuntime) -> anyhow::Result<()> {
-    let words = words_of(&rt)?;
-    run(&rt, words.as_slice())
 }

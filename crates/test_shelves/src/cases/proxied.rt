@@ -1,8 +1,8 @@
 //! A proxy, which is sent requests as bytes on a connection.
-use crate::case::{Subject, options_of};
-use crate::client::NAME;
-use crate::origin::ScriptedOrigin;
-use crate::text::bytes_under;
+use crate::cases::case::{Subject, options_of};
+use crate::cases::client::NAME;
+use crate::cases::origin::ScriptedOrigin;
+use crate::cases::text::bytes_under;
 use http_cache_client::Client;
 use http_cache_proxy::{Proxy, TimeSource};
 use http_cache_shelf::Shelf;

@@ -1,0 +1,33 @@
+//! Runs what tests and measurements ask of a shelf in memory or of a store, by its first argument:
+//!
+//! | arguments | what is run |
+//! |---|---|
+//! | `cases` | cases of conformance |
+//! | `commands PATH [CALLS [RESPONSES]]` | commands on the store in a file |
+//! | `memory COUNT HITS`, `fill COUNT PATH`, `file HITS PATH` | hits, which are timed |
+//!
+//! They are one program, since each program over a store is compiled with all of sqlite.
+#![tactic(auto)]
+
+mod cases;
+mod commands;
+mod hits;
+
+use std::env;
+
+fn words_of(rt: &HostRuntime) -> anyhow::Result<Vec<String>> {
+    let mut words = Vec::new(rt.alloc());
+    for word in env::args(rt)? {
+        words.push(word)?;
+    }
+    Ok(words)
+}
+
+fn main(rt: HostRuntime) -> anyhow::Result<()> {
+    let words = words_of(&rt)?;
+    match words.get(1).map(String::as_str) {
+        Some("cases") => cases::run(&rt),
+        Some("commands") => commands::run(&rt, words.get(2..).unwrap_or(&[])),
+        _ => hits::run(&rt, words.get(1..).unwrap_or(&[])),
+    }
+}
