@@ -1,0 +1,137 @@
+-- The text of each frame that the process writes.
+use Rattle.std.specs.Prelude.{ℕ, List, [], ◌++◌, Option, Some, None, codes, decimal, length}
+use Rattle.http_cache_frames.specs.declared.reply.Counts.{Counts}
+use Rattle.http_cache_frames.specs.declared.reply.Reason.{Reason}
+use Rattle.http_cache_frames.specs.declared.reply.Reason.TheVariants.{LongLine, NoObject, NoLength, Cut, TooLong, NoSuchFrame, NoToken, NoTime, UnknownToken}
+use Rattle.http_cache_frames.specs.declared.reply.Reason.TheVariants.{MalformedHead, FullHead, NotFinal, NoRest, NoTarget, TooMany, NoResponse, StoreFailed, Memory}
+use Rattle.http_cache_frames.specs.declared.reply.Notice.{Notice}
+use Rattle.http_cache_frames.specs.declared.reply.Notice.TheVariants.{Protocol, Done, Swept, Removed, Stats, Quit, Error}
+use Rattle.http_cache_frames.specs.declared.reply.Word.{Word}
+use Rattle.http_cache_frames.specs.declared.reply.Word.TheVariants as word
+use Rattle.http_cache_frames.specs.declared.reply.Reply.{Reply}
+use Rattle.http_cache_frames.specs.declared.reply.Reply.TheVariants as reply
+
+-- the text of a reason
+unfoldable pub reason_text : Reason → List ℕ
+reason_text LongLine = codes "a line is longer than 4096 bytes"
+reason_text NoObject = codes "a line isn't an object of JSON"
+reason_text NoLength = codes "a length isn't a number of bytes"
+reason_text Cut = codes "the input ends within a frame"
+reason_text TooLong = codes "the head or the body is too long"
+reason_text NoSuchFrame = codes "no such frame"
+reason_text NoToken = codes "no token"
+reason_text NoTime = codes "no time"
+reason_text UnknownToken = codes "unknown token"
+reason_text MalformedHead = codes "the head is malformed"
+reason_text FullHead = codes "the head has too many fields"
+reason_text NotFinal = codes "the status isn't final"
+reason_text NoRest = codes "rest isn't a length or true"
+reason_text NoTarget = codes "the target isn't an absolute URI"
+reason_text TooMany = codes "too many requests under way"
+reason_text NoResponse = codes "no response"
+reason_text StoreFailed = codes "the store failed"
+reason_text Memory = codes "out of memory"
+
+-- the name of a member, with what leads to it
+unfoldable pub word_text : Word → List ℕ
+word_text word.Answer = codes "{\"answer\":"
+word_text word.Done = codes "{\"done\":"
+word_text word.Protocol = codes "{\"protocol\":"
+word_text word.Quit = codes "{\"quit\":"
+word_text word.Removed = codes "{\"removed\":"
+word_text word.Send = codes "{\"send\":"
+word_text word.Stats = codes "{\"stats\":"
+word_text word.Swept = codes "{\"swept\":"
+word_text word.Body = codes ",\"body\":"
+word_text word.Bytes = codes ",\"bytes\":"
+word_text word.Errors = codes ",\"errors\":"
+word_text word.Frames = codes ",\"frames\":"
+word_text word.Head = codes ",\"head\":"
+word_text word.Hits = codes ",\"hits\":"
+word_text word.Id = codes ",\"id\":"
+word_text word.Misses = codes ",\"misses\":"
+word_text word.Count = codes ",\"removed\":"
+word_text word.Request = codes ",\"request\":"
+word_text word.Responses = codes ",\"responses\":"
+word_text word.Token = codes ",\"token\":"
+word_text word.UnderWay = codes ",\"under_way\":"
+word_text word.Validations = codes ",\"validations\":"
+
+-- the name of a member and its number
+abbrev pub member_text : Word → ℕ → List ℕ
+member_text name number = word_text name ++ decimal number
+
+-- the same, if there is a number
+abbrev pub optional_text : Word → Option ℕ → List ℕ
+optional_text name None = []
+optional_text name (Some number) = member_text name number
+
+-- the end of a line
+abbrev pub end_text : List ℕ
+end_text = codes "}\n"
+
+-- two members
+unfoldable pub pair_text : Word → ℕ → Word → ℕ → List ℕ
+pair_text name number other second = member_text name number ++ member_text other second
+
+-- the counts of what is stored and under way
+unfoldable pub stored_text : Counts → List ℕ
+stored_text c =
+    pair_text word.Responses c.responses word.Bytes c.bytes
+    ++ pair_text word.UnderWay c.under_way word.Frames c.frames
+
+-- the counts of what was done
+unfoldable pub done_text : Counts → List ℕ
+done_text c =
+    pair_text word.Hits c.hits word.Validations c.validations
+    ++ pair_text word.Misses c.misses word.Errors c.errors
+
+-- the whole line of an error
+unfoldable pub error_text : Reason → Option ℕ → Option ℕ → List ℕ
+error_text reason id token =
+    codes "{\"error\":\"" ++ reason_text reason ++ codes "\"" ++ optional_text word.Id id
+    ++ optional_text word.Token token ++ end_text
+
+-- the end of a line with the lengths of a message, and the message; without a body, the caller has it
+unfoldable pub message_text : List ℕ → Option (List ℕ) → List ℕ
+message_text head (Some body) =
+    member_text word.Head (length head) ++ member_text word.Body (length body) ++ end_text
+    ++ head ++ body
+message_text head None =
+    member_text word.Head (length head) ++ codes ",\"body\":0,\"rest\":true}\n" ++ head
+
+-- the end of a line with the lengths of a response and of a request's head
+unfoldable pub lengths_text : ℕ → ℕ → ℕ → List ℕ
+lengths_text head body request =
+    member_text word.Head head ++ member_text word.Body body
+    ++ member_text word.Request request ++ end_text
+
+-- a response, and the head of a request that is to be sent meanwhile
+unfoldable pub stale_text : List ℕ → List ℕ → List ℕ → List ℕ
+stale_text head body request =
+    lengths_text (length head) (length body) (length request) ++ head ++ body ++ request
+
+-- the text of a frame without a head and a body
+unfoldable pub notice_text : Notice → List ℕ
+notice_text Protocol = member_text word.Protocol 1 ++ end_text
+notice_text (Done id) = member_text word.Done id ++ end_text
+notice_text (Swept id removed) =
+    pair_text word.Swept id word.Count removed ++ end_text
+notice_text (Removed id responses) =
+    pair_text word.Removed id word.Responses responses ++ end_text
+notice_text (Stats id counts) =
+    member_text word.Stats id ++ stored_text counts ++ done_text counts ++ end_text
+notice_text (Quit id) = member_text word.Quit id ++ end_text
+notice_text (Error reason id token) = error_text reason id token
+
+-- the text of a frame
+unfoldable pub reply_text : Reply → List ℕ
+reply_text (reply.Notice notice) = notice_text notice
+reply_text (reply.Answer id head body) =
+    member_text word.Answer id ++ message_text head.items body
+reply_text (reply.Stale id token head body request) =
+    member_text word.Answer id ++ member_text word.Token token
+    ++ stale_text head.items body request.items
+reply_text (reply.Send id token head body) =
+    member_text word.Send id ++ member_text word.Token token
+    ++ message_text head.items body

@@ -1,0 +1,479 @@
+//! What the process writes: a frame for each frame that it reads.
+ghost use Rattle.std.specs.Prelude.{◌≡◌, ◌++◌, option_map, OnOk};
+ghost use Rattle.http_cache_frames.specs.Reply.{word_text, end_text, member_text, optional_text, reason_text, stored_text, done_text};
+ghost use Rattle.http_cache_frames.specs.Reply.{error_text, pair_text, message_text, lengths_text, stale_text};
+ghost use Rattle.http_cache_frames.specs.Reply.{notice_text, reply_text};
+
+use bytes::Bytes;
+use itoa::Buffer;
+use std::alloc::AllocError;
+
+/// What the process stores and does.
+#[derive(Clone, Copy, Debug, Default, PartialEq, Eq)]
+pub struct Counts {
+    /// Stored responses.
+    pub responses: u64,
+    /// Bytes of their fields and bodies.
+    pub bytes: u64,
+    /// Requests under way.
+    pub under_way: u64,
+    /// Frames that were read.
+    pub frames: u64,
+    /// Requests that were answered from the store without validation.
+    pub hits: u64,
+    /// Requests for which a stored response was to be validated.
+    pub validations: u64,
+    /// Requests that were forwarded as they are.
+    pub misses: u64,
+    /// Frames that were refused.
+    pub errors: u64,
+}
+
+/// Why a frame is refused.
+#[derive(Clone, Copy, Debug, PartialEq, Eq)]
+pub enum Reason {
+    /// A line is longer than 4,096 bytes.
+    LongLine,
+    /// A line isn't an object of JSON.
+    NoObject,
+    /// A length isn't a number of bytes.
+    NoLength,
+    /// The input ends within a frame.
+    Cut,
+    /// The head or the body is longer than the limit.
+    TooLong,
+    /// No known member, or no id.
+    NoSuchFrame,
+    /// `received` or `failed` isn't a token.
+    NoToken,
+    /// No time, or one that is none.
+    NoTime,
+    /// The token isn't under way.
+    UnknownToken,
+    /// The bytes aren't the head of a message.
+    MalformedHead,
+    /// The head has more fields than a map holds.
+    FullHead,
+    /// The status is from 100 to 199.
+    NotFinal,
+    /// `rest` beside a body, or neither a length nor `true`.
+    NoRest,
+    /// `target` isn't an absolute URI.
+    NoTarget,
+    /// More requests are under way than the limit.
+    TooMany,
+    /// No response, and nothing stored may be used in its place. The request is over.
+    NoResponse,
+    /// The store failed.
+    StoreFailed,
+    /// Out of memory.
+    Memory,
+}
+
+impl Reason {
+    /// Returns the text of a reason.
+    #[tactic(auto, unfolding(crate::specs::Reply::reason_text))]
+    pub fn text(self) -> &'static str
+        ensures { result.now ≡ reason_text self }
+    {
+        match self {
+            Reason::LongLine => "a line is longer than 4096 bytes",
+            Reason::NoObject => "a line isn't an object of JSON",
+            Reason::NoLength => "a length isn't a number of bytes",
+            Reason::Cut => "the input ends within a frame",
+            Reason::TooLong => "the head or the body is too long",
+            Reason::NoSuchFrame => "no such frame",
+            Reason::NoToken => "no token",
+            Reason::NoTime => "no time",
+            Reason::UnknownToken => "unknown token",
+            Reason::MalformedHead => "the head is malformed",
+            Reason::FullHead => "the head has too many fields",
+            Reason::NotFinal => "the status isn't final",
+            Reason::NoRest => "rest isn't a length or true",
+            Reason::NoTarget => "the target isn't an absolute URI",
+            Reason::TooMany => "too many requests under way",
+            Reason::NoResponse => "no response",
+            Reason::StoreFailed => "the store failed",
+            Reason::Memory => "out of memory",
+        }
+    }
+}
+
+/// A frame without a head and a body.
+#[derive(Clone, Copy, Debug, PartialEq, Eq)]
+pub enum Notice {
+    /// The version of the protocol, before any other frame.
+    Protocol,
+    /// A validation after its answer is over.
+    Done {
+        /// The caller's id of the request.
+        id: u64,
+    },
+    /// A sweep is done.
+    Swept {
+        /// The caller's id.
+        id: u64,
+        /// How many responses it removed.
+        removed: u64,
+    },
+    /// What was stored for a target is removed.
+    Removed {
+        /// The caller's id.
+        id: u64,
+        /// How many responses that were.
+        responses: u64,
+    },
+    /// What the process stores and does.
+    Stats {
+        /// The caller's id.
+        id: u64,
+        /// The numbers.
+        counts: Counts,
+    },
+    /// The process ends.
+    Quit {
+        /// The caller's id.
+        id: u64,
+    },
+    /// A frame is refused.
+    Error {
+        /// Why.
+        reason: Reason,
+        /// The id of the refused frame, as far as it has one.
+        id: Option<u64>,
+        /// The token of the refused frame, as far as it has one.
+        token: Option<u64>,
+    },
+}
+
+/// A frame that the process writes.
+#[derive(Debug, Drop)]
+pub enum Reply {
+    /// A frame without a head and a body.
+    Notice(Notice),
+    /// A response that answers a request. Without a body, the caller has it.
+    Answer {
+        /// The caller's id of the request.
+        id: u64,
+        /// The head.
+        head: Vec<u8>,
+        /// The body.
+        body: Option<Bytes>,
+    },
+    /// A stale response that answers a request, and the validation that is to be sent meanwhile.
+    Stale {
+        /// The caller's id of the request.
+        id: u64,
+        /// The token of the validation.
+        token: u64,
+        /// The head.
+        head: Vec<u8>,
+        /// The body.
+        body: Bytes,
+        /// The head of the validation's request, which has no body.
+        request: Vec<u8>,
+    },
+    /// A request that is to be sent. Without a body, the caller has it.
+    Send {
+        /// The caller's id of the request.
+        id: u64,
+        /// The token that its outcome is handed back with.
+        token: u64,
+        /// The head.
+        head: Vec<u8>,
+        /// The body.
+        body: Option<Bytes>,
+    },
+}
+
+// The name of a member, with what leads to it.
+#[derive(Clone, Copy)]
+enum Word {
+    Answer,
+    Done,
+    Protocol,
+    Quit,
+    Removed,
+    Send,
+    Stats,
+    Swept,
+    Body,
+    Bytes,
+    Errors,
+    Frames,
+    Head,
+    Hits,
+    Id,
+    Misses,
+    Count,
+    Request,
+    Responses,
+    Token,
+    UnderWay,
+    Validations,
+}
+
+impl Word {
+    #[tactic(auto, unfolding(crate::specs::Reply::word_text))]
+    fn text(self) -> &'static str
+        ensures { result.now ≡ word_text self }
+    {
+        match self {
+            Word::Answer => "{\"answer\":",
+            Word::Done => "{\"done\":",
+            Word::Protocol => "{\"protocol\":",
+            Word::Quit => "{\"quit\":",
+            Word::Removed => "{\"removed\":",
+            Word::Send => "{\"send\":",
+            Word::Stats => "{\"stats\":",
+            Word::Swept => "{\"swept\":",
+            Word::Body => ",\"body\":",
+            Word::Bytes => ",\"bytes\":",
+            Word::Errors => ",\"errors\":",
+            Word::Frames => ",\"frames\":",
+            Word::Head => ",\"head\":",
+            Word::Hits => ",\"hits\":",
+            Word::Id => ",\"id\":",
+            Word::Misses => ",\"misses\":",
+            Word::Count => ",\"removed\":",
+            Word::Request => ",\"request\":",
+            Word::Responses => ",\"responses\":",
+            Word::Token => ",\"token\":",
+            Word::UnderWay => ",\"under_way\":",
+            Word::Validations => ",\"validations\":",
+        }
+    }
+}
+
+fn push_member(out: &mut Vec<u8>, word: Word, number: u64) -> Result<(), AllocError>
+    ensures { OnOk result (out.new.items ≡ out.old.items ++ member_text word number) }
+{
+    let mut digits = Buffer::new();
+    out.extend_from_slice(word.text().as_bytes())?;
+    out.extend_from_slice(digits.format(number).as_bytes())
+}
+
+#[tactic(auto, unfolding(crate::specs::Reply::pair_text))]
+fn push_pair(
+    out: &mut Vec<u8>,
+    word: Word,
+    number: u64,
+    other: Word,
+    second: u64,
+) -> Result<(), AllocError>
+    ensures { OnOk result (out.new.items ≡ out.old.items ++ pair_text word number other second) }
+{
+    push_member(out, word, number)?;
+    push_member(out, other, second)
+}
+
+fn push_optional(out: &mut Vec<u8>, word: Word, number: Option<u64>) -> Result<(), AllocError>
+    ensures { OnOk result (out.new.items ≡ out.old.items ++ optional_text word number) }
+{
+    match number {
+        Some(number) => push_member(out, word, number),
+        None => Ok(()),
+    }
+}
+
+fn push_end(out: &mut Vec<u8>) -> Result<(), AllocError>
+    ensures { OnOk result (out.new.items ≡ out.old.items ++ end_text) }
+{
+    out.extend_from_slice(b"}\n")
+}
+
+// The end of a line with the lengths of a message, and the message.
+#[tactic(auto, unfolding(crate::specs::Reply::message_text))]
+fn push_message(out: &mut Vec<u8>, head: &[u8], body: Option<&Bytes>) -> Result<(), AllocError>
+    ensures { OnOk result (out.new.items ≡ out.old.items ++ message_text head.now
+        (option_map (λ bytes. bytes.now) body.entry)) }
+{
+    push_member(out, Word::Head, head.len() as u64)?;
+    match body {
+        Some(body) => {
+            push_member(out, Word::Body, body.len() as u64)?;
+            push_end(out)?;
+            out.extend_from_slice(head)?;
+            out.extend_from_slice(body.as_slice())
+        }
+        None => {
+            out.extend_from_slice(b",\"body\":0,\"rest\":true}\n")?;
+            out.extend_from_slice(head)
+        }
+    }
+}
+
+// The end of a line with the lengths of a response and of a request's head.
+#[tactic(auto, unfolding(crate::specs::Reply::lengths_text))]
+fn push_lengths(out: &mut Vec<u8>, head: u64, body: u64, request: u64) -> Result<(), AllocError>
+    ensures { OnOk result (out.new.items ≡ out.old.items ++ lengths_text head body request) }
+{
+    push_member(out, Word::Head, head)?;
+    push_member(out, Word::Body, body)?;
+    push_member(out, Word::Request, request)?;
+    push_end(out)
+}
+
+// A response, and the head of a request that is to be sent meanwhile.
+#[tactic(auto, unfolding(crate::specs::Reply::stale_text))]
+fn push_stale(
+    out: &mut Vec<u8>,
+    head: &[u8],
+    body: &Bytes,
+    request: &[u8],
+) -> Result<(), AllocError>
+    ensures { OnOk result (out.new.items ≡ out.old.items ++ stale_text head.now body.now
+        request.now) }
+{
+    push_lengths(
+        out,
+        head.len() as u64,
+        body.len() as u64,
+        request.len() as u64,
+    )?;
+    out.extend_from_slice(head)?;
+    out.extend_from_slice(body.as_slice())?;
+    out.extend_from_slice(request)
+}
+
+impl Counts {
+    #[tactic(auto, unfolding(crate::specs::Reply::stored_text))]
+    fn push_stored(&self, out: &mut Vec<u8>) -> Result<(), AllocError>
+        ensures { OnOk result (out.new.items ≡ out.old.items ++ stored_text self.now) }
+    {
+        push_pair(
+            out,
+            Word::Responses,
+            self.responses,
+            Word::Bytes,
+            self.bytes,
+        )?;
+        push_pair(
+            out,
+            Word::UnderWay,
+            self.under_way,
+            Word::Frames,
+            self.frames,
+        )
+    }
+
+    #[tactic(auto, unfolding(crate::specs::Reply::done_text))]
+    fn push_done(&self, out: &mut Vec<u8>) -> Result<(), AllocError>
+        ensures { OnOk result (out.new.items ≡ out.old.items ++ done_text self.now) }
+    {
+        push_pair(
+            out,
+            Word::Hits,
+            self.hits,
+            Word::Validations,
+            self.validations,
+        )?;
+        push_pair(out, Word::Misses, self.misses, Word::Errors, self.errors)
+    }
+}
+
+#[tactic(auto, unfolding(crate::specs::Reply::error_text))]
+fn push_error(
+    out: &mut Vec<u8>,
+    reason: Reason,
+    id: Option<u64>,
+    token: Option<u64>,
+) -> Result<(), AllocError>
+    ensures { OnOk result (out.new.items ≡ out.old.items ++ error_text reason id token) }
+{
+    out.extend_from_slice(b"{\"error\":\"")?;
+    out.extend_from_slice(reason.text().as_bytes())?;
+    out.extend_from_slice(b"\"")?;
+    push_optional(out, Word::Id, id)?;
+    push_optional(out, Word::Token, token)?;
+    push_end(out)
+}
+
+fn push_line(out: &mut Vec<u8>, word: Word, id: u64) -> Result<(), AllocError>
+    ensures { OnOk result (out.new.items ≡ out.old.items ++ member_text word id ++ end_text) }
+{
+    push_member(out, word, id)?;
+    push_end(out)
+}
+
+// A line with an id and one more number.
+fn push_counted(
+    out: &mut Vec<u8>,
+    word: Word,
+    id: u64,
+    other: Word,
+    number: u64,
+) -> Result<(), AllocError>
+    ensures { OnOk result (out.new.items
+        ≡ out.old.items ++ pair_text word id other number ++ end_text) }
+{
+    push_pair(out, word, id, other, number)?;
+    push_end(out)
+}
+
+impl Notice {
+    #[tactic(auto, unfolding(crate::specs::Reply::notice_text))]
+    fn push(&self, out: &mut Vec<u8>) -> Result<(), AllocError>
+        ensures { OnOk result (out.new.items ≡ out.old.items ++ notice_text self.now) }
+    {
+        match *self {
+            Notice::Protocol => push_line(out, Word::Protocol, 1),
+            Notice::Done { id } => push_line(out, Word::Done, id),
+            Notice::Quit { id } => push_line(out, Word::Quit, id),
+            Notice::Swept { id, removed } => {
+                push_counted(out, Word::Swept, id, Word::Count, removed)
+            }
+            Notice::Removed { id, responses } => {
+                push_counted(out, Word::Removed, id, Word::Responses, responses)
+            }
+            Notice::Stats { id, counts } => {
+                push_member(out, Word::Stats, id)?;
+                counts.push_stored(out)?;
+                counts.push_done(out)?;
+                push_end(out)
+            }
+            Notice::Error { reason, id, token } => push_error(out, reason, id, token),
+        }
+    }
+}
+
+impl Reply {
+    /// Appends the text of a reply.
+    ///
+    /// # Errors
+    ///
+    /// Returns `AllocError` when out of memory. Then a part of the text may have been appended.
+    #[tactic(auto, unfolding(crate::specs::Reply::reply_text))]
+    pub fn push(&self, out: &mut Vec<u8>) -> Result<(), AllocError>
+        ensures { OnOk result (out.new.items ≡ out.old.items ++ reply_text self.now) }
+    {
+        match self {
+            Reply::Notice(notice) => notice.push(out),
+            Reply::Answer { id, head, body } => {
+                push_member(out, Word::Answer, *id)?;
+                push_message(out, head.as_slice(), body.as_ref())
+            }
+            Reply::Stale {
+                id,
+                token,
+                head,
+                body,
+                request,
+            } => {
+                push_member(out, Word::Answer, *id)?;
+                push_member(out, Word::Token, *token)?;
+                push_stale(out, head.as_slice(), body, request.as_slice())
+            }
+            Reply::Send {
+                id,
+                token,
+                head,
+                body,
+            } => {
+                push_member(out, Word::Send, *id)?;
+                push_member(out, Word::Token, *token)?;
+                push_message(out, head.as_slice(), body.as_ref())
+            }
+        }
+    }
+}

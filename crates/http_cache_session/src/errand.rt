@@ -1,0 +1,82 @@
+//! Requests whose outcome the caller is to hand back.
+ghost use Rattle.std.specs.Prelude.{◌≡◌, ◌+◌, IfOk, OnErr};
+
+use bytes::Bytes;
+use http::Request;
+use http_cache_client::{Forwarded, Validation};
+use jiff::Timestamp;
+use std::alloc::{AllocError, Global};
+use std::collections::BTreeMap;
+
+/// What the caller was asked to send.
+#[derive(Debug, Drop)]
+pub(crate) enum Errand {
+    /// The client's own request.
+    Own(Forwarded),
+    /// A validation.
+    Check(Validation),
+    /// Either, which has failed.
+    Failed(Forwarded),
+}
+
+/// A request whose outcome the caller is to hand back.
+#[derive(Debug, Drop)]
+pub(crate) struct UnderWay {
+    /// The caller's id.
+    pub(crate) id: u64,
+    /// The client's own request.
+    pub(crate) request: Request<Bytes>,
+    /// What was sent. It is there between two frames.
+    pub(crate) errand: Option<Errand>,
+    /// When it was sent, unless the caller says another time.
+    pub(crate) sent: Timestamp,
+    /// Whether the body of the request is with the caller.
+    pub(crate) is_body_with_caller: bool,
+    /// Whether a stale response has answered the request.
+    pub(crate) is_answered: bool,
+}
+
+/// The requests under way, by token.
+#[derive(Debug, Drop)]
+pub(crate) struct UnderWays {
+    pub(crate) by_token: BTreeMap<u64, UnderWay>,
+    pub(crate) next_token: u64,
+}
+
+impl UnderWays {
+    pub(crate) fn new(alloc: Global) -> UnderWays
+        ensures { result.next_token ≡ 1 }
+    {
+        UnderWays {
+            by_token: BTreeMap::new(alloc),
+            next_token: 1,
+        }
+    }
+
+    pub(crate) fn len(&self) -> usize {
+        self.by_token.len()
+    }
+
+    /// Adds a request, and returns its token, which none had before.
+    pub(crate) fn add(&mut self, under_way: UnderWay) -> Result<u64, AllocError>
+        ensures given { IfOk result (λ token. (token ≡ self.old.next_token)
+            × (self.new.next_token ≡ token + 1)) }
+        ensures ungiven { OnErr result (self.new.next_token ≡ self.old.next_token) }
+    {
+        let token = self.next_token;
+        let Some(next) = token.checked_add(1) else {
+            return Err(AllocError);
+        };
+        if self.by_token.insert(token, under_way).is_err() {
+            return Err(AllocError);
+        }
+        self.next_token = next;
+        Ok(token)
+    }
+
+    pub(crate) fn remove(&mut self, token: u64) -> Option<UnderWay>
+        ensures { self.new.next_token ≡ self.old.next_token }
+    {
+        self.by_token.remove(&token)
+    }
+}

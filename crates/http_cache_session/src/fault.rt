@@ -1,0 +1,49 @@
+//! Why a frame has no other reply than an error, or none.
+use http_cache_frames::Reason;
+use http_cache_semantics::CacheError;
+use http_cache_shelf::ShelfError;
+use http_heads::HeadError;
+use std::alloc::AllocError;
+
+/// Why a frame isn't answered as it asks.
+#[derive(Clone, Copy, Debug, PartialEq, Eq)]
+pub(crate) enum Fault {
+    /// It is refused, and nothing is changed.
+    Refused(Reason),
+    /// There is no memory for a reply after something was changed.
+    Lost,
+}
+
+impl From<AllocError> for Fault {
+    fn from(_e: AllocError) -> Fault {
+        Fault::Refused(Reason::Memory)
+    }
+}
+
+impl From<CacheError> for Fault {
+    fn from(e: CacheError) -> Fault {
+        Fault::Refused(match e {
+            CacheError::HeaderMapFull => Reason::FullHead,
+            _ => Reason::Memory,
+        })
+    }
+}
+
+impl From<HeadError> for Fault {
+    fn from(e: HeadError) -> Fault {
+        Fault::Refused(match e {
+            HeadError::Memory => Reason::Memory,
+            HeadError::Malformed => Reason::MalformedHead,
+            HeadError::HeaderMapFull => Reason::FullHead,
+        })
+    }
+}
+
+impl From<ShelfError> for Fault {
+    fn from(e: ShelfError) -> Fault {
+        Fault::Refused(match e {
+            ShelfError::Memory => Reason::Memory,
+            ShelfError::Failed => Reason::StoreFailed,
+        })
+    }
+}

@@ -1,0 +1,105 @@
+//! Heads and bodies as they are written.
+ghost use Rattle.std.specs.Prelude.{◌≡◌, Some, None};
+ghost use Rattle.http_cache_session.specs.Session.{given_token, reply_id};
+
+use bytes::Bytes;
+use http::{Method, Response, StatusCode, request, response};
+use http_cache_frames::Reply;
+use http_cache_intermediary::{Content, Intermediary};
+use http_cache_plans::Body;
+use http_cache_semantics::CacheError;
+use http_heads::{bytes_of_request, bytes_of_response};
+use jiff::Timestamp;
+use std::alloc::{AllocError, Global};
+
+/// A message as it is written: its head, and its body unless that is with the caller.
+#[derive(Drop)]
+pub(crate) struct Written {
+    pub(crate) head: Vec<u8>,
+    pub(crate) body: Option<Bytes>,
+}
+
+impl Written {
+    /// Returns the reply that answers a request.
+    pub(crate) fn answer(self, id: u64) -> Reply
+        ensures none { given_token result ≡ None }
+        ensures id { reply_id result ≡ Some id }
+    {
+        let Written { head, body } = self;
+        Reply::Answer { id, head, body }
+    }
+
+    /// Returns the reply that has a request sent.
+    pub(crate) fn send(self, id: u64, token: u64) -> Reply
+        ensures given { given_token result ≡ Some token }
+        ensures id { reply_id result ≡ Some id }
+    {
+        let Written { head, body } = self;
+        Reply::Send {
+            id,
+            token,
+            head,
+            body,
+        }
+    }
+}
+
+// The body of a response as it is written, and its length.
+fn content_of(body: Body) -> (Option<Bytes>, Content) {
+    match body {
+        Body::Here(bytes) => {
+            let content = Content::Known(bytes.len() as u64);
+            (Some(bytes), content)
+        }
+        Body::Elsewhere(Some(length)) => (None, Content::Known(length)),
+        Body::Elsewhere(None) => (None, Content::Unknown),
+    }
+}
+
+/// Returns a response to a request of a method as it is written, by an intermediary if there is one.
+pub(crate) fn written_response(
+    alloc: Global,
+    intermediary: Option<&Intermediary>,
+    method: &Method,
+    response: Response<Body>,
+) -> Result<Written, CacheError> {
+    let (head, body) = response.into_parts();
+    let (body, content) = content_of(body);
+    let head = match intermediary {
+        Some(intermediary) => {
+            let sent = intermediary.sent(alloc, method, &head, content)?;
+            bytes_of_response(alloc, &sent)?
+        }
+        None => bytes_of_response(alloc, &head)?,
+    };
+    Ok(Written { head, body })
+}
+
+/// Returns a response of the intermediary's own as it is written.
+pub(crate) fn written_own(
+    alloc: Global,
+    intermediary: &Intermediary,
+    method: &Method,
+    status: StatusCode,
+    detail: &str,
+    time: Timestamp,
+) -> Result<Written, CacheError> {
+    let head: response::Parts = intermediary.generated(alloc, status, detail, Some(time))?;
+    let sent = intermediary.sent(alloc, method, &head, Content::Known(0))?;
+    Ok(Written {
+        head: bytes_of_response(alloc, &sent)?,
+        body: Some(Bytes::new()),
+    })
+}
+
+/// Returns a request as it is written. Without a body, the caller has it.
+pub(crate) fn written_request(
+    alloc: Global,
+    parts: &request::Parts,
+    body: Option<Bytes>,
+) -> Result<Written, AllocError> {
+    Ok(Written {
+        head: bytes_of_request(alloc, parts)?,
+        body,
+    })
+}

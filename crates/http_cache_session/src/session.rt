@@ -1,0 +1,756 @@
+//! The state between frames, and the reply to each frame.
+ghost use Rattle.std.specs.Prelude.{◌≡◌, Some, None, IfOk, IfErr, IfSome, OnErr};
+ghost use Rattle.http_cache_shelf.specs.Shelf.{KeepsAll};
+ghost use Rattle.http_cache_session.specs.Session.{IsRefused, given_token, reply_id, GivesNext};
+
+use crate::errand::{Errand, UnderWay, UnderWays};
+use crate::fault::Fault;
+use crate::message::{Place, has_fragment, request_in, response_in, time_of, time_under};
+use crate::parts::{Written, written_own, written_request, written_response};
+use bytes::Bytes;
+use http::header::HOST;
+use http::{HeaderMap, HeaderValue, Method, Request, Response, StatusCode, Uri};
+use http_cache_client::{Client, Decision, Forwarded, Received, Validation};
+use http_cache_frames::{
+    Counts, Frame, Notice, Reason, Reply, has_member, number_under, text_under,
+};
+use http_cache_intermediary::Intermediary;
+use http_cache_messages::complete::is_complete;
+use http_cache_plans::{Body, Times};
+use http_cache_shelf::Shelf;
+use jiff::Timestamp;
+use serde_json::Value;
+use std::alloc::Global;
+use std::hash::RandomState;
+use std::mem;
+
+/// How a session works.
+#[derive(Drop)]
+pub struct Settings {
+    /// The keys of the header maps of requests and responses.
+    pub keys: RandomState,
+    /// What the session does as an intermediary, if its caller is one.
+    pub intermediary: Option<Intermediary>,
+    /// How many requests may be under way.
+    pub requests: usize,
+}
+
+/// The reply to a frame.
+#[derive(Drop)]
+pub struct Turn {
+    /// The reply.
+    pub reply: Reply,
+    /// Whether the session is over.
+    pub is_last: bool,
+}
+
+/// There is no memory for a reply after something was changed, so no reply can say what was done.
+#[derive(Clone, Copy, Debug, PartialEq, Eq)]
+pub struct Lost;
+
+/// What a shelf stores.
+#[derive(Clone, Copy, Debug, PartialEq, Eq)]
+pub struct Stored {
+    /// How many responses.
+    pub responses: u64,
+    /// How many bytes their fields and bodies have together.
+    pub bytes: u64,
+}
+
+/// A caching client over a shelf, and the requests under way.
+#[derive(Drop)]
+pub struct Session<S: Drop> {
+    client: Client<S>,
+    settings: Settings,
+    under_way: UnderWays,
+    counts: Counts,
+}
+
+// What a frame asks for.
+#[derive(Clone, Copy)]
+enum Asked {
+    Ask(u64),
+    Received,
+    Failed,
+    Remove(u64),
+    Sweep(u64),
+    Stats(u64),
+    Quit(u64),
+}
+
+impl Asked {
+    fn of(line: &Value) -> Option<Asked> {
+        if let Some(id) = number_under(line, "ask") {
+            return Some(Asked::Ask(id));
+        }
+        if has_member(line, "received") {
+            return Some(Asked::Received);
+        }
+        if has_member(line, "failed") {
+            return Some(Asked::Failed);
+        }
+        if let Some(id) = number_under(line, "remove") {
+            return Some(Asked::Remove(id));
+        }
+        if let Some(id) = number_under(line, "sweep") {
+            return Some(Asked::Sweep(id));
+        }
+        if let Some(id) = number_under(line, "stats") {
+            return Some(Asked::Stats(id));
+        }
+        number_under(line, "quit").map(Asked::Quit)
+    }
+}
+
+// A count and one more.
+fn more(count: &mut u64) {
+    *count = count.saturating_add(1);
+}
+
+fn done(id: u64) -> Reply
+    ensures none { given_token result ≡ None }
+    ensures id { reply_id result ≡ Some id }
+{
+    Reply::Notice(Notice::Done { id })
+}
+
+// The client's own request as it is written, and the request.
+fn own_request(
+    alloc: Global,
+    request: Request<Bytes>,
+    is_body_with_caller: bool,
+) -> Result<(Written, Request<Bytes>), Fault> {
+    let (parts, body) = request.into_parts();
+    let sent = if is_body_with_caller {
+        None
+    } else {
+        Some(body.clone()?)
+    };
+    let written = written_request(alloc, &parts, sent)?;
+    Ok((written, Request::from_parts(parts, body)))
+}
+
+// A response whose body is here.
+fn with_body(response: Response<Bytes>) -> Response<Body> {
+    let (head, body) = response.into_parts();
+    Response::from_parts(head, Body::Here(body))
+}
+
+impl<S: Shelf + Drop> Session<S> {
+    /// Returns a session with nothing under way.
+    pub fn new(alloc: Global, client: Client<S>, settings: Settings) -> Session<S>
+        ensures shelf { result.client.shelf ≡ client.shelf }
+        ensures next { result.under_way.next_token ≡ 1 }
+    {
+        Session {
+            client,
+            settings,
+            under_way: UnderWays::new(alloc),
+            counts: Counts::default(),
+        }
+    }
+
+    /// Returns the shelf of a session that is over.
+    pub fn into_shelf(self) -> S
+        ensures { result ≡ self.client.shelf }
+    {
+        let Session { client, .. } = self;
+        client.into_shelf()
+    }
+
+    // The request as the client is asked it, and its body if that is sent with it.
+    fn asked_request(
+        &self,
+        alloc: Global,
+        request: Request<Bytes>,
+        place: Place,
+    ) -> Result<Request<Bytes>, Fault> {
+        let Some(intermediary) = self.settings.intermediary.as_ref() else {
+            return Ok(request);
+        };
+        let content = place.content(request.body().len());
+        let parts = intermediary.forwarded(alloc, &request, content)?;
+        let (_, body) = request.into_parts();
+        Ok(Request::from_parts(parts, body))
+    }
+
+    // The reply to a request that isn't sent on, if it is such a one.
+    fn refused_request(
+        &self,
+        alloc: Global,
+        id: u64,
+        request: &Request<Bytes>,
+        has_fragment: bool,
+        now: Timestamp,
+    ) -> Result<Option<Reply>, Fault>
+        ensures none { IfOk result (λ reply. IfSome reply (λ one. given_token one ≡ None)) }
+        ensures id { IfOk result (λ reply. IfSome reply (λ one. reply_id one ≡ Some id)) }
+    {
+        let Some(intermediary) = self.settings.intermediary.as_ref() else {
+            return Ok(None);
+        };
+        let Some(refusal) = intermediary.refusal(request, has_fragment) else {
+            return Ok(None);
+        };
+        let method = request.method();
+        let (status, detail) = (refusal.status(), refusal.detail());
+        let written = written_own(alloc, intermediary, method, status, detail, now)?;
+        Ok(Some(written.answer(id)))
+    }
+
+    fn written(
+        &self,
+        alloc: Global,
+        method: &Method,
+        response: Response<Body>,
+    ) -> Result<Written, Fault> {
+        let intermediary = self.settings.intermediary.as_ref();
+        Ok(written_response(alloc, intermediary, method, response)?)
+    }
+
+    fn is_full(&self) -> bool {
+        self.under_way.len() >= self.settings.requests
+    }
+
+    // Has a validation sent.
+    fn validate(
+        &mut self,
+        alloc: Global,
+        id: u64,
+        request: Request<Bytes>,
+        mut check: Validation,
+        now: Timestamp,
+    ) -> Result<Reply, Fault>
+        ensures id { IfOk result (λ reply. reply_id reply ≡ Some id) }
+        ensures kept { self.new.client.shelf ≡ self.old.client.shelf }
+        ensures next { IfOk result (λ reply. GivesNext (given_token reply)
+            self.old.under_way.next_token self.new.under_way.next_token) }
+        ensures ungiven { OnErr result
+            (self.new.under_way.next_token ≡ self.old.under_way.next_token) }
+    {
+        if self.is_full() {
+            return Err(Fault::Refused(Reason::TooMany));
+        }
+        let parts = check.take_request(alloc);
+        let written = written_request(alloc, &parts, Some(Bytes::new()))?;
+        let token = self.under_way.add(UnderWay {
+            id,
+            request,
+            errand: Some(Errand::Check(check)),
+            sent: now,
+            is_body_with_caller: false,
+            is_answered: false,
+        })?;
+        more(&mut self.counts.validations);
+        Ok(written.send(id, token))
+    }
+
+    // Has the client's own request sent.
+    fn forward(
+        &mut self,
+        alloc: Global,
+        id: u64,
+        request: Request<Bytes>,
+        is_body_with_caller: bool,
+        forwarded: Forwarded,
+        now: Timestamp,
+    ) -> Result<Reply, Fault>
+        ensures id { IfOk result (λ reply. reply_id reply ≡ Some id) }
+        ensures kept { self.new.client.shelf ≡ self.old.client.shelf }
+        ensures next { IfOk result (λ reply. GivesNext (given_token reply)
+            self.old.under_way.next_token self.new.under_way.next_token) }
+        ensures ungiven { OnErr result
+            (self.new.under_way.next_token ≡ self.old.under_way.next_token) }
+    {
+        if self.is_full() {
+            return Err(Fault::Refused(Reason::TooMany));
+        }
+        let (written, request) = own_request(alloc, request, is_body_with_caller)?;
+        let token = self.under_way.add(UnderWay {
+            id,
+            request,
+            errand: Some(Errand::Own(forwarded)),
+            sent: now,
+            is_body_with_caller,
+            is_answered: false,
+        })?;
+        Ok(written.send(id, token))
+    }
+
+    // Answers with a stale response, and has it validated if one more request may be under way.
+    fn answer_stale(
+        &mut self,
+        alloc: Global,
+        id: u64,
+        request: Request<Bytes>,
+        answer: Response<Bytes>,
+        mut due: Validation,
+        now: Timestamp,
+    ) -> Result<Reply, Fault>
+        ensures id { IfOk result (λ reply. reply_id reply ≡ Some id) }
+        ensures kept { self.new.client.shelf ≡ self.old.client.shelf }
+        ensures next { IfOk result (λ reply. GivesNext (given_token reply)
+            self.old.under_way.next_token self.new.under_way.next_token) }
+        ensures ungiven { OnErr result
+            (self.new.under_way.next_token ≡ self.old.under_way.next_token) }
+    {
+        let written = self.written(alloc, request.method(), with_body(answer))?;
+        if self.is_full() {
+            return Ok(written.answer(id));
+        }
+        let parts = due.take_request(alloc);
+        let check = written_request(alloc, &parts, Some(Bytes::new()))?;
+        let token = self.under_way.add(UnderWay {
+            id,
+            request,
+            errand: Some(Errand::Check(due)),
+            sent: now,
+            is_body_with_caller: false,
+            is_answered: true,
+        })?;
+        more(&mut self.counts.validations);
+        let Written { head, body } = written;
+        Ok(Reply::Stale {
+            id,
+            token,
+            head,
+            body: body.unwrap_or(Bytes::new()),
+            request: check.head,
+        })
+    }
+
+    // Answers without asking the origin.
+    fn answer_now(
+        &mut self,
+        alloc: Global,
+        id: u64,
+        method: &Method,
+        answer: Response<Bytes>,
+    ) -> Result<Reply, Fault>
+        ensures id { IfOk result (λ reply. reply_id reply ≡ Some id) }
+        ensures kept { self.new.client.shelf ≡ self.old.client.shelf }
+        ensures next { IfOk result (λ reply. GivesNext (given_token reply)
+            self.old.under_way.next_token self.new.under_way.next_token) }
+        ensures ungiven { OnErr result
+            (self.new.under_way.next_token ≡ self.old.under_way.next_token) }
+    {
+        let is_hit = answer.status() != StatusCode::GATEWAY_TIMEOUT;
+        let written = self.written(alloc, method, with_body(answer))?;
+        if is_hit {
+            more(&mut self.counts.hits);
+        }
+        Ok(written.answer(id))
+    }
+
+    fn ask(&mut self, alloc: Global, id: u64, frame: Frame) -> Result<Reply, Fault>
+        ensures id { IfOk result (λ reply. reply_id reply ≡ Some id) }
+        ensures kept { KeepsAll (S.stored self.old.client.shelf) (S.next_id self.old.client.shelf)
+            (S.stored self.new.client.shelf) (S.next_id self.new.client.shelf) }
+        ensures next { IfOk result (λ reply. GivesNext (given_token reply)
+            self.old.under_way.next_token self.new.under_way.next_token) }
+        ensures ungiven { OnErr result
+            (self.new.under_way.next_token ≡ self.old.under_way.next_token) }
+    {
+        let now = time_of(&frame.line)?;
+        let place = Place::of(&frame)?;
+        let Frame { head, body, .. } = frame;
+        let is_cut = has_fragment(head.as_slice());
+        let request = request_in(alloc, self.settings.keys, &head, body, place)?;
+        if let Some(reply) = self.refused_request(alloc, id, &request, is_cut, now)? {
+            return Ok(reply);
+        }
+        let request = self.asked_request(alloc, request, place)?;
+        match self.client.ask(alloc, &request, now)? {
+            Decision::Answer(answer) => self.answer_now(alloc, id, request.method(), answer),
+            Decision::Stale { answer, due } => {
+                self.answer_stale(alloc, id, request, answer, due, now)
+            }
+            Decision::Validate(check) => self.validate(alloc, id, request, check, now),
+            Decision::Forward(forwarded) => {
+                let is_with_caller = place != Place::Here;
+                let reply = self.forward(alloc, id, request, is_with_caller, forwarded, now)?;
+                more(&mut self.counts.misses);
+                Ok(reply)
+            }
+        }
+    }
+
+    // Hands a response to the client. None is a token that isn't under way.
+    fn hand_over(
+        &mut self,
+        alloc: Global,
+        token: u64,
+        response: Response<Body>,
+        sent: Option<Timestamp>,
+        received: Timestamp,
+    ) -> Result<Received, Fault>
+        ensures kept { OnErr result (KeepsAll (S.stored self.old.client.shelf)
+            (S.next_id self.old.client.shelf)
+            (S.stored self.new.client.shelf) (S.next_id self.new.client.shelf)) }
+        ensures next { self.new.under_way.next_token ≡ self.old.under_way.next_token }
+    {
+        let Some(under_way) = self.under_way.by_token.get_mut(&token) else {
+            return Err(Fault::Refused(Reason::UnknownToken));
+        };
+        let times = Times {
+            sent: sent.unwrap_or(under_way.sent),
+            received,
+        };
+        let request = &under_way.request;
+        match under_way.errand.as_mut() {
+            Some(Errand::Own(forwarded)) => {
+                let answer = self
+                    .client
+                    .accept(alloc, forwarded, request, response, times)?;
+                Ok(Received::Answer(answer))
+            }
+            Some(Errand::Check(check)) => {
+                Ok(self.client.receive(alloc, check, request, response, times)?)
+            }
+            _ => Err(Fault::Refused(Reason::UnknownToken)),
+        }
+    }
+
+    // The reply once the client has taken a response.
+    fn taken(
+        &mut self,
+        alloc: Global,
+        under_way: UnderWay,
+        outcome: Received,
+        now: Timestamp,
+    ) -> Result<Reply, Fault>
+        ensures id { IfOk result (λ reply. reply_id reply ≡ Some under_way.id) }
+        ensures kept { self.new.client.shelf ≡ self.old.client.shelf }
+        ensures next { IfOk result (λ reply. GivesNext (given_token reply)
+            self.old.under_way.next_token self.new.under_way.next_token) }
+        ensures ungiven { OnErr result
+            (self.new.under_way.next_token ≡ self.old.under_way.next_token) }
+    {
+        let UnderWay {
+            id,
+            request,
+            is_body_with_caller,
+            is_answered,
+            ..
+        } = under_way;
+        if is_answered {
+            return Ok(done(id));
+        }
+        match outcome {
+            Received::Answer(answer) => {
+                Ok(self.written(alloc, request.method(), answer)?.answer(id))
+            }
+            Received::Again(forwarded) => {
+                self.forward(alloc, id, request, is_body_with_caller, forwarded, now)
+            }
+        }
+    }
+
+    // Whether a response is cut off, which an intermediary doesn't send on.
+    fn is_cut_off(&self, token: u64, response: &Response<Body>) -> bool {
+        if self.settings.intermediary.is_none() {
+            return false;
+        }
+        let Body::Here(body) = response.body() else {
+            return false;
+        };
+        let length = body.len() as u64;
+        match self.under_way.by_token.get(&token) {
+            Some(under_way) => !is_complete(
+                under_way.request.method(),
+                response.status(),
+                response.headers(),
+                length,
+            ),
+            None => false,
+        }
+    }
+
+    fn received(&mut self, alloc: Global, frame: Frame) -> Result<Reply, Fault>
+        ensures kept { IfErr result (λ fault. IsRefused fault
+            → KeepsAll (S.stored self.old.client.shelf) (S.next_id self.old.client.shelf)
+            (S.stored self.new.client.shelf) (S.next_id self.new.client.shelf)) }
+        ensures next { IfOk result (λ reply. GivesNext (given_token reply)
+            self.old.under_way.next_token self.new.under_way.next_token) }
+        ensures ungiven { OnErr result
+            (self.new.under_way.next_token ≡ self.old.under_way.next_token) }
+    {
+        let Some(token) = number_under(&frame.line, "received") else {
+            return Err(Fault::Refused(Reason::NoToken));
+        };
+        let now = time_of(&frame.line)?;
+        let sent = time_under(&frame.line, "sent");
+        let response = response_in(alloc, self.settings.keys, frame)?;
+        if self.is_cut_off(token, &response) {
+            return self.give_up(alloc, token, true, now);
+        }
+        let outcome = self.hand_over(alloc, token, response, sent, now)?;
+        let Some(under_way) = self.under_way.remove(token) else {
+            return Err(Fault::Lost);
+        };
+        // After a change there is no way back.
+        match self.taken(alloc, under_way, outcome, now) {
+            Ok(reply) => Ok(reply),
+            Err(_) => Err(Fault::Lost),
+        }
+    }
+
+    // What is stored and may be used though the origin gave no response.
+    fn instead(
+        &mut self,
+        alloc: Global,
+        token: u64,
+        now: Timestamp,
+    ) -> Result<Option<Response<Bytes>>, Fault>
+        ensures kept { KeepsAll (S.stored self.old.client.shelf) (S.next_id self.old.client.shelf)
+            (S.stored self.new.client.shelf) (S.next_id self.new.client.shelf) }
+        ensures next { self.new.under_way.next_token ≡ self.old.under_way.next_token }
+    {
+        let Some(under_way) = self.under_way.by_token.get_mut(&token) else {
+            return Err(Fault::Refused(Reason::UnknownToken));
+        };
+        let forwarded = match mem::replace(&mut under_way.errand, None) {
+            Some(Errand::Own(forwarded) | Errand::Failed(forwarded)) => forwarded,
+            Some(Errand::Check(check)) => check.into_forwarded(),
+            None => return Err(Fault::Lost),
+        };
+        let mut forwarded = forwarded;
+        let answer = if under_way.is_answered {
+            Ok(None)
+        } else {
+            let request = &under_way.request;
+            self.client
+                .without_response(alloc, &mut forwarded, request, now)
+        };
+        under_way.errand = Some(Errand::Failed(forwarded));
+        Ok(answer?)
+    }
+
+    // The reply where the origin gave no response.
+    fn unanswered(
+        &self,
+        alloc: Global,
+        token: u64,
+        under_way: &UnderWay,
+        answer: Option<Response<Bytes>>,
+        is_invalid: bool,
+        now: Timestamp,
+    ) -> Result<Reply, Fault>
+        ensures none { IfOk result (λ reply. given_token reply ≡ None) }
+        ensures id { IfOk result (λ reply. reply_id reply ≡ Some under_way.now.id) }
+    {
+        let (id, method) = (under_way.id, under_way.request.method());
+        if under_way.is_answered {
+            return Ok(done(id));
+        }
+        if let Some(answer) = answer {
+            return Ok(self.written(alloc, method, with_body(answer))?.answer(id));
+        }
+        let Some(intermediary) = self.settings.intermediary.as_ref() else {
+            return Ok(Reply::Notice(Notice::Error {
+                reason: Reason::NoResponse,
+                id: Some(id),
+                token: Some(token),
+            }));
+        };
+        let (status, detail) = if is_invalid {
+            (StatusCode::BAD_GATEWAY, "response cut off")
+        } else {
+            (StatusCode::GATEWAY_TIMEOUT, "no response")
+        };
+        Ok(written_own(alloc, intermediary, method, status, detail, now)?.answer(id))
+    }
+
+    // Ends a request without a response.
+    fn give_up(
+        &mut self,
+        alloc: Global,
+        token: u64,
+        is_invalid: bool,
+        now: Timestamp,
+    ) -> Result<Reply, Fault>
+        ensures kept { KeepsAll (S.stored self.old.client.shelf) (S.next_id self.old.client.shelf)
+            (S.stored self.new.client.shelf) (S.next_id self.new.client.shelf) }
+        ensures next { IfOk result (λ reply. GivesNext (given_token reply)
+            self.old.under_way.next_token self.new.under_way.next_token) }
+        ensures ungiven { OnErr result
+            (self.new.under_way.next_token ≡ self.old.under_way.next_token) }
+    {
+        let answer = self.instead(alloc, token, now)?;
+        let Some(under_way) = self.under_way.remove(token) else {
+            return Err(Fault::Lost);
+        };
+        match self.unanswered(alloc, token, &under_way, answer, is_invalid, now) {
+            Ok(reply) => Ok(reply),
+            Err(_) => Err(Fault::Lost),
+        }
+    }
+
+    fn failed(&mut self, alloc: Global, line: &Value) -> Result<Reply, Fault>
+        ensures kept { KeepsAll (S.stored self.old.client.shelf) (S.next_id self.old.client.shelf)
+            (S.stored self.new.client.shelf) (S.next_id self.new.client.shelf) }
+        ensures next { IfOk result (λ reply. GivesNext (given_token reply)
+            self.old.under_way.next_token self.new.under_way.next_token) }
+        ensures ungiven { OnErr result
+            (self.new.under_way.next_token ≡ self.old.under_way.next_token) }
+    {
+        let Some(token) = number_under(line, "failed") else {
+            return Err(Fault::Refused(Reason::NoToken));
+        };
+        let now = time_of(line)?;
+        let is_invalid = text_under(line, "why") == Some("invalid");
+        self.give_up(alloc, token, is_invalid, now)
+    }
+
+    // Removes what is stored for a target by requests that name its host in Host alone.
+    fn remove_by_host(&mut self, alloc: Global, target: &Uri) -> Result<usize, Fault>
+        ensures next { self.new.under_way ≡ self.old.under_way }
+    {
+        let (Some(authority), Some(path)) = (target.authority(), target.path_and_query()) else {
+            return Err(Fault::Refused(Reason::NoTarget));
+        };
+        let Ok(host) = HeaderValue::from_bytes(alloc, authority.as_str().as_bytes()) else {
+            return Err(Fault::Refused(Reason::NoTarget));
+        };
+        let Ok(uri) = Uri::from_str(alloc, path.as_str()) else {
+            return Err(Fault::Refused(Reason::NoTarget));
+        };
+        let mut headers = HeaderMap::new(alloc);
+        if headers.append(HOST, host).is_err() {
+            return Err(Fault::Refused(Reason::Memory));
+        }
+        Ok(self.client.remove(alloc, &uri, &headers)?)
+    }
+
+    // Removes what is stored for a target.
+    fn remove(&mut self, alloc: Global, id: u64, line: &Value) -> Result<Reply, Fault>
+        ensures id { IfOk result (λ reply. reply_id reply ≡ Some id) }
+        ensures next { IfOk result (λ reply. GivesNext (given_token reply)
+            self.old.under_way.next_token self.new.under_way.next_token) }
+        ensures ungiven { OnErr result
+            (self.new.under_way.next_token ≡ self.old.under_way.next_token) }
+    {
+        let Some(text) = text_under(line, "target") else {
+            return Err(Fault::Refused(Reason::NoTarget));
+        };
+        let Ok(target) = Uri::from_str(alloc, text) else {
+            return Err(Fault::Refused(Reason::NoTarget));
+        };
+        let by_host = self.remove_by_host(alloc, &target)?;
+        let by_uri = self.client.remove(alloc, &target, &HeaderMap::new(alloc))?;
+        let responses = by_host.saturating_add(by_uri) as u64;
+        Ok(Reply::Notice(Notice::Removed { id, responses }))
+    }
+
+    fn sweep(&mut self, id: u64, line: &Value) -> Result<Reply, Fault>
+        ensures id { IfOk result (λ reply. reply_id reply ≡ Some id) }
+        ensures kept { OnErr result (KeepsAll (S.stored self.old.client.shelf)
+            (S.next_id self.old.client.shelf)
+            (S.stored self.new.client.shelf) (S.next_id self.new.client.shelf)) }
+        ensures next { IfOk result (λ reply. GivesNext (given_token reply)
+            self.old.under_way.next_token self.new.under_way.next_token) }
+        ensures ungiven { OnErr result
+            (self.new.under_way.next_token ≡ self.old.under_way.next_token) }
+    {
+        let removed = self.client.sweep(time_of(line)?)? as u64;
+        Ok(Reply::Notice(Notice::Swept { id, removed }))
+    }
+
+    fn counts(&self, stored: Stored) -> Counts {
+        Counts {
+            responses: stored.responses,
+            bytes: stored.bytes,
+            under_way: self.under_way.len() as u64,
+            ..self.counts
+        }
+    }
+
+    fn reply_to(
+        &mut self,
+        alloc: Global,
+        asked: Asked,
+        frame: Frame,
+        stored: Stored,
+    ) -> Result<Reply, Fault>
+        ensures next { IfOk result (λ reply. GivesNext (given_token reply)
+            self.old.under_way.next_token self.new.under_way.next_token) }
+        ensures ungiven { OnErr result
+            (self.new.under_way.next_token ≡ self.old.under_way.next_token) }
+    {
+        match asked {
+            Asked::Ask(id) => self.ask(alloc, id, frame),
+            Asked::Received => self.received(alloc, frame),
+            Asked::Failed => self.failed(alloc, &frame.line),
+            Asked::Remove(id) => self.remove(alloc, id, &frame.line),
+            Asked::Sweep(id) => self.sweep(id, &frame.line),
+            Asked::Stats(id) => Ok(Reply::Notice(Notice::Stats {
+                id,
+                counts: self.counts(stored),
+            })),
+            Asked::Quit(id) => Ok(Reply::Notice(Notice::Quit { id })),
+        }
+    }
+
+    // The error of a frame that is refused.
+    fn error(&mut self, reason: Reason, id: Option<u64>, token: Option<u64>) -> Turn
+        ensures next { self.new.under_way ≡ self.old.under_way }
+        ensures none { given_token result.reply ≡ None }
+    {
+        more(&mut self.counts.errors);
+        Turn {
+            reply: Reply::Notice(Notice::Error { reason, id, token }),
+            is_last: false,
+        }
+    }
+
+    /// Returns the shelf.
+    pub fn shelf(&self) -> &S
+        ensures { result.now ≡ self.now.client.shelf }
+    {
+        self.client.shelf()
+    }
+
+    /// Returns the reply to a frame. `stored` is what the shelf stores now, for `stats`.
+    ///
+    /// # Errors
+    ///
+    /// Returns `Lost` if something was changed and there is no memory for a reply that says so. The
+    /// session can't go on then, since its caller doesn't know what is under way.
+    pub fn answer(&mut self, alloc: Global, frame: Frame, stored: Stored) -> Result<Turn, Lost>
+        ensures given { IfOk result (λ turn. GivesNext (given_token turn.reply)
+            self.old.under_way.next_token self.new.under_way.next_token) }
+    {
+        more(&mut self.counts.frames);
+        let id = id_of(&frame.line);
+        let token = token_of(&frame.line);
+        if frame.is_too_long {
+            return Ok(self.error(Reason::TooLong, id, token));
+        }
+        let Some(asked) = Asked::of(&frame.line) else {
+            return Ok(self.error(Reason::NoSuchFrame, id, token));
+        };
+        match self.reply_to(alloc, asked, frame, stored) {
+            Ok(reply) => Ok(Turn {
+                reply,
+                is_last: matches!(asked, Asked::Quit(_)),
+            }),
+            Err(Fault::Refused(reason)) => Ok(self.error(reason, id, token)),
+            Err(Fault::Lost) => Err(Lost),
+        }
+    }
+}
+
+// The id of a frame, if it has one.
+fn id_of(line: &Value) -> Option<u64> {
+    ["ask", "remove", "sweep", "stats", "quit"]
+        .iter()
+        .find_map(|name| number_under(line, name))
+}
+
+// The token of a frame, if it has one.
+fn token_of(line: &Value) -> Option<u64> {
+    match number_under(line, "received") {
+        Some(token) => Some(token),
+        None => number_under(line, "failed"),
+    }
+}
