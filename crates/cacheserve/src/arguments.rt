@@ -1,5 +1,5 @@
 //! The settings of a command line.
-use crate::input::Longest;
+use http_cache_frames::Longest;
 use http_cache_shelf::Limits;
 use std::alloc::{AllocError, Global};
 use std::env::Args;

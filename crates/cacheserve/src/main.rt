@@ -3,21 +3,20 @@
 #![tactic(auto)]
 
 mod arguments;
-mod input;
-mod output;
-mod serve;
+mod cache;
+mod end;
 
 use arguments::{Settings, settings_of};
+use cache::{Cache, Counted};
+use end::End;
 use http_cache_client::Client;
+use http_cache_frames::serve;
 use http_cache_intermediary::Intermediary;
 use http_cache_semantics::CacheOptions;
-use http_cache_session::{Session, Settings as SessionSettings};
+use http_cache_session::Settings as SessionSettings;
 use http_cache_shelf::{MemoryShelf, Shelf};
-use http_cache_store::{Durability, Store, StoreOptions};
-use input::Input;
-use output::Output;
-use serve::{Counted, Ended, serve};
-use sqlite::{Alter, File, FileStore};
+use http_cache_store::{Durability, Store, StoreError, StoreOptions};
+use sqlite::{Alter, Error, ErrorCode, File, FileStore};
 use std::env;
 use std::hash::RandomState;
 use std::process::ExitCode;
@@ -35,11 +34,11 @@ fn options_of(settings: &Settings) -> CacheOptions {
 }
 
 // The session over a shelf.
-fn session_over<S: Shelf + Drop>(
+fn cache_over<S: Shelf + Drop>(
     rt: &HostRuntime,
     settings: &Settings,
     shelf: S,
-) -> Result<Session<S>, Ended> {
+) -> Result<Cache<S>, End> {
     let alloc = rt.alloc();
     let name = String::from_str(alloc, settings.name.as_str())?;
     let intermediary = if settings.is_proxy {
@@ -48,10 +47,10 @@ fn session_over<S: Shelf + Drop>(
         None
     };
     let Ok(keys) = RandomState::new(rt) else {
-        return Err(Ended::NotReadable);
+        return Err(End::NoKeys);
     };
     let client = Client::new(shelf, options_of(settings), name);
-    Ok(Session::new(
+    Ok(Cache::new(
         alloc,
         client,
         SessionSettings {
@@ -67,22 +66,26 @@ fn serve_over<S: Shelf + Counted + Drop>(
     rt: &HostRuntime,
     settings: &Settings,
     shelf: S,
-) -> Result<(Ended, S), Ended> {
-    let mut session = session_over(rt, settings, shelf)?;
-    let mut input = Input::new(rt.alloc(), rt.stdin(), settings.longest)?;
-    let mut output = Output::new(rt.alloc(), rt.stdout())?;
-    let ended = serve(rt.alloc(), &mut session, &mut input, &mut output);
-    Ok((ended, session.into_shelf()))
+) -> Result<(End, S), End> {
+    let mut cache = cache_over(rt, settings, shelf)?;
+    let served = serve(
+        rt.alloc(),
+        &mut cache,
+        rt.stdin(),
+        rt.stdout(),
+        settings.longest,
+    );
+    Ok((End::Served(served.ended), cache.into_shelf()))
 }
 
-fn serve_in_memory(rt: &HostRuntime, settings: &Settings) -> Result<Ended, Ended> {
+fn serve_in_memory(rt: &HostRuntime, settings: &Settings) -> Result<End, End> {
     let Ok(hasher) = RandomState::new(rt) else {
-        return Err(Ended::NotReadable);
+        return Err(End::NoKeys);
     };
     let shelf = MemoryShelf::new(rt.alloc(), hasher, settings.limits)?;
-    let (ended, shelf) = serve_over(rt, settings, shelf)?;
+    let (end, shelf) = serve_over(rt, settings, shelf)?;
     drop(shelf);
-    Ok(ended)
+    Ok(end)
 }
 
 // Serves over a store, and returns it.
@@ -90,7 +93,7 @@ fn serve_stored<S: Alter + Drop>(
     rt: &HostRuntime,
     settings: &Settings,
     store: Store<S>,
-) -> Result<(Ended, Store<S>), Ended> {
+) -> Result<(End, Store<S>), End> {
     serve_over(rt, settings, store)
 }
 
@@ -98,7 +101,7 @@ fn opened(
     rt: &HostRuntime,
     settings: &Settings,
     path: &str,
-) -> Result<Store<FileStore<File>>, Ended> {
+) -> Result<Store<FileStore<File>>, End> {
     let options = StoreOptions {
         limits: settings.limits,
         durability: Durability::Batched {
@@ -107,21 +110,25 @@ fn opened(
     };
     match Store::open(rt, path, options) {
         Ok(store) => Ok(store),
+        Err(StoreError::Sqlite(Error::SqliteFailure(ErrorCode::DatabaseBusy))) => {
+            let _ = eprintln!(rt; "cacheserve: {path}: another process uses the file");
+            Err(End::NotOpened)
+        }
         Err(cause) => {
             let _ = eprintln!(rt; "cacheserve: {path}: {cause}");
-            Err(Ended::File)
+            Err(End::NotOpened)
         }
     }
 }
 
-fn run(rt: &HostRuntime, settings: &Settings) -> Result<Ended, Ended> {
+fn run(rt: &HostRuntime, settings: &Settings) -> Result<End, End> {
     match settings.file.as_ref() {
         Some(path) => {
             let store = opened(rt, settings, path.as_str())?;
-            let (ended, store) = serve_stored(rt, settings, store)?;
+            let (end, store) = serve_stored(rt, settings, store)?;
             match store.close() {
-                Ok(()) => Ok(ended),
-                Err(_) => Ok(Ended::File),
+                Ok(()) => Ok(end),
+                Err(_) => Ok(End::NotClosed),
             }
         }
         None => serve_in_memory(rt, settings),
@@ -137,11 +144,11 @@ fn main(rt: HostRuntime) -> ExitCode {
         let _ = eprintln!(&rt; "{USAGE}");
         return ExitCode::from(64);
     };
-    let ended = match run(&rt, &settings) {
-        Ok(ended) | Err(ended) => ended,
+    let end = match run(&rt, &settings) {
+        Ok(end) | Err(end) => end,
     };
-    if let Some(text) = ended.text() {
+    if let Some(text) = end.text() {
         let _ = eprintln!(&rt; "cacheserve: {text}");
     }
-    ExitCode::from(ended.status())
+    ExitCode::from(end.status())
 }

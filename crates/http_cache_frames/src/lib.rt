@@ -1,15 +1,23 @@
-//! Frames of the cache process, without input or output: what bytes begin with, what a line says, and
-//! the text of a reply. `docs/PROTOCOL.md` says what each means.
+//! Frames of the cache process: what bytes begin with, what a line says, the text of a reply, and the loop
+//! that reads frames and writes replies. `docs/PROTOCOL.md` says what each means.
 //!
-//! It relies on the kit's JSON, and knows nothing of HTTP or of caching.
+//! It relies on the kit's JSON, and knows nothing of HTTP or of caching: what answers a frame is handed to
+//! the loop.
 #![tactic(auto)]
 
+mod ended;
 mod frame;
 mod front;
+mod input;
 mod line;
+mod output;
 mod reply;
+mod serving;
 
+pub use ended::Ended;
 pub use frame::Frame;
 pub use front::{Announced, Front, NoFrame, front_of};
+pub use input::Longest;
 pub use line::{has_member, is_true_under, length_under, number_under, text_under};
 pub use reply::{Counts, Notice, Reason, Reply};
+pub use serving::{Answers, Lost, Served, Turn, serve};

@@ -11,4 +11,4 @@ mod message;
 mod parts;
 mod session;
 
-pub use session::{Lost, Session, Settings, Stored, Turn};
+pub use session::{Session, Settings, Stored};

@@ -2,6 +2,7 @@
 ghost use Rattle.std.specs.Prelude.{◌≡◌, Some, None, IfOk, IfErr, IfSome, OnErr};
 ghost use Rattle.http_cache_shelf.specs.Shelf.{KeepsAll};
 ghost use Rattle.http_cache_session.specs.Session.{IsRefused, given_token, reply_id, GivesNext};
+ghost use Rattle.http_cache_session.specs.State.{next_token};
 
 use crate::errand::{Errand, UnderWay, UnderWays};
 use crate::fault::Fault;
@@ -12,7 +13,7 @@ use http::header::HOST;
 use http::{HeaderMap, HeaderValue, Method, Request, Response, StatusCode, Uri};
 use http_cache_client::{Client, Decision, Forwarded, Received, Validation};
 use http_cache_frames::{
-    Counts, Frame, Notice, Reason, Reply, has_member, number_under, text_under,
+    Counts, Frame, Lost, Notice, Reason, Reply, Turn, has_member, number_under, text_under,
 };
 use http_cache_intermediary::Intermediary;
 use http_cache_messages::complete::is_complete;
@@ -34,19 +35,6 @@ pub struct Settings {
     /// How many requests may be under way.
     pub requests: usize,
 }
-
-/// The reply to a frame.
-#[derive(Drop)]
-pub struct Turn {
-    /// The reply.
-    pub reply: Reply,
-    /// Whether the session is over.
-    pub is_last: bool,
-}
-
-/// There is no memory for a reply after something was changed, so no reply can say what was done.
-#[derive(Clone, Copy, Debug, PartialEq, Eq)]
-pub struct Lost;
 
 /// What a shelf stores.
 #[derive(Clone, Copy, Debug, PartialEq, Eq)]
@@ -140,7 +128,7 @@ impl<S: Shelf + Drop> Session<S> {
     /// Returns a session with nothing under way.
     pub fn new(alloc: Global, client: Client<S>, settings: Settings) -> Session<S>
         ensures shelf { result.client.shelf ≡ client.shelf }
-        ensures next { result.under_way.next_token ≡ 1 }
+        ensures next { next_token result ≡ 1 }
     {
         Session {
             client,
@@ -718,7 +706,7 @@ impl<S: Shelf + Drop> Session<S> {
     /// session can't go on then, since its caller doesn't know what is under way.
     pub fn answer(&mut self, alloc: Global, frame: Frame, stored: Stored) -> Result<Turn, Lost>
         ensures given { IfOk result (λ turn. GivesNext (given_token turn.reply)
-            self.old.under_way.next_token self.new.under_way.next_token) }
+            (next_token self.old) (next_token self.new)) }
     {
         more(&mut self.counts.frames);
         let id = id_of(&frame.line);

@@ -1,0 +1,48 @@
+//! How the process ends.
+use http_cache_frames::Ended;
+use std::alloc::AllocError;
+
+/// How the process ends.
+#[derive(Clone, Copy, Debug, PartialEq, Eq)]
+pub enum End {
+    /// As serving frames did.
+    Served(Ended),
+    /// The system has no random bytes.
+    NoKeys,
+    /// The file can't be opened, as has been written on standard error.
+    NotOpened,
+    /// The file can't be closed.
+    NotClosed,
+}
+
+impl From<AllocError> for End {
+    fn from(_e: AllocError) -> End {
+        End::Served(Ended::NoMemory)
+    }
+}
+
+impl End {
+    /// Returns the exit status.
+    pub fn status(self) -> u8 {
+        match self {
+            End::Served(Ended::Well) => 0,
+            End::Served(Ended::Broken(_)) => 2,
+            End::Served(Ended::NotReadable) | End::NoKeys => 3,
+            End::Served(Ended::NotWritten) => 4,
+            End::Served(Ended::NoMemory) => 5,
+            End::NotOpened | End::NotClosed => 6,
+        }
+    }
+
+    /// Returns the line for standard error, if there is one.
+    pub fn text(self) -> Option<&'static str> {
+        match self {
+            End::Served(Ended::Well | Ended::NotWritten) | End::NotOpened => None,
+            End::Served(Ended::Broken(cause)) => Some(cause.reason().text()),
+            End::Served(Ended::NotReadable) => Some("standard input can't be read"),
+            End::Served(Ended::NoMemory) => Some("out of memory"),
+            End::NoKeys => Some("the system has no random bytes"),
+            End::NotClosed => Some("the file can't be closed"),
+        }
+    }
+}

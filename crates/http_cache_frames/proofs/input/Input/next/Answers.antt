@@ -1,0 +1,27 @@
+-- The line that is ahead is taken, and what follows it.
+use Rattle.std.proofs.Common.{arith, ◌≡◌, ◌∙◌, ap, subst, drop}
+use Rattle.std.proofs.lemmas.Result.{IfOk-weaker}
+use Rattle.http_cache_frames.specs.Front.{IsLine}
+use Rattle.http_cache_frames.specs.Served.{IsAhead, TakesContent}
+use Rattle.http_cache_frames.proofs.PlaceLemmas.{line_there}
+use Rattle.http_cache_frames.proofs.ServedLemmas.{frame_taken}
+use Rattle.http_cache_frames.proofs.input.Input.next.Goals as goal
+
+pub returns-in-Line-clause-taken : goal.returns-in-Line-clause-taken
+returns-in-Line-clause-taken g c =
+    let a = c.in-Line.announced in
+    let ahead = c.line.new.self.ahead.items in
+    let left = g.R.Read.remaining c.line.new.self.from in
+    let line : IsLine ahead a = subst (λ it. IsAhead it ahead) c.in-Line.is c.in_ok-announced.ensures.ahead in
+    let there = line_there ahead a line in
+    let len = c.len.ensures.value in
+    let min = c.min-line.ensures in
+    let count : c.min-line.result ≡ a.length = omega (arith, there, len, min) in
+    let rest : c.advance.new.self.items ≡ drop a.length ahead = c.advance.ensures.items ∙ ap (λ n. drop n ahead) count in
+    let left_then = g.R.Read.remaining c.after_line.new.self.from in
+    let ahead_then = c.after_line.new.self.ahead.items in
+    IfOk-weaker c.after_line.result _ _
+    (λ it taken. frame_taken it a (g.R.Read.remaining c.args.self.now.from) c.args.self.now.ahead.items left ahead left_then ahead_then
+    c.in_ok-announced.ensures.taken line
+    (subst (λ it_ahead. TakesContent it a left it_ahead left_then ahead_then) rest taken))
+    c.after_line.ensures.taken

@@ -1,0 +1,168 @@
+//! The loop over frames.
+ghost use Rattle.std.specs.Prelude.{◌≡◌, ◌⊎◌, ⊤, ℕ, List, [], Option, IfOk};
+ghost use Rattle.http_cache_frames.specs.Served.{AreServed, HasTaken, HasWritten, IsReported, IsWrittenAt, reason_of};
+ghost use Rattle.http_cache_frames.specs.declared.ended.Ended.TheVariants.{NotWritten};
+ghost use Rattle.http_cache_frames.specs.declared.frame.Frame.{Frame};
+ghost use Rattle.http_cache_frames.specs.declared.reply.Reply.{Reply};
+
+use crate::ended::Ended;
+use crate::frame::Frame;
+use crate::front::NoFrame;
+use crate::input::{Input, Longest, Next};
+use crate::output::{Output, PIECE};
+use crate::reply::{Notice, Reason, Reply};
+use std::alloc::Global;
+use std::io::{Read, Write};
+
+/// The reply to a frame.
+#[derive(Drop)]
+pub struct Turn {
+    /// The reply.
+    pub reply: Reply,
+    /// Whether no frame is answered after it.
+    pub is_last: bool,
+}
+
+/// There is no memory for a reply after something was changed, so no reply can say what was done.
+#[derive(Clone, Copy, Debug, PartialEq, Eq)]
+pub struct Lost;
+
+/// What answers frames.
+pub trait Answers {
+    // A reply to a frame, by the states before and after it.
+    ghost is_reply: { Self → Frame → Reply → Self → Type 0 } = { λ _ _ _ _. ⊤ };
+
+    /// Returns the reply to a frame.
+    ///
+    /// # Errors
+    ///
+    /// Returns `Lost` if something was changed and there is no memory for a reply that says so.
+    fn answer(&mut self, alloc: Global, frame: Frame) -> Result<Turn, Lost>
+        ensures is_reply { IfOk result (λ turn. is_reply self.old frame turn.reply self.new) };
+}
+
+impl NoFrame {
+    /// Returns the reason that is reported.
+    pub fn reason(self) -> Reason
+        ensures { result ≡ reason_of self }
+    {
+        match self {
+            NoFrame::LongLine => Reason::LongLine,
+            NoFrame::NoObject => Reason::NoObject,
+            NoFrame::NoLength => Reason::NoLength,
+            NoFrame::Cut => Reason::Cut,
+        }
+    }
+}
+
+// Writes that no frame follows, and returns the end.
+fn report<W: Write + Drop>(cause: NoFrame, out: &mut Output<W>) -> Ended
+    ensures { IsReported cause result (W.contents out.old.to) out.old.waiting.items
+        (W.contents out.new.to) out.new.waiting.items }
+{
+    let reply = Reply::Notice(Notice::Error {
+        reason: cause.reason(),
+        id: None,
+        token: None,
+    });
+    match out.put(&reply) {
+        Ok(()) => Ended::Broken(cause),
+        Err(ended) => ended,
+    }
+}
+
+// Reads frames to the end of the input or to the last one that is answered, and writes the reply to each.
+fn turns<A: Answers, R: Read + Drop, W: Write + Drop>(
+    alloc: Global,
+    answers: &mut A,
+    input: &mut Input<R>,
+    out: &mut Output<W>,
+) -> Ended
+    ensures { (left base : Option (List ℕ))
+        → HasTaken left (R.remaining input.old.from) input.old.ahead.items []
+        → HasWritten base (W.contents out.old.to) out.old.waiting.items []
+        → AreServed A.is_reply answers.old left base (W.contents out.new.to)
+        out.new.waiting.items result }
+{
+    if let Err(ended) = out.put(&Reply::Notice(Notice::Protocol)) {
+        return ended;
+    }
+    for _ in 0..u64::MAX {
+        let frame = match input.next(out) {
+            Ok(Next::Frame(frame)) => frame,
+            Ok(Next::End) => return Ended::Well,
+            Ok(Next::Broken(cause)) => return report(cause, out),
+            Err(ended) => return ended,
+        };
+        let Ok(turn) = answers.answer(alloc, frame) else {
+            return Ended::NoMemory;
+        };
+        if let Err(ended) = out.put(&turn.reply) {
+            return ended;
+        }
+        if turn.is_last {
+            return Ended::Well;
+        }
+    }
+    Ended::Well
+}
+
+// Writes what is waiting, unless writing has failed, and returns the end.
+fn finish<W: Write + Drop>(ended: Ended, out: &mut Output<W>) -> Ended
+    ensures end { (result ≡ ended) ⊎ (result ≡ NotWritten) }
+    ensures written { (base : Option (List ℕ)) → (text : List ℕ)
+        → IsWrittenAt ended base (W.contents out.old.to) out.old.waiting.items text
+        → IsWrittenAt result base (W.contents out.new.to) [] text }
+{
+    if ended == Ended::NotWritten {
+        return Ended::NotWritten;
+    }
+    match out.flush() {
+        Ok(()) => ended,
+        Err(_) => Ended::NotWritten,
+    }
+}
+
+/// How serving ended, and the writer.
+#[derive(Drop)]
+pub struct Served<W: Drop> {
+    /// How it ended.
+    pub ended: Ended,
+    /// The writer.
+    pub to: W,
+}
+
+/// Reads frames to the end of the input, to `quit` or to what is no frame, and writes the reply to each.
+///
+/// Before each read, and however it ends, the replies to all frames that were answered are written, unless
+/// writing failed: then a beginning of them is written.
+pub fn serve<A: Answers, R: Read + Drop, W: Write + Drop>(
+    alloc: Global,
+    answers: &mut A,
+    from: R,
+    to: W,
+    longest: Longest,
+) -> Served<W>
+    ensures served { AreServed A.is_reply answers.old (R.remaining from) (W.contents to)
+        (W.contents result.to) [] result.ended }
+{
+    let Ok(mut input) = Input::new(alloc, from, longest) else {
+        return Served {
+            ended: Ended::NoMemory,
+            to,
+        };
+    };
+    let Ok(waiting) = Vec::with_capacity(alloc, PIECE) else {
+        return Served {
+            ended: Ended::NoMemory,
+            to,
+        };
+    };
+    let mut out = Output::new(alloc, to, waiting);
+    let ended = turns(alloc, answers, &mut input, &mut out);
+    let ended = finish(ended, &mut out);
+    Served {
+        ended,
+        to: out.into_writer(),
+    }
+}
