@@ -7,6 +7,7 @@ from __future__ import annotations
 import ctypes
 import os
 from ctypes import POINTER, c_char_p, c_int32, c_int64, c_size_t, c_uint8, c_uint32, c_uint64
+from functools import lru_cache
 from pathlib import Path
 from typing import Any, Callable, List, Tuple
 
@@ -85,28 +86,27 @@ def _files() -> List[str]:
     return [str(file) for file in beside if file.exists()] + [_FILE]
 
 
-def _loaded() -> ctypes.CDLL:
+@lru_cache(maxsize=None)
+def library() -> ctypes.CDLL:
+    """The shared library, loaded by the first call, so that `process` and `proxy` do without it. Raises `LibraryNotFound`."""
     file = _files()[0]
     try:
-        library = ctypes.CDLL(file)
+        loaded = ctypes.CDLL(file)
     except OSError as e:
         raise LibraryNotFound(f"{file} can't be loaded: {e}; bin/library builds it") from e
     for name, arguments in _ARGUMENTS.items():
-        if not hasattr(library, name):
+        if not hasattr(loaded, name):
             raise LibraryNotFound(f"{file} has no {name}: it is of another version")
-        getattr(library, name).argtypes = arguments
-        getattr(library, name).restype = c_int32
-    library.hcs_version.argtypes = []
-    library.hcs_version.restype = c_uint32
-    return library
-
-
-LIBRARY = _loaded()
+        getattr(loaded, name).argtypes = arguments
+        getattr(loaded, name).restype = c_int32
+    loaded.hcs_version.argtypes = []
+    loaded.hcs_version.restype = c_uint32
+    return loaded
 
 
 def library_version() -> Tuple[int, int, int]:
     """Returns the version of the shared library: major, minor and patch."""
-    number = LIBRARY.hcs_version()
+    number = library().hcs_version()
     return number >> 16 & 255, number >> 8 & 255, number & 255
 
 
@@ -119,7 +119,7 @@ def checked(code: int) -> int:
 
 
 def called(name: str, *arguments: Any) -> int:
-    return checked(getattr(LIBRARY, name)(*arguments))
+    return checked(getattr(library(), name)(*arguments))
 
 
 class Buffer:

@@ -5,7 +5,7 @@ from ctypes import byref, c_size_t, c_uint32
 from dataclasses import dataclass
 from typing import Any, NamedTuple, Optional, Sequence, Tuple, Union
 
-from ._library import Buffer, DurationStruct, called, filled, LIBRARY
+from ._library import Buffer, DurationStruct, called, filled, library
 from ._messages import Headers, Request, Response, request_from, request_of, response_from, response_of
 from ._options import CacheOptions, Time, time_struct
 
@@ -143,7 +143,7 @@ class CachePolicy:
         self._options, self._struct = options, options._struct()
         heads = _sized(request_of(request).head()) + _sized(response_of(response).head())
         arguments = (byref(self._struct), *heads, time_struct(received))
-        _, [self._form] = filled(lambda *out: LIBRARY.hcs_new(*arguments, *out), [Buffer(_USUAL_SIZE)])
+        _, [self._form] = filled(lambda *out: library().hcs_new(*arguments, *out), [Buffer(_USUAL_SIZE)])
 
     @classmethod
     def from_bytes(cls, form: bytes, options: CacheOptions = CacheOptions()) -> "CachePolicy":
@@ -164,7 +164,7 @@ class CachePolicy:
         return byref(self._struct), self._form, len(self._form)
 
     def _filled(self, name: str, *arguments: Any) -> Tuple[int, bytes]:
-        call = getattr(LIBRARY, name)
+        call = getattr(library(), name)
         code, [result] = filled(lambda *out: call(*self._given(), *arguments, *out), [Buffer(_USUAL_SIZE)])
         return code, result
 
@@ -228,7 +228,7 @@ class CachePolicy:
         heads = _sized(request_of(request).head()) + _sized(response_of(response).head())
         arguments = (*self._given(), *heads, time_struct(now))
         buffers = [Buffer(_USUAL_SIZE), Buffer(_USUAL_SIZE)]
-        code, [form, head] = filled(lambda *out: LIBRARY.hcs_after(*arguments, *out), buffers)
+        code, [form, head] = filled(lambda *out: library().hcs_after(*arguments, *out), buffers)
         policy = CachePolicy.__new__(CachePolicy)
         policy._options, policy._struct, policy._form = self._options, self._struct, form
         if code == _NOT_MODIFIED:
@@ -255,7 +255,7 @@ class CachePolicy:
         """Returns the head under which the stored body may be sent at that time, fresh or not: every field line that
         may be sent on, and Age (RFC 9111, section 5.1)."""
         arguments = (*_sized(self._form), time_struct(now))
-        _, [head] = filled(lambda *out: LIBRARY.hcs_response_at(*arguments, *out), [Buffer(_USUAL_SIZE)])
+        _, [head] = filled(lambda *out: library().hcs_response_at(*arguments, *out), [Buffer(_USUAL_SIZE)])
         return response_from(head)
 
     def is_not_modified_for(self, request: RequestLike) -> bool:
@@ -290,12 +290,12 @@ def choose(policies: Sequence[CachePolicy], request: RequestLike, now: Optional[
     lengths = (c_size_t * len(forms))(*map(len, forms))
     stored = (*_sized(b"".join(forms)), lengths, len(forms))
     arguments = (byref(struct), *stored, *_sized(asked.head()), time_struct(now), byref(index))
-    code, [head] = filled(lambda *out: LIBRARY.hcs_choose(*arguments, *out), [Buffer(_USUAL_SIZE)])
+    code, [head] = filled(lambda *out: library().hcs_choose(*arguments, *out), [Buffer(_USUAL_SIZE)])
     return None if code == _NO_MATCH else Choice(index.value, _decision(code, head, asked))
 
 
 def _made(name: str, *heads: bytes) -> Response:
-    call, struct = getattr(LIBRARY, name), CacheOptions()._struct()
+    call, struct = getattr(library(), name), CacheOptions()._struct()
     sized = [it for head in heads for it in _sized(head)]
     _, [head] = filled(lambda *out: call(byref(struct), *sized, *out), [Buffer(_USUAL_SIZE)])
     return response_from(head)

@@ -210,7 +210,7 @@ class Examples(unittest.TestCase):
 
 class Loading(unittest.TestCase):
     def refused(self, library):
-        program = "import http_cache_semantics"
+        program = "import http_cache_semantics; http_cache_semantics.library_version()"
         environment = {**os.environ, "HTTP_CACHE_SEMANTICS_LIBRARY": library}
         run = subprocess.run([sys.executable, "-c", program], env=environment, capture_output=True, text=True)
         self.assertEqual(run.returncode, 1)

@@ -8,7 +8,7 @@ from fractions import Fraction
 from pathlib import Path
 
 import http_cache_semantics as hcs
-from http_cache_semantics._library import LIBRARY
+from http_cache_semantics._library import library
 from http_cache_semantics._messages import request_from
 
 ROOT = Path(__file__).resolve().parent.parent.parent
@@ -154,7 +154,7 @@ def difference(number, got, wanted):
 
 def through_the_library(form):
     """The scripts that differ, through the shared library and with stored forms of one kind."""
-    assert LIBRARY.hcs_version() > 0
+    assert library().hcs_version() > 0
     differ = []
     for number, script, answer in recorded():
         try:

@@ -1,0 +1,75 @@
+"""The program `cacheserve`: where it is, and the words that it is started with."""
+from __future__ import annotations
+
+import os
+import shutil
+import subprocess
+from dataclasses import dataclass, fields
+from pathlib import Path
+from typing import List, Optional
+
+from ._frames import CacheError
+
+_ROOT = Path(__file__).resolve().parent.parent.parent
+
+
+class ProgramNotFound(CacheError):
+    """There is no program `cacheserve`."""
+
+
+@dataclass(frozen=True)
+class ProcessOptions:
+    """How the process works. What is None is as `cacheserve` has it; docs/PROTOCOL.md and its README have the words.
+
+    `program` is the path of `cacheserve`. By default it is the one that the environment variable CACHESERVE names, else the
+    one beside this package, else the proved one of this repository, else the one on PATH.
+    """
+
+    program: Optional[str] = None
+    file: Optional[str] = None
+    private: bool = False
+    proxy: bool = False
+    name: Optional[str] = None
+    batched: Optional[int] = None
+    responses: Optional[int] = None
+    bytes: Optional[int] = None
+    stored_body: Optional[int] = None
+    variants: Optional[int] = None
+    requests: Optional[int] = None
+    head: Optional[int] = None
+    body: Optional[int] = None
+
+    def command(self) -> List[str]:
+        """Returns the command that starts the process. Raises `ProgramNotFound`."""
+        words = [self.program or found_program()]
+        for field in fields(self):
+            value = getattr(self, field.name)
+            if field.name == "program" or value is None or value is False:
+                continue
+            words.append("--" + field.name.replace("_", "-"))
+            if value is not True:
+                words.append(str(value))
+        return words
+
+
+def found_program() -> str:
+    """Returns the path of `cacheserve`, as `ProcessOptions` says. Raises `ProgramNotFound`."""
+    named = os.environ.get("CACHESERVE")
+    if named:
+        return named
+    beside = Path(__file__).parent / "cacheserve"
+    if beside.exists():
+        return str(beside)
+    of_repository = _ROOT / "bin/sources"
+    if of_repository.exists():
+        sources = subprocess.run([of_repository], stdin=subprocess.DEVNULL, capture_output=True, text=True).stdout.strip()
+        proved = _ROOT / "crates/cacheserve/out/proved" / sources
+        if sources and proved.exists():
+            return str(proved)
+    on_path = shutil.which("cacheserve")
+    if on_path:
+        return on_path
+    raise ProgramNotFound(
+        "cacheserve isn't built for these sources: `bin/prove cacheserve` builds it, in half an hour to an hour on 4 "
+        "processors; or let the environment variable CACHESERVE name it"
+    )

@@ -1,0 +1,60 @@
+"""Runs the cases for a private cache through CacheAdapter, over real sockets; the program is $CACHESERVE.
+
+Left out are the cases that requests can't write: another form of target, bytes on the connection, an empty query; and those
+about what an intermediary does."""
+import sys
+
+sys.dont_write_bytecode = True
+import requests
+from cases_over_sockets import STEP, OriginServer, run_cases
+from cases import KNOWN, load, needs_bytes, request_of
+from http_cache_semantics.adapter import CacheAdapter
+
+OF_INTERMEDIARIES = ("proxy", "hop-by-hop")
+
+
+def is_written_by_requests(case):
+    asked = [step["request"] for step in case["steps"]]
+    others = ("absolute", "raw_target", "chunked")
+    return not any(
+        any(request.get(name) for name in others)
+        or request.get("path", "").endswith("?")
+        or request.get("method", "GET") != request.get("method", "GET").upper()
+        for request in asked
+    )
+
+
+def main():
+    origin = OriginServer()
+    session = requests.Session()
+    session.headers.clear()
+    session.trust_env = False
+    session.mount("http://", CacheAdapter(pool_maxsize=100))
+
+    def ask(case, number, now):
+        request = request_of(case, case["steps"][number], now)
+        headers = {STEP: f"{case['id']}.{number}"}
+        for name, value in request["headers"]:
+            if name.lower() != "content-length":
+                known = next((other for other in headers if other.lower() == name.lower()), name)
+                headers[known] = f"{headers[known]}, {value}" if known in headers else value
+        url, body = f"http://127.0.0.1:{origin.port}{request['target']}", bytes.fromhex(request["body_hex"]) or None
+        encoded = {name: value.encode("latin-1") for name, value in headers.items()}
+        try:
+            got = session.request(request["method"], url, headers=encoded, data=body, allow_redirects=False, timeout=20)
+        except requests.RequestException:
+            # So requests says that there is no response, where a proxy answers 504.
+            return {"status": 504, "headers": [], "body": b"", "is_cut_off": False}
+        fields = [[name, value] for name, value in got.raw.headers.iteritems()]
+        return {"status": got.status_code, "headers": fields, "body": got.content, "is_cut_off": False}
+
+    cases = [case for case in load() if case["cache"] != "shared" and case["category"] not in OF_INTERMEDIARIES]
+    cases = [case for case in cases if is_written_by_requests(case) and not case.get("wire") and not needs_bytes(case)]
+    passed, wrong = run_cases(origin, cases, ask)
+    session.close()
+    print(passed, *wrong, sep="\n")
+    return 0 if [line.split(":")[0] for line in wrong] == [KNOWN] and passed["must"] == 127 else 1
+
+
+if __name__ == "__main__":
+    sys.exit(main())
