@@ -91,7 +91,8 @@ impl<W: Write + Drop> Output<W> {
         Ok(())
     }
 
-    /// Collects a reply, or writes it if there is much. If there is no memory for it, no part of it is written.
+    /// Collects a reply, or writes it if there is much. If there is no memory for it, no part of it is
+    /// written.
     pub(crate) fn put(&mut self, reply: &Reply) -> Result<(), Ended>
         ensures ok { OnOk result (Puts (W.contents self.old.to) self.old.waiting.items
             (W.contents self.new.to) self.new.waiting.items (reply_text reply.now)) }
