@@ -231,8 +231,13 @@ class Wire:
 
 
 def raw_answer(raw, method):
-    """The first answer among the bytes of a connection. Interim responses are passed over."""
-    answer = HTTPResponse(Wire(raw), method=method)
+    """The first answer among the bytes of a connection."""
+    return answer_on(Wire(raw), method)
+
+
+def answer_on(connection, method):
+    """The next answer on a connection. Interim responses are passed over."""
+    answer = HTTPResponse(connection, method=method)
     try:
         answer.begin()
         body = answer.read()
