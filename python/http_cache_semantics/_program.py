@@ -70,6 +70,6 @@ def found_program() -> str:
     if on_path:
         return on_path
     raise ProgramNotFound(
-        "cacheserve isn't built for these sources: `bin/prove cacheserve` builds it, in half an hour to an hour on 4 "
+        "cacheserve isn't built for these sources: `bin/prove cacheserve` builds it, in about an hour on 4 "
         "processors; or let the environment variable CACHESERVE name it"
     )

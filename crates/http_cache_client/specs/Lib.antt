@@ -2,3 +2,4 @@
 pub mod Ask
 pub mod Fetch
 pub mod Receive
+pub mod Remove

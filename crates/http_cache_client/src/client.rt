@@ -1,12 +1,11 @@
 //! A caching client: its shelf, its name and its options.
-ghost use Rattle.std.specs.Prelude.{◌≡◌, ◌⊎◌, ◌∷◌, [], ℕ, List, true, string_bytes, length, IfOk, OnOk, OnErr};
-ghost use Rattle.http_cache_fields.specs.Headers.{headers_of};
+ghost use Rattle.std.specs.Prelude.{◌≡◌, ◌⊎◌, ℕ, List, true, map, string_bytes, length, IfOk, OnOk, OnErr};
 ghost use Rattle.http_cache_shelf.specs.Shelf.{KeepsAll, KeepsOthers, RemovesThese};
-ghost use Rattle.http_cache_shelf.specs.Target.{text_of, target_text};
+ghost use Rattle.http_cache_shelf.specs.Target.{text_of};
 ghost use Rattle.http_cache_plans.specs.Plan.{Stores, IsChangeOf};
+ghost use Rattle.http_cache_client.specs.Remove.{stored_count};
 
 use bytes::Bytes;
-use http::{HeaderMap, Uri};
 use http_cache_plans::plan::{Change, Settled};
 use http_cache_plans::reply::Reply;
 use http_cache_semantics::CacheOptions;
@@ -76,32 +75,52 @@ impl<S: Shelf + Drop> Client<S> {
         self.shelf.sweep(now)
     }
 
-    /// Removes all that is stored for a target, as a purge does, and returns how many responses that
-    /// were. The target is that of a request with the URI and the headers: by its Host, if the URI names
-    /// no host.
+    // How many responses are stored for a target.
+    fn count(&mut self, alloc: Global, target: &Target) -> Result<usize, ShelfError>
+        ensures count { IfOk result (λ count. count ≡ length (S.stored self.old.shelf
+            (text_of target.now))) }
+        ensures kept { KeepsAll (S.stored self.old.shelf) (S.next_id self.old.shelf)
+            (S.stored self.new.shelf) (S.next_id self.new.shelf) }
+    {
+        self.shelf.look_up(alloc, target)?;
+        Ok(self.shelf.found(target).len())
+    }
+
+    // How many responses are stored for all of some targets.
+    fn count_all(&mut self, alloc: Global, targets: &[Target]) -> Result<usize, ShelfError>
+        ensures count { IfOk result (λ count. count
+            ≡ stored_count (S.stored self.old.shelf) (map text_of targets.now)) }
+        ensures kept { KeepsAll (S.stored self.old.shelf) (S.next_id self.old.shelf)
+            (S.stored self.new.shelf) (S.next_id self.new.shelf) }
+    {
+        let mut count = 0_usize;
+        for target in targets {
+            let more = self.count(alloc, target)?;
+            let Some(sum) = count.checked_add(more) else {
+                return Err(ShelfError::Memory);
+            };
+            count = sum;
+        }
+        Ok(count)
+    }
+
+    /// Removes all that is stored for some targets, in one step, as a purge does, and returns how many
+    /// responses that were. A target that is listed twice is counted twice.
     ///
     /// # Errors
     ///
-    /// That of the shelf, or `Memory`. Then the shelf has what it had.
-    pub fn remove(
-        &mut self,
-        alloc: Global,
-        uri: &Uri,
-        headers: &HeaderMap,
-    ) -> Result<usize, ShelfError>
-        ensures removed { OnOk result
-            (RemovesThese (target_text uri.now (headers_of headers.now) ∷ [])
+    /// That of the shelf. Then it has what it had.
+    pub fn remove(&mut self, alloc: Global, targets: &[Target]) -> Result<usize, ShelfError>
+        ensures removed { OnOk result (RemovesThese (map text_of targets.now)
             (S.stored self.old.shelf) (S.stored self.new.shelf)) }
-        ensures count { IfOk result (λ count. count ≡ length (S.stored self.old.shelf
-            (target_text uri.now (headers_of headers.now)))) }
+        ensures count { IfOk result (λ count. count
+            ≡ stored_count (S.stored self.old.shelf) (map text_of targets.now)) }
         ensures kept { OnErr result (KeepsAll (S.stored self.old.shelf) (S.next_id self.old.shelf)
             (S.stored self.new.shelf) (S.next_id self.new.shelf)) }
         ensures given_once { S.next_id self.new.shelf ≡ S.next_id self.old.shelf }
     {
-        let target = Target::of(alloc, uri, headers)?;
-        self.shelf.look_up(alloc, &target)?;
-        let count = self.shelf.found(&target).len();
-        self.shelf.remove_targets(&[target])?;
+        let count = self.count_all(alloc, targets)?;
+        self.shelf.remove_targets(targets)?;
         Ok(count)
     }
 

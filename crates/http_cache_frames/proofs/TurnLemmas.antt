@@ -2,8 +2,8 @@
 use Rattle.std.proofs.Common.{◌≡◌, ℕ, List, [], ◌∷◌, ◌++◌, Option, Some, None, ◌⊎◌, inl, inr}
 use Rattle.std.proofs.Common.{refl, sym, ap, subst, ◌∙◌, append_assoc, append-nil}
 use Rattle.http_cache_frames.specs.Reply.{reply_text}
-use Rattle.http_cache_frames.proofs.ServedLemmas.{nothing_written}
-use Rattle.http_cache_frames.specs.Served.{AreReplies, AreServed, AreFrameTexts, BeginsWith, IsFrameText, IsTakenOf, HasTaken, HasWritten, IsCut, EndsWith, FailsToPut, IsReported, IsFurther, IsWrittenAt, replies_text, greeting, broken_reply, reason_of}
+use Rattle.http_cache_frames.proofs.ServedLemmas.{cut_longer, nothing_written}
+use Rattle.http_cache_frames.specs.Served.{AreReplies, AreServed, AreFrameTexts, BeginsWith, IsFrameText, IsTakenOf, HasTaken, HasWritten, Cuts, IsCut, EndsWith, FailsToPut, IsReported, IsFurther, IsWrittenAt, replies_text, greeting, broken_reply, reason_of}
 use Rattle.http_cache_frames.specs.declared.ended.Ended.{Ended}
 use Rattle.http_cache_frames.specs.declared.ended.Ended.TheVariants.{Well, Broken, NotReadable, NotWritten, NoMemory}
 use Rattle.http_cache_frames.specs.declared.front.NoFrame.{NoFrame}
@@ -174,7 +174,7 @@ ends_greeting Step s left base held waiting held_then waiting_then NoMemory writ
   input = begins_with_none left;
   each = refl;
   after = refl;
-  written = inr (fails base [] written);
+  written = inr (fails base [] written, refl);
 }
 ends_greeting {S = S} Step s left base held waiting held_then waiting_then Well written fails = elim fails [ ]
 ends_greeting {S = S} Step s left base held waiting held_then waiting_then (Broken _) written fails = elim fails [ ]
@@ -229,7 +229,7 @@ nothing_served Step s left base = record {
   input = begins_with_none left;
   each = refl;
   after = refl;
-  written = inr (nothing_written base);
+  written = inr (nothing_written base, refl);
 }
 
 -- what is further at an end, where writing failed after it
@@ -240,12 +240,26 @@ further_cut NotReadable further after = inl after
 further_cut NoMemory further after = inl after
 further_cut NotWritten further after = after
 
+-- what was waiting can't be written
+pub cut_at : (ended : Ended) (base held : Option (List ℕ)) (waiting : List ℕ) (held_then : Option (List ℕ)) (replies : List Reply) (text : List ℕ)
+    → ¬ (ended ≡ NotWritten) → Cuts held waiting held_then → IsWrittenAt ended base held waiting replies text
+    → IsCut base held_then text
+cut_at NotWritten base held waiting held_then replies text other cuts written = elim (other refl) [ ]
+cut_at Well base held waiting held_then replies text other cuts written = cuts base text written
+cut_at (Broken _) base held waiting held_then replies text other cuts written = cuts base text written
+cut_at NotReadable base held waiting held_then replies text other cuts written = cuts base text written
+cut_at NoMemory base held waiting held_then replies text other cuts written = elim written [
+  | inl all ↦ cuts base text all
+  | inr (nothing, none) ↦ cut_longer base held_then [] text (cuts base [] nothing)
+]
+
 -- the same frames were served, to another end
 pub served_to : {S : Type 0} (Step : S → Frame → Reply → S → Type 0) (s : S) (left base held : Option (List ℕ)) (waiting : List ℕ)
     (held_then : Option (List ℕ)) (ended ended_then : Ended)
     → AreServed Step s left base held waiting ended
     → (ended_then ≡ ended) ⊎ (ended_then ≡ NotWritten)
-    → ((text : List ℕ) → IsWrittenAt ended base held waiting text → IsWrittenAt ended_then base held_then [] text)
+    → ((replies : List Reply) → (text : List ℕ) → IsWrittenAt ended base held waiting replies text
+    → IsWrittenAt ended_then base held_then [] replies text)
     → AreServed Step s left base held_then [] ended_then
 served_to Step s left base held waiting held_then ended ended_then before so written = record {
   frames = before.frames;
@@ -258,5 +272,5 @@ served_to Step s left base held waiting held_then ended ended_then before so wri
     | inl same ↦ subst (λ it. IsFurther it before.further) (sym same) before.after
     | inr failed ↦ subst (λ it. IsFurther it before.further) (sym failed) (further_cut ended before.further before.after)
   ];
-  written = written _ before.written;
+  written = written before.replies _ before.written;
 }

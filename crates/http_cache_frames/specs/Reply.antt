@@ -3,9 +3,9 @@ use Rattle.std.specs.Prelude.{ℕ, List, [], ◌++◌, Option, Some, None, codes
 use Rattle.http_cache_frames.specs.declared.reply.Counts.{Counts}
 use Rattle.http_cache_frames.specs.declared.reply.Reason.{Reason}
 use Rattle.http_cache_frames.specs.declared.reply.Reason.TheVariants.{LongLine, NoObject, NoLength, Cut, TooLong, NoSuchFrame, NoToken, NoTime, UnknownToken}
-use Rattle.http_cache_frames.specs.declared.reply.Reason.TheVariants.{MalformedHead, FullHead, NotFinal, NoRest, NoTarget, TooMany, NoResponse, StoreFailed, Memory}
+use Rattle.http_cache_frames.specs.declared.reply.Reason.TheVariants.{MalformedHead, FullHead, NotFinal, NoRest, NoTarget, TooMany, StoreFailed, Memory}
 use Rattle.http_cache_frames.specs.declared.reply.Notice.{Notice}
-use Rattle.http_cache_frames.specs.declared.reply.Notice.TheVariants.{Protocol, Done, Swept, Removed, Stats, Quit, Error}
+use Rattle.http_cache_frames.specs.declared.reply.Notice.TheVariants.{Protocol, Done, Swept, Removed, NoResponse, Stats, Quit, Error}
 use Rattle.http_cache_frames.specs.declared.reply.Word.{Word}
 use Rattle.http_cache_frames.specs.declared.reply.Word.TheVariants as word
 use Rattle.http_cache_frames.specs.declared.reply.Reply.{Reply}
@@ -28,7 +28,6 @@ reason_text NotFinal = codes "the status isn't final"
 reason_text NoRest = codes "rest isn't a length or true"
 reason_text NoTarget = codes "the target isn't an absolute URI"
 reason_text TooMany = codes "too many requests under way"
-reason_text NoResponse = codes "no response"
 reason_text StoreFailed = codes "the store failed"
 reason_text Memory = codes "out of memory"
 
@@ -36,6 +35,7 @@ reason_text Memory = codes "out of memory"
 unfoldable pub word_text : Word → List ℕ
 word_text word.Answer = codes "{\"answer\":"
 word_text word.Done = codes "{\"done\":"
+word_text word.NoResponse = codes "{\"error\":\"no response\",\"id\":"
 word_text word.Protocol = codes "{\"protocol\":"
 word_text word.Quit = codes "{\"quit\":"
 word_text word.Removed = codes "{\"removed\":"
@@ -119,6 +119,8 @@ notice_text (Swept id removed) =
     pair_text word.Swept id word.Count removed ++ end_text
 notice_text (Removed id responses) =
     pair_text word.Removed id word.Responses responses ++ end_text
+notice_text (NoResponse id token) =
+    pair_text word.NoResponse id word.Token token ++ end_text
 notice_text (Stats id counts) =
     member_text word.Stats id ++ stored_text counts ++ done_text counts ++ end_text
 notice_text (Quit id) = member_text word.Quit id ++ end_text

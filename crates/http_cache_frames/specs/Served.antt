@@ -192,13 +192,18 @@ IsFurther NotReadable further = further ≡ []
 IsFurther NoMemory further = further ≡ []
 IsFurther NotWritten further = (further ≡ []) ⊎ ((cause : NoFrame) × (further ≡ broken_reply (reason_of cause) ∷ []))
 
--- at an end all of the text is written or waiting, or a beginning of it is written; or nothing, without memory for any
-abbrev pub IsWrittenAt : Ended → Option (List ℕ) → Option (List ℕ) → List ℕ → List ℕ → Type 0
-IsWrittenAt NotWritten base held waiting text = IsCut base held text
-IsWrittenAt Well base held waiting text = HasWritten base held waiting text
-IsWrittenAt (Broken cause) base held waiting text = HasWritten base held waiting text
-IsWrittenAt NotReadable base held waiting text = HasWritten base held waiting text
-IsWrittenAt NoMemory base held waiting text = HasWritten base held waiting text ⊎ HasWritten base held waiting []
+-- nothing is written, since there was no memory for the greeting, and so no frame was answered
+abbrev pub IsSilent : Option (List ℕ) → Option (List ℕ) → List ℕ → List Reply → Type 0
+IsSilent base held waiting replies = HasWritten base held waiting [] × (replies ≡ [])
+
+-- at an end all of the text is written or waiting, or a beginning of it is written
+abbrev pub IsWrittenAt : Ended → Option (List ℕ) → Option (List ℕ) → List ℕ → List Reply → List ℕ → Type 0
+IsWrittenAt NotWritten base held waiting replies text = IsCut base held text
+IsWrittenAt Well base held waiting replies text = HasWritten base held waiting text
+IsWrittenAt (Broken cause) base held waiting replies text = HasWritten base held waiting text
+IsWrittenAt NotReadable base held waiting replies text = HasWritten base held waiting text
+IsWrittenAt NoMemory base held waiting replies text =
+    HasWritten base held waiting text ⊎ IsSilent base held waiting replies
 
 -- what a reader has left begins with these bytes, where it is known
 abbrev pub IsTakenOf : Option (List ℕ) → List ℕ → Type 0
@@ -221,4 +226,4 @@ pub record AreServed {S : Type 0} (Step : S → Frame → Reply → S → Type 0
   pub input : BeginsWith left frames
   pub each : AreReplies Step state frames replies last
   pub after : IsFurther ended further
-  pub written : IsWrittenAt ended base held waiting (replies_text (greeting ∷ (replies ++ further)))
+  pub written : IsWrittenAt ended base held waiting replies (replies_text (greeting ∷ (replies ++ further)))

@@ -62,8 +62,6 @@ pub enum Reason {
     NoTarget,
     /// More requests are under way than the limit.
     TooMany,
-    /// No response, and nothing stored may be used in its place. The request is over.
-    NoResponse,
     /// The store failed.
     StoreFailed,
     /// Out of memory.
@@ -92,7 +90,6 @@ impl Reason {
             Reason::NoRest => "rest isn't a length or true",
             Reason::NoTarget => "the target isn't an absolute URI",
             Reason::TooMany => "too many requests under way",
-            Reason::NoResponse => "no response",
             Reason::StoreFailed => "the store failed",
             Reason::Memory => "out of memory",
         }
@@ -134,6 +131,13 @@ pub enum Notice {
     Quit {
         /// The caller's id.
         id: u64,
+    },
+    /// There is no response, and nothing stored may be used in its place. The request is over.
+    NoResponse {
+        /// The caller's id of the request.
+        id: u64,
+        /// The token of the request.
+        token: u64,
     },
     /// A frame is refused.
     Error {
@@ -191,6 +195,7 @@ pub enum Reply {
 enum Word {
     Answer,
     Done,
+    NoResponse,
     Protocol,
     Quit,
     Removed,
@@ -221,6 +226,7 @@ impl Word {
         match self {
             Word::Answer => "{\"answer\":",
             Word::Done => "{\"done\":",
+            Word::NoResponse => "{\"error\":\"no response\",\"id\":",
             Word::Protocol => "{\"protocol\":",
             Word::Quit => "{\"quit\":",
             Word::Removed => "{\"removed\":",
@@ -425,6 +431,9 @@ impl Notice {
             }
             Notice::Removed { id, responses } => {
                 push_counted(out, Word::Removed, id, Word::Responses, responses)
+            }
+            Notice::NoResponse { id, token } => {
+                push_counted(out, Word::NoResponse, id, Word::Token, token)
             }
             Notice::Stats { id, counts } => {
                 push_member(out, Word::Stats, id)?;

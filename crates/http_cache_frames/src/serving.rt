@@ -110,9 +110,9 @@ fn turns<A: Answers, R: Read + Drop, W: Write + Drop>(
 // Writes what is waiting, unless writing has failed, and returns the end.
 fn finish<W: Write + Drop>(ended: Ended, out: &mut Output<W>) -> Ended
     ensures end { (result ≡ ended) ⊎ (result ≡ NotWritten) }
-    ensures written { (base : Option (List ℕ)) → (text : List ℕ)
-        → IsWrittenAt ended base (W.contents out.old.to) out.old.waiting.items text
-        → IsWrittenAt result base (W.contents out.new.to) [] text }
+    ensures written { (base : Option (List ℕ)) → (replies : List Reply) → (text : List ℕ)
+        → IsWrittenAt ended base (W.contents out.old.to) out.old.waiting.items replies text
+        → IsWrittenAt result base (W.contents out.new.to) [] replies text }
 {
     if ended == Ended::NotWritten {
         return Ended::NotWritten;

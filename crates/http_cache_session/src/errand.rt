@@ -1,5 +1,8 @@
 //! Requests whose outcome the caller is to hand back.
-ghost use Rattle.std.specs.Prelude.{◌≡◌, ◌+◌, IfOk, OnErr};
+ghost use Rattle.std.specs.Prelude.{◌≡◌, ◌≤◌, ◌+◌, ℕ, Some, None, option_map, IfOk, OnErr};
+ghost use Rattle.std.specs.BTreeMap.{get};
+ghost use Rattle.std.specs.Ordering.{nat_cmp};
+ghost use Rattle.http_cache_session.specs.UnderWay.{Changes, KeepsIds, id_at};
 
 use bytes::Bytes;
 use http::Request;
@@ -41,11 +44,14 @@ pub(crate) struct UnderWay {
 pub(crate) struct UnderWays {
     pub(crate) by_token: BTreeMap<u64, UnderWay>,
     pub(crate) next_token: u64,
+    // Of a token that isn't given yet no request is under way.
+    ghost are_given: { (token : ℕ) → next_token ≤ token → get nat_cmp by_token token ≡ None },
 }
 
 impl UnderWays {
     pub(crate) fn new(alloc: Global) -> UnderWays
-        ensures { result.next_token ≡ 1 }
+        ensures next { result.next_token ≡ 1 }
+        ensures none { (token : ℕ) → id_at result.by_token token ≡ None }
     {
         UnderWays {
             by_token: BTreeMap::new(alloc),
@@ -62,6 +68,9 @@ impl UnderWays {
         ensures given { IfOk result (λ token. (token ≡ self.old.next_token)
             × (self.new.next_token ≡ token + 1)) }
         ensures ungiven { OnErr result (self.new.next_token ≡ self.old.next_token) }
+        ensures added { IfOk result (λ token.
+            Changes self.old.by_token token (Some under_way.id) self.new.by_token) }
+        ensures kept { OnErr result (KeepsIds self.old.by_token self.new.by_token) }
     {
         let token = self.next_token;
         let Some(next) = token.checked_add(1) else {
@@ -75,7 +84,9 @@ impl UnderWays {
     }
 
     pub(crate) fn remove(&mut self, token: u64) -> Option<UnderWay>
-        ensures { self.new.next_token ≡ self.old.next_token }
+        ensures removed { Changes self.old.by_token token None self.new.by_token }
+        ensures id { option_map (λ one. one.id) result ≡ id_at self.old.by_token token }
+        ensures next { self.new.next_token ≡ self.old.next_token }
     {
         self.by_token.remove(&token)
     }

@@ -5,10 +5,12 @@
 //! what HTTP asks of an intermediary. It reads no input and writes no output.
 #![tactic(auto)]
 
+mod asked;
 mod errand;
 mod fault;
 mod message;
 mod parts;
 mod session;
+mod target;
 
 pub use session::{Session, Settings, Stored};

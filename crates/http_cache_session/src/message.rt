@@ -1,4 +1,10 @@
 //! Times, bodies and messages from frames.
+ghost use Rattle.std.specs.Prelude.{IfOk};
+ghost use Rattle.http.specs.Response.{body_of};
+ghost use Rattle.serde_json.specs.View.{view};
+ghost use Rattle.http_cache_plans.specs.Plan.{IsElsewhere};
+ghost use Rattle.http_cache_session.specs.Session.{HasRest, IsWithCaller};
+
 use crate::fault::Fault;
 use bytes::Bytes;
 use http::{Request, Response};
@@ -27,7 +33,9 @@ pub(crate) enum Place {
 
 impl Place {
     /// Returns where the body of a frame's message is.
-    pub(crate) fn of(frame: &Frame) -> Result<Place, Fault> {
+    pub(crate) fn of(frame: &Frame) -> Result<Place, Fault>
+        ensures rest { HasRest (view frame.now.line) → IfOk result IsWithCaller }
+    {
         if !has_member(&frame.line, "rest") {
             return Ok(Place::Here);
         }
@@ -96,7 +104,10 @@ pub(crate) fn response_in(
     alloc: Global,
     keys: RandomState,
     frame: Frame,
-) -> Result<Response<Body>, Fault> {
+) -> Result<Response<Body>, Fault>
+    ensures rest { HasRest (view frame.line)
+        → IfOk result (λ response. IsElsewhere (body_of response)) }
+{
     let place = Place::of(&frame)?;
     let Frame { head, body, .. } = frame;
     let parts = response_from_bytes(alloc, keys, head.as_slice())?;

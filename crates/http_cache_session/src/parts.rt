@@ -1,6 +1,6 @@
 //! Heads and bodies as they are written.
 ghost use Rattle.std.specs.Prelude.{◌≡◌, Some, None};
-ghost use Rattle.http_cache_session.specs.Session.{given_token, reply_id};
+ghost use Rattle.http_cache_session.specs.Session.{IsReplyFor, given_token};
 
 use bytes::Bytes;
 use http::{Method, Response, StatusCode, request, response};
@@ -23,7 +23,7 @@ impl Written {
     /// Returns the reply that answers a request.
     pub(crate) fn answer(self, id: u64) -> Reply
         ensures none { given_token result ≡ None }
-        ensures id { reply_id result ≡ Some id }
+        ensures reply { IsReplyFor id result }
     {
         let Written { head, body } = self;
         Reply::Answer { id, head, body }
@@ -32,7 +32,7 @@ impl Written {
     /// Returns the reply that has a request sent.
     pub(crate) fn send(self, id: u64, token: u64) -> Reply
         ensures given { given_token result ≡ Some token }
-        ensures id { reply_id result ≡ Some id }
+        ensures reply { IsReplyFor id result }
     {
         let Written { head, body } = self;
         Reply::Send {

@@ -1,20 +1,26 @@
 //! The state between frames, and the reply to each frame.
-ghost use Rattle.std.specs.Prelude.{◌≡◌, Some, None, IfOk, IfErr, IfSome, OnErr};
+ghost use Rattle.std.specs.Prelude.{◌≡◌, ◌⊎◌, ℕ, Some, None, codes, IfOk, IfErr, IfSome, OnErr};
+ghost use Rattle.http.specs.Response.{body_of};
+ghost use Rattle.serde_json.specs.View.{view};
+ghost use Rattle.http_cache_frames.specs.Line.{number_under};
+ghost use Rattle.http_cache_plans.specs.Plan.{IsElsewhere};
 ghost use Rattle.http_cache_shelf.specs.Shelf.{KeepsAll};
-ghost use Rattle.http_cache_session.specs.Session.{IsRefused, given_token, reply_id, GivesNext};
-ghost use Rattle.http_cache_session.specs.State.{next_token};
+ghost use Rattle.http_cache_session.specs.Session.{IsRefused, IsRefusal, IsReplyFor, given_token, reply_id};
+ghost use Rattle.http_cache_session.specs.Session.{GivesNext, AddsGiven, KeepsUnderWay, Ends};
+ghost use Rattle.http_cache_session.specs.Session.{HandsOver, HasRest};
+ghost use Rattle.http_cache_session.specs.UnderWay.{id_at};
+ghost use Rattle.http_cache_session.specs.State.{shelf_of, next_token, id_under_way};
 
+use crate::asked::{Asked, id_of, token_of};
 use crate::errand::{Errand, UnderWay, UnderWays};
 use crate::fault::Fault;
 use crate::message::{Place, has_fragment, request_in, response_in, time_of, time_under};
 use crate::parts::{Written, written_own, written_request, written_response};
+use crate::target::targets_of;
 use bytes::Bytes;
-use http::header::HOST;
-use http::{HeaderMap, HeaderValue, Method, Request, Response, StatusCode, Uri};
+use http::{Method, Request, Response, StatusCode};
 use http_cache_client::{Client, Decision, Forwarded, Received, Validation};
-use http_cache_frames::{
-    Counts, Frame, Lost, Notice, Reason, Reply, Turn, has_member, number_under, text_under,
-};
+use http_cache_frames::{Counts, Frame, Lost, Notice, Reason, Reply, Turn, text_under};
 use http_cache_intermediary::Intermediary;
 use http_cache_messages::complete::is_complete;
 use http_cache_plans::{Body, Times};
@@ -54,42 +60,6 @@ pub struct Session<S: Drop> {
     counts: Counts,
 }
 
-// What a frame asks for.
-#[derive(Clone, Copy)]
-enum Asked {
-    Ask(u64),
-    Received,
-    Failed,
-    Remove(u64),
-    Sweep(u64),
-    Stats(u64),
-    Quit(u64),
-}
-
-impl Asked {
-    fn of(line: &Value) -> Option<Asked> {
-        if let Some(id) = number_under(line, "ask") {
-            return Some(Asked::Ask(id));
-        }
-        if has_member(line, "received") {
-            return Some(Asked::Received);
-        }
-        if has_member(line, "failed") {
-            return Some(Asked::Failed);
-        }
-        if let Some(id) = number_under(line, "remove") {
-            return Some(Asked::Remove(id));
-        }
-        if let Some(id) = number_under(line, "sweep") {
-            return Some(Asked::Sweep(id));
-        }
-        if let Some(id) = number_under(line, "stats") {
-            return Some(Asked::Stats(id));
-        }
-        number_under(line, "quit").map(Asked::Quit)
-    }
-}
-
 // A count and one more.
 fn more(count: &mut u64) {
     *count = count.saturating_add(1);
@@ -97,7 +67,7 @@ fn more(count: &mut u64) {
 
 fn done(id: u64) -> Reply
     ensures none { given_token result ≡ None }
-    ensures id { reply_id result ≡ Some id }
+    ensures reply { IsReplyFor id result }
 {
     Reply::Notice(Notice::Done { id })
 }
@@ -127,8 +97,9 @@ fn with_body(response: Response<Bytes>) -> Response<Body> {
 impl<S: Shelf + Drop> Session<S> {
     /// Returns a session with nothing under way.
     pub fn new(alloc: Global, client: Client<S>, settings: Settings) -> Session<S>
-        ensures shelf { result.client.shelf ≡ client.shelf }
+        ensures shelf { shelf_of result ≡ client.shelf }
         ensures next { next_token result ≡ 1 }
+        ensures none { (token : ℕ) → id_under_way result token ≡ None }
     {
         Session {
             client,
@@ -140,7 +111,7 @@ impl<S: Shelf + Drop> Session<S> {
 
     /// Returns the shelf of a session that is over.
     pub fn into_shelf(self) -> S
-        ensures { result ≡ self.client.shelf }
+        ensures { result ≡ shelf_of self }
     {
         let Session { client, .. } = self;
         client.into_shelf()
@@ -172,7 +143,7 @@ impl<S: Shelf + Drop> Session<S> {
         now: Timestamp,
     ) -> Result<Option<Reply>, Fault>
         ensures none { IfOk result (λ reply. IfSome reply (λ one. given_token one ≡ None)) }
-        ensures id { IfOk result (λ reply. IfSome reply (λ one. reply_id one ≡ Some id)) }
+        ensures reply { IfOk result (λ reply. IfSome reply (IsReplyFor id)) }
     {
         let Some(intermediary) = self.settings.intermediary.as_ref() else {
             return Ok(None);
@@ -209,12 +180,11 @@ impl<S: Shelf + Drop> Session<S> {
         mut check: Validation,
         now: Timestamp,
     ) -> Result<Reply, Fault>
-        ensures id { IfOk result (λ reply. reply_id reply ≡ Some id) }
+        ensures reply { IfOk result (IsReplyFor id) }
         ensures kept { self.new.client.shelf ≡ self.old.client.shelf }
-        ensures next { IfOk result (λ reply. GivesNext (given_token reply)
-            self.old.under_way.next_token self.new.under_way.next_token) }
-        ensures ungiven { OnErr result
-            (self.new.under_way.next_token ≡ self.old.under_way.next_token) }
+        ensures given { IfOk result (λ reply. AddsGiven (given_token reply) id
+            self.old.under_way self.new.under_way) }
+        ensures ungiven { OnErr result (KeepsUnderWay self.old.under_way self.new.under_way) }
     {
         if self.is_full() {
             return Err(Fault::Refused(Reason::TooMany));
@@ -243,12 +213,11 @@ impl<S: Shelf + Drop> Session<S> {
         forwarded: Forwarded,
         now: Timestamp,
     ) -> Result<Reply, Fault>
-        ensures id { IfOk result (λ reply. reply_id reply ≡ Some id) }
+        ensures reply { IfOk result (IsReplyFor id) }
         ensures kept { self.new.client.shelf ≡ self.old.client.shelf }
-        ensures next { IfOk result (λ reply. GivesNext (given_token reply)
-            self.old.under_way.next_token self.new.under_way.next_token) }
-        ensures ungiven { OnErr result
-            (self.new.under_way.next_token ≡ self.old.under_way.next_token) }
+        ensures given { IfOk result (λ reply. AddsGiven (given_token reply) id
+            self.old.under_way self.new.under_way) }
+        ensures ungiven { OnErr result (KeepsUnderWay self.old.under_way self.new.under_way) }
     {
         if self.is_full() {
             return Err(Fault::Refused(Reason::TooMany));
@@ -275,12 +244,11 @@ impl<S: Shelf + Drop> Session<S> {
         mut due: Validation,
         now: Timestamp,
     ) -> Result<Reply, Fault>
-        ensures id { IfOk result (λ reply. reply_id reply ≡ Some id) }
+        ensures reply { IfOk result (IsReplyFor id) }
         ensures kept { self.new.client.shelf ≡ self.old.client.shelf }
-        ensures next { IfOk result (λ reply. GivesNext (given_token reply)
-            self.old.under_way.next_token self.new.under_way.next_token) }
-        ensures ungiven { OnErr result
-            (self.new.under_way.next_token ≡ self.old.under_way.next_token) }
+        ensures given { IfOk result (λ reply. AddsGiven (given_token reply) id
+            self.old.under_way self.new.under_way) }
+        ensures ungiven { OnErr result (KeepsUnderWay self.old.under_way self.new.under_way) }
     {
         let written = self.written(alloc, request.method(), with_body(answer))?;
         if self.is_full() {
@@ -315,12 +283,11 @@ impl<S: Shelf + Drop> Session<S> {
         method: &Method,
         answer: Response<Bytes>,
     ) -> Result<Reply, Fault>
-        ensures id { IfOk result (λ reply. reply_id reply ≡ Some id) }
+        ensures reply { IfOk result (IsReplyFor id) }
         ensures kept { self.new.client.shelf ≡ self.old.client.shelf }
-        ensures next { IfOk result (λ reply. GivesNext (given_token reply)
-            self.old.under_way.next_token self.new.under_way.next_token) }
-        ensures ungiven { OnErr result
-            (self.new.under_way.next_token ≡ self.old.under_way.next_token) }
+        ensures given { IfOk result (λ reply. AddsGiven (given_token reply) id
+            self.old.under_way self.new.under_way) }
+        ensures ungiven { OnErr result (KeepsUnderWay self.old.under_way self.new.under_way) }
     {
         let is_hit = answer.status() != StatusCode::GATEWAY_TIMEOUT;
         let written = self.written(alloc, method, with_body(answer))?;
@@ -331,13 +298,12 @@ impl<S: Shelf + Drop> Session<S> {
     }
 
     fn ask(&mut self, alloc: Global, id: u64, frame: Frame) -> Result<Reply, Fault>
-        ensures id { IfOk result (λ reply. reply_id reply ≡ Some id) }
+        ensures reply { IfOk result (IsReplyFor id) }
         ensures kept { KeepsAll (S.stored self.old.client.shelf) (S.next_id self.old.client.shelf)
             (S.stored self.new.client.shelf) (S.next_id self.new.client.shelf) }
-        ensures next { IfOk result (λ reply. GivesNext (given_token reply)
-            self.old.under_way.next_token self.new.under_way.next_token) }
-        ensures ungiven { OnErr result
-            (self.new.under_way.next_token ≡ self.old.under_way.next_token) }
+        ensures given { IfOk result (λ reply. AddsGiven (given_token reply) id
+            self.old.under_way self.new.under_way) }
+        ensures ungiven { OnErr result (KeepsUnderWay self.old.under_way self.new.under_way) }
     {
         let now = time_of(&frame.line)?;
         let place = Place::of(&frame)?;
@@ -375,7 +341,9 @@ impl<S: Shelf + Drop> Session<S> {
         ensures kept { OnErr result (KeepsAll (S.stored self.old.client.shelf)
             (S.next_id self.old.client.shelf)
             (S.stored self.new.client.shelf) (S.next_id self.new.client.shelf)) }
-        ensures next { self.new.under_way.next_token ≡ self.old.under_way.next_token }
+        ensures rest { IsElsewhere (body_of response)
+            → S.next_id self.new.client.shelf ≡ S.next_id self.old.client.shelf }
+        ensures under_way { KeepsUnderWay self.old.under_way self.new.under_way }
     {
         let Some(under_way) = self.under_way.by_token.get_mut(&token) else {
             return Err(Fault::Refused(Reason::UnknownToken));
@@ -407,12 +375,11 @@ impl<S: Shelf + Drop> Session<S> {
         outcome: Received,
         now: Timestamp,
     ) -> Result<Reply, Fault>
-        ensures id { IfOk result (λ reply. reply_id reply ≡ Some under_way.id) }
+        ensures reply { IfOk result (IsReplyFor under_way.id) }
         ensures kept { self.new.client.shelf ≡ self.old.client.shelf }
-        ensures next { IfOk result (λ reply. GivesNext (given_token reply)
-            self.old.under_way.next_token self.new.under_way.next_token) }
-        ensures ungiven { OnErr result
-            (self.new.under_way.next_token ≡ self.old.under_way.next_token) }
+        ensures given { IfOk result (λ reply. AddsGiven (given_token reply) under_way.id
+            self.old.under_way self.new.under_way) }
+        ensures ungiven { OnErr result (KeepsUnderWay self.old.under_way self.new.under_way) }
     {
         let UnderWay {
             id,
@@ -454,18 +421,21 @@ impl<S: Shelf + Drop> Session<S> {
         }
     }
 
-    fn received(&mut self, alloc: Global, frame: Frame) -> Result<Reply, Fault>
+    // The reply to the response to a request under way.
+    fn received(&mut self, alloc: Global, token: u64, frame: Frame) -> Result<Reply, Fault>
         ensures kept { IfErr result (λ fault. IsRefused fault
             → KeepsAll (S.stored self.old.client.shelf) (S.next_id self.old.client.shelf)
             (S.stored self.new.client.shelf) (S.next_id self.new.client.shelf)) }
+        ensures rest { HasRest (view frame.line)
+            → S.next_id self.new.client.shelf ≡ S.next_id self.old.client.shelf }
+        ensures under_way { IfErr result (λ fault. IsRefused fault
+            → KeepsUnderWay self.old.under_way self.new.under_way) }
         ensures next { IfOk result (λ reply. GivesNext (given_token reply)
             self.old.under_way.next_token self.new.under_way.next_token) }
-        ensures ungiven { OnErr result
-            (self.new.under_way.next_token ≡ self.old.under_way.next_token) }
+        ensures reply { IfOk result (λ reply. ¬ (IsRefusal reply)) }
+        ensures over { IfOk result (λ reply. Ends token reply
+            (id_at self.old.under_way.by_token) (id_at self.new.under_way.by_token)) }
     {
-        let Some(token) = number_under(&frame.line, "received") else {
-            return Err(Fault::Refused(Reason::NoToken));
-        };
         let now = time_of(&frame.line)?;
         let sent = time_under(&frame.line, "sent");
         let response = response_in(alloc, self.settings.keys, frame)?;
@@ -492,7 +462,7 @@ impl<S: Shelf + Drop> Session<S> {
     ) -> Result<Option<Response<Bytes>>, Fault>
         ensures kept { KeepsAll (S.stored self.old.client.shelf) (S.next_id self.old.client.shelf)
             (S.stored self.new.client.shelf) (S.next_id self.new.client.shelf) }
-        ensures next { self.new.under_way.next_token ≡ self.old.under_way.next_token }
+        ensures under_way { KeepsUnderWay self.old.under_way self.new.under_way }
     {
         let Some(under_way) = self.under_way.by_token.get_mut(&token) else {
             return Err(Fault::Refused(Reason::UnknownToken));
@@ -525,7 +495,7 @@ impl<S: Shelf + Drop> Session<S> {
         now: Timestamp,
     ) -> Result<Reply, Fault>
         ensures none { IfOk result (λ reply. given_token reply ≡ None) }
-        ensures id { IfOk result (λ reply. reply_id reply ≡ Some under_way.now.id) }
+        ensures reply { IfOk result (IsReplyFor under_way.now.id) }
     {
         let (id, method) = (under_way.id, under_way.request.method());
         if under_way.is_answered {
@@ -535,11 +505,7 @@ impl<S: Shelf + Drop> Session<S> {
             return Ok(self.written(alloc, method, with_body(answer))?.answer(id));
         }
         let Some(intermediary) = self.settings.intermediary.as_ref() else {
-            return Ok(Reply::Notice(Notice::Error {
-                reason: Reason::NoResponse,
-                id: Some(id),
-                token: Some(token),
-            }));
+            return Ok(Reply::Notice(Notice::NoResponse { id, token }));
         };
         let (status, detail) = if is_invalid {
             (StatusCode::BAD_GATEWAY, "response cut off")
@@ -559,86 +525,68 @@ impl<S: Shelf + Drop> Session<S> {
     ) -> Result<Reply, Fault>
         ensures kept { KeepsAll (S.stored self.old.client.shelf) (S.next_id self.old.client.shelf)
             (S.stored self.new.client.shelf) (S.next_id self.new.client.shelf) }
+        ensures under_way { IfErr result (λ fault. IsRefused fault
+            → KeepsUnderWay self.old.under_way self.new.under_way) }
         ensures next { IfOk result (λ reply. GivesNext (given_token reply)
             self.old.under_way.next_token self.new.under_way.next_token) }
-        ensures ungiven { OnErr result
-            (self.new.under_way.next_token ≡ self.old.under_way.next_token) }
+        ensures reply { IfOk result (λ reply. ¬ (IsRefusal reply)) }
+        ensures over { IfOk result (λ reply. Ends token reply
+            (id_at self.old.under_way.by_token) (id_at self.new.under_way.by_token)) }
     {
         let answer = self.instead(alloc, token, now)?;
-        let Some(under_way) = self.under_way.remove(token) else {
+        let Some(ended) = self.under_way.remove(token) else {
             return Err(Fault::Lost);
         };
-        match self.unanswered(alloc, token, &under_way, answer, is_invalid, now) {
+        match self.unanswered(alloc, token, &ended, answer, is_invalid, now) {
             Ok(reply) => Ok(reply),
             Err(_) => Err(Fault::Lost),
         }
     }
 
-    fn failed(&mut self, alloc: Global, line: &Value) -> Result<Reply, Fault>
+    // The reply to the failure of a request under way.
+    fn failed(&mut self, alloc: Global, token: u64, line: &Value) -> Result<Reply, Fault>
         ensures kept { KeepsAll (S.stored self.old.client.shelf) (S.next_id self.old.client.shelf)
             (S.stored self.new.client.shelf) (S.next_id self.new.client.shelf) }
+        ensures under_way { IfErr result (λ fault. IsRefused fault
+            → KeepsUnderWay self.old.under_way self.new.under_way) }
         ensures next { IfOk result (λ reply. GivesNext (given_token reply)
             self.old.under_way.next_token self.new.under_way.next_token) }
-        ensures ungiven { OnErr result
-            (self.new.under_way.next_token ≡ self.old.under_way.next_token) }
+        ensures reply { IfOk result (λ reply. ¬ (IsRefusal reply)) }
+        ensures over { IfOk result (λ reply. Ends token reply
+            (id_at self.old.under_way.by_token) (id_at self.new.under_way.by_token)) }
     {
-        let Some(token) = number_under(line, "failed") else {
-            return Err(Fault::Refused(Reason::NoToken));
-        };
         let now = time_of(line)?;
         let is_invalid = text_under(line, "why") == Some("invalid");
         self.give_up(alloc, token, is_invalid, now)
     }
 
-    // Removes what is stored for a target by requests that name its host in Host alone.
-    fn remove_by_host(&mut self, alloc: Global, target: &Uri) -> Result<usize, Fault>
-        ensures next { self.new.under_way ≡ self.old.under_way }
-    {
-        let (Some(authority), Some(path)) = (target.authority(), target.path_and_query()) else {
-            return Err(Fault::Refused(Reason::NoTarget));
-        };
-        let Ok(host) = HeaderValue::from_bytes(alloc, authority.as_str().as_bytes()) else {
-            return Err(Fault::Refused(Reason::NoTarget));
-        };
-        let Ok(uri) = Uri::from_str(alloc, path.as_str()) else {
-            return Err(Fault::Refused(Reason::NoTarget));
-        };
-        let mut headers = HeaderMap::new(alloc);
-        if headers.append(HOST, host).is_err() {
-            return Err(Fault::Refused(Reason::Memory));
-        }
-        Ok(self.client.remove(alloc, &uri, &headers)?)
-    }
-
     // Removes what is stored for a target.
     fn remove(&mut self, alloc: Global, id: u64, line: &Value) -> Result<Reply, Fault>
-        ensures id { IfOk result (λ reply. reply_id reply ≡ Some id) }
-        ensures next { IfOk result (λ reply. GivesNext (given_token reply)
-            self.old.under_way.next_token self.new.under_way.next_token) }
-        ensures ungiven { OnErr result
-            (self.new.under_way.next_token ≡ self.old.under_way.next_token) }
+        ensures reply { IfOk result (IsReplyFor id) }
+        ensures none { IfOk result (λ reply. given_token reply ≡ None) }
+        ensures kept { OnErr result (KeepsAll (S.stored self.old.client.shelf)
+            (S.next_id self.old.client.shelf)
+            (S.stored self.new.client.shelf) (S.next_id self.new.client.shelf)) }
+        ensures next_id { S.next_id self.new.client.shelf ≡ S.next_id self.old.client.shelf }
+        ensures under_way { self.new.under_way ≡ self.old.under_way }
     {
         let Some(text) = text_under(line, "target") else {
             return Err(Fault::Refused(Reason::NoTarget));
         };
-        let Ok(target) = Uri::from_str(alloc, text) else {
-            return Err(Fault::Refused(Reason::NoTarget));
-        };
-        let by_host = self.remove_by_host(alloc, &target)?;
-        let by_uri = self.client.remove(alloc, &target, &HeaderMap::new(alloc))?;
-        let responses = by_host.saturating_add(by_uri) as u64;
+        let targets = targets_of(alloc, text)?;
+        let responses = self.client.remove(alloc, &targets)? as u64;
         Ok(Reply::Notice(Notice::Removed { id, responses }))
     }
 
+    // Removes what can't be used again.
     fn sweep(&mut self, id: u64, line: &Value) -> Result<Reply, Fault>
-        ensures id { IfOk result (λ reply. reply_id reply ≡ Some id) }
+        ensures reply { IfOk result (IsReplyFor id) }
+        ensures none { IfOk result (λ reply. given_token reply ≡ None) }
         ensures kept { OnErr result (KeepsAll (S.stored self.old.client.shelf)
             (S.next_id self.old.client.shelf)
             (S.stored self.new.client.shelf) (S.next_id self.new.client.shelf)) }
-        ensures next { IfOk result (λ reply. GivesNext (given_token reply)
-            self.old.under_way.next_token self.new.under_way.next_token) }
-        ensures ungiven { OnErr result
-            (self.new.under_way.next_token ≡ self.old.under_way.next_token) }
+        ensures next_id { S.next_id self.new.client.shelf ≡ S.next_id self.old.client.shelf }
+        ensures under_way { self.new.under_way ≡ self.old.under_way }
     {
         let removed = self.client.sweep(time_of(line)?)? as u64;
         Ok(Reply::Notice(Notice::Swept { id, removed }))
@@ -660,15 +608,28 @@ impl<S: Shelf + Drop> Session<S> {
         frame: Frame,
         stored: Stored,
     ) -> Result<Reply, Fault>
+        ensures kept { IfErr result (λ fault. IsRefused fault
+            → KeepsAll (S.stored self.old.client.shelf) (S.next_id self.old.client.shelf)
+            (S.stored self.new.client.shelf) (S.next_id self.new.client.shelf)) }
+        ensures rest { HasRest (view frame.line)
+            → S.next_id self.new.client.shelf ≡ S.next_id self.old.client.shelf }
+        ensures under_way { IfErr result (λ fault. IsRefused fault
+            → KeepsUnderWay self.old.under_way self.new.under_way) }
         ensures next { IfOk result (λ reply. GivesNext (given_token reply)
             self.old.under_way.next_token self.new.under_way.next_token) }
-        ensures ungiven { OnErr result
-            (self.new.under_way.next_token ≡ self.old.under_way.next_token) }
+        ensures reply { IfOk result (λ reply. ¬ (IsRefusal reply)) }
+        ensures id { (id : ℕ) → asked ≡ Asked.Ask id
+            → IfOk result (λ reply. reply_id reply ≡ Some id) }
+        ensures over { (token : ℕ)
+            → (asked ≡ Asked.Received (Some token)) ⊎ (asked ≡ Asked.Failed (Some token))
+            → IfOk result (λ reply. Ends token reply
+            (id_at self.old.under_way.by_token) (id_at self.new.under_way.by_token)) }
     {
         match asked {
             Asked::Ask(id) => self.ask(alloc, id, frame),
-            Asked::Received => self.received(alloc, frame),
-            Asked::Failed => self.failed(alloc, &frame.line),
+            Asked::Received(Some(token)) => self.received(alloc, token, frame),
+            Asked::Failed(Some(token)) => self.failed(alloc, token, &frame.line),
+            Asked::Received(None) | Asked::Failed(None) => Err(Fault::Refused(Reason::NoToken)),
             Asked::Remove(id) => self.remove(alloc, id, &frame.line),
             Asked::Sweep(id) => self.sweep(id, &frame.line),
             Asked::Stats(id) => Ok(Reply::Notice(Notice::Stats {
@@ -681,8 +642,11 @@ impl<S: Shelf + Drop> Session<S> {
 
     // The error of a frame that is refused.
     fn error(&mut self, reason: Reason, id: Option<u64>, token: Option<u64>) -> Turn
-        ensures next { self.new.under_way ≡ self.old.under_way }
+        ensures client { self.new.client ≡ self.old.client }
+        ensures under_way { self.new.under_way ≡ self.old.under_way }
         ensures none { given_token result.reply ≡ None }
+        ensures id { reply_id result.reply ≡ id }
+        ensures refusal { IsRefusal result.reply }
     {
         more(&mut self.counts.errors);
         Turn {
@@ -693,12 +657,15 @@ impl<S: Shelf + Drop> Session<S> {
 
     /// Returns the shelf.
     pub fn shelf(&self) -> &S
-        ensures { result.now ≡ self.now.client.shelf }
+        ensures { result.now ≡ shelf_of self.now }
     {
         self.client.shelf()
     }
 
     /// Returns the reply to a frame. `stored` is what the shelf stores now, for `stats`.
+    ///
+    /// After a reply that refuses the frame (`error`, but for "no response"), what is stored and under way is as
+    /// before. Any other reply to `received` or `failed` ends the request of the token.
     ///
     /// # Errors
     ///
@@ -707,6 +674,19 @@ impl<S: Shelf + Drop> Session<S> {
     pub fn answer(&mut self, alloc: Global, frame: Frame, stored: Stored) -> Result<Turn, Lost>
         ensures given { IfOk result (λ turn. GivesNext (given_token turn.reply)
             (next_token self.old) (next_token self.new)) }
+        ensures kept { IfOk result (λ turn. IsRefusal turn.reply
+            → KeepsAll (S.stored (shelf_of self.old)) (S.next_id (shelf_of self.old))
+            (S.stored (shelf_of self.new)) (S.next_id (shelf_of self.new))) }
+        ensures under_way { IfOk result (λ turn. IsRefusal turn.reply → (token : ℕ)
+            → id_under_way self.new token ≡ id_under_way self.old token) }
+        ensures over { IfOk result (λ turn. ¬ (IsRefusal turn.reply) → (token : ℕ)
+            → HandsOver (view frame.line) token
+            → Ends token turn.reply (id_under_way self.old) (id_under_way self.new)) }
+        ensures id { IfOk result (λ turn. (id : ℕ)
+            → number_under (codes "ask") (view frame.line) ≡ Some id
+            → reply_id turn.reply ≡ Some id) }
+        ensures rest { HasRest (view frame.line)
+            → S.next_id (shelf_of self.new) ≡ S.next_id (shelf_of self.old) }
     {
         more(&mut self.counts.frames);
         let id = id_of(&frame.line);
@@ -725,20 +705,5 @@ impl<S: Shelf + Drop> Session<S> {
             Err(Fault::Refused(reason)) => Ok(self.error(reason, id, token)),
             Err(Fault::Lost) => Err(Lost),
         }
-    }
-}
-
-// The id of a frame, if it has one.
-fn id_of(line: &Value) -> Option<u64> {
-    ["ask", "remove", "sweep", "stats", "quit"]
-        .iter()
-        .find_map(|name| number_under(line, name))
-}
-
-// The token of a frame, if it has one.
-fn token_of(line: &Value) -> Option<u64> {
-    match number_under(line, "received") {
-        Some(token) => Some(token),
-        None => number_under(line, "failed"),
     }
 }

@@ -1,0 +1,37 @@
+-- A frame that hands over an outcome is read as one that does.
+use Rattle.std.proofs.Common.{◌≡◌, ◌⊎◌, ℕ, List, Option, Some, None, Bool, true, codes, is_some, option_and_then, sym, ap, subst, ◌∙◌, inl, inr}
+use Rattle.std.proofs.lemmas.Bool.{false≢true}
+use Rattle.std.proofs.lemmas.Option.{none-some}
+use Rattle.serde_json.specs.Data.{Data}
+use Rattle.serde_json.specs.Find.{get, as_number, as_u64}
+use Rattle.http_cache_frames.specs.Line.{exact, number_under}
+use Rattle.http_cache_session.specs.Session.{HandsOver, HandsOverNothing, IsAskedBy}
+use Rattle.http_cache_session.specs.declared.asked.Asked.{Asked}
+use Rattle.http_cache_session.specs.declared.asked.Asked.TheVariants.{Ask, Received, Failed, Remove, Sweep, Stats, Quit}
+
+-- what isn't there is no number
+absent : (name : List ℕ) (line : Data) (token : ℕ) → get name line ≡ None → number_under name line ≡ Some token → ⊥
+absent name line token none some =
+    none-some token
+    (subst (λ there. option_and_then exact (option_and_then as_u64 (option_and_then as_number there)) ≡ Some token) none some)
+
+not_there : (o : Option Data) → o ≡ None → is_some o ≡ true → ⊥
+not_there o none some = false≢true (subst (λ there. is_some there ≡ true) none some)
+
+-- a frame can't both hand over an outcome and none
+nothing : (line : Data) (token : ℕ) → HandsOverNothing line → HandsOver line token → ⊥
+nothing line token (ask, received, failed) (none, inl got) = absent (codes "received") line token received got
+nothing line token (ask, received, failed) (none, inr (other, got)) = absent (codes "failed") line token failed got
+
+pub handed : (line : Data) (asked : Asked) (token : ℕ) → IsAskedBy line (Some asked) → HandsOver line token
+    → (asked ≡ Received (Some token)) ⊎ (asked ≡ Failed (Some token))
+handed line (Ask id) token is (none, got) = absurd (none-some id (sym none ∙ is))
+handed line (Received given) token (ask, there, is) (none, inl got) = inl (ap (λ t. Received t) (sym is ∙ got))
+handed line (Received given) token (ask, there, is) (none, inr (other, got)) =
+    absurd (not_there (get (codes "received") line) other there)
+handed line (Failed given) token (ask, other, is) (none, inl got) = absurd (absent (codes "received") line token other got)
+handed line (Failed given) token (ask, other, is) (none, inr (same, got)) = inr (ap (λ t. Failed t) (sym is ∙ got))
+handed line (Remove id) token is over = absurd (nothing line token is over)
+handed line (Sweep id) token is over = absurd (nothing line token is over)
+handed line (Stats id) token is over = absurd (nothing line token is over)
+handed line (Quit id) token is over = absurd (nothing line token is over)

@@ -1,0 +1,3 @@
+-- Lemmas of a session.
+pub mod HandedLemmas
+pub mod KeptLemmas

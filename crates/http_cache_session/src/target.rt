@@ -1,0 +1,43 @@
+//! The targets for which a purge removes what is stored.
+use crate::fault::Fault;
+use http::header::{HOST, HeaderValueError};
+use http::{HeaderMap, HeaderValue, Uri};
+use http_cache_frames::Reason;
+use http_cache_shelf::Target;
+use http_uri::UriError;
+use std::alloc::Global;
+
+/// Returns the targets of requests for a URI: of one that names all of it, and of one that names its path,
+/// and its host in Host.
+pub(crate) fn targets_of(alloc: Global, text: &str) -> Result<[Target; 2], Fault> {
+    let uri = uri_from(alloc, text)?;
+    let (Some(authority), Some(path)) = (uri.authority(), uri.path_and_query()) else {
+        return Err(Fault::Refused(Reason::NoTarget));
+    };
+    let mut headers = HeaderMap::new(alloc);
+    let whole = Target::of(alloc, &uri, &headers)?;
+    if headers
+        .append(HOST, host_from(alloc, authority.as_str())?)
+        .is_err()
+    {
+        return Err(Fault::Refused(Reason::Memory));
+    }
+    let path = uri_from(alloc, path.as_str())?;
+    Ok([whole, Target::of(alloc, &path, &headers)?])
+}
+
+fn uri_from(alloc: Global, text: &str) -> Result<Uri, Fault> {
+    match Uri::from_str(alloc, text) {
+        Ok(uri) => Ok(uri),
+        Err(UriError::OutOfMemory) => Err(Fault::Refused(Reason::Memory)),
+        Err(UriError::Invalid(_)) => Err(Fault::Refused(Reason::NoTarget)),
+    }
+}
+
+fn host_from(alloc: Global, text: &str) -> Result<HeaderValue, Fault> {
+    match HeaderValue::from_bytes(alloc, text.as_bytes()) {
+        Ok(host) => Ok(host),
+        Err(HeaderValueError::OutOfMemory) => Err(Fault::Refused(Reason::Memory)),
+        Err(HeaderValueError::Invalid) => Err(Fault::Refused(Reason::NoTarget)),
+    }
+}
