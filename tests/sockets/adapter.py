@@ -6,9 +6,9 @@ import signal
 import subprocess
 import sys
 import tempfile
-import threading
 import time
 import unittest
+from concurrent.futures import ThreadPoolExecutor
 
 import requests
 from http_cache_semantics.adapter import CacheAdapter
@@ -150,11 +150,8 @@ class Adapters(unittest.TestCase):
                 if not re.fullmatch(r"page \d+", self.get(f"/p{number % 4}")[0].text):
                     wrong.append(number)
 
-        threads = [threading.Thread(target=ask, args=(number,)) for number in range(8)]
-        for thread in threads:
-            thread.start()
-        for thread in threads:
-            thread.join()
+        with ThreadPoolExecutor(8) as pool:
+            list(pool.map(ask, range(8)))
         self.assertEqual(wrong, [])
         self.assertEqual(self.adapter.cache.stats()["under_way"], 0)
 

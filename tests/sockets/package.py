@@ -10,9 +10,9 @@ import ssl
 import subprocess
 import sys
 import tempfile
-import threading
 import time
 import unittest
+from concurrent.futures import ThreadPoolExecutor
 from pathlib import Path
 from unittest import mock
 
@@ -140,11 +140,8 @@ class Processes(unittest.TestCase):
                     if cache.ask(get(b"/%d" % number), at=START).body != b"%04d" % number:
                         wrong.append(number)
 
-            threads = [threading.Thread(target=ask, args=(number,)) for number in range(8)]
-            for thread in threads:
-                thread.start()
-            for thread in threads:
-                thread.join()
+            with ThreadPoolExecutor(8) as pool:
+                list(pool.map(ask, range(8)))
             self.assertEqual((wrong, cache.stats()["hits"]), ([], 400))
 
 
