@@ -1,8 +1,8 @@
 //! Serves one connection on standard input and output: a caching proxy in front of a small site, or of an
 //! origin server at the other end of two pipes.
 //!
-//! `first_proxy` asks the site, `first_proxy --origin TO FROM` writes requests to TO and reads responses from FROM.
-//! Responses are stored in memory.
+//! `first_proxy` asks the site. `first_proxy --origin TO FROM` writes requests to TO and reads responses from
+//! FROM. Responses are stored in memory.
 #![tactic(auto)]
 
 mod clock;
