@@ -1,5 +1,6 @@
 //! What answers the frames: a session over a shelf that counts.
-ghost use Rattle.http_cache_session.specs.Session.{given_token, GivesNext};
+ghost use Rattle.http_cache_session.specs.Session.{GivesNext};
+ghost use Rattle.http_cache_wire.specs.Wire.{given_token};
 ghost use Rattle.http_cache_session.specs.State.{next_token};
 
 use http_cache_client::Client;

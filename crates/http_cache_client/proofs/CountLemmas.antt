@@ -1,6 +1,6 @@
 -- The stored responses of some targets are counted one target after another.
 use Rattle.std.proofs.Common.{◌≡◌, ℕ, suc, zero, ◌+◌, ◌<◌, List, [], ◌∷◌, map, take, length, get_or, ap, subst, ◌∙◌, arith}
-use Rattle.http_cache_shelf.specs.Shelf.{KeepsAll, StoredByTarget}
+use Rattle.http_cache_storage.specs.Shelf.{KeepsAll, StoredByTarget}
 use Rattle.http_cache_client.specs.Remove.{stored_count}
 
 one_more : {T : Type 0} (stored : StoredByTarget) (text : T → List ℕ) (ts : List T) (i : ℕ) (d : T) → i < length ts

@@ -2,8 +2,8 @@
 use Rattle.std.proofs.Common.{◌≡◌, ◌<◌, ℕ, zero, suc, List, [], ◌∷◌, length, get_or, ap, subst, ◌∙◌, inl, inr, arith}
 use Rattle.std.specs.Prelude.{Contains}
 use Rattle.std.proofs.lemmas.List.Elements.{Contains-append_right, Contains-get_or}
-use Rattle.http_cache_shelf.specs.Shelf.{StoredByTarget, StoredSeen, ShowsAll, IsShownAs}
-use Rattle.http_cache_shelf.specs.declared.shelf.StoredResponse.{StoredResponse}
+use Rattle.http_cache_storage.specs.Shelf.{StoredByTarget, StoredSeen, ShowsAll, IsShownAs}
+use Rattle.http_cache_storage.specs.declared.shelf.StoredResponse.{StoredResponse}
 use Rattle.http_cache_client.specs.Ask.{IsStoredStatus, HasStoredStatus, IsVerdictOf, IsVerdictIn}
 use Rattle.http_cache_client.specs.declared.ask.Verdict.{Verdict}
 use Rattle.http_cache_client.specs.declared.ask.Verdict.TheVariants.{UseWhile, Validate, Forward}

@@ -4,11 +4,11 @@ use Rattle.http.specs.Request.{head_of as head_of_request}
 use Rattle.http.specs.Response.{head_of}
 use Rattle.http.specs.declared.request.Request.{Request}
 use Rattle.http_cache_messages.specs.Outgoing.{IsClean}
-use Rattle.http_cache_semantics.specs.Conditions.{is_conditional}
-use Rattle.http_cache_semantics.specs.Directives.{cache_control, has}
-use Rattle.http_cache_semantics.specs.Headers.{Headers, headers_of}
-use Rattle.http_cache_shelf.specs.Shelf.{StoredByTarget, StoredSeen}
-use Rattle.http_cache_shelf.specs.declared.shelf.StoredResponse.{StoredResponse}
+use Rattle.http_cache_rules.specs.Conditions.{is_conditional}
+use Rattle.http_cache_fields.specs.Directives.{cache_control, has}
+use Rattle.http_cache_fields.specs.Headers.{Headers, headers_of}
+use Rattle.http_cache_storage.specs.Shelf.{StoredByTarget, StoredSeen}
+use Rattle.http_cache_storage.specs.declared.shelf.StoredResponse.{StoredResponse}
 use Rattle.http_cache_client.specs.declared.ask.Verdict.{Verdict}
 use Rattle.http_cache_client.specs.declared.ask.Verdict.TheVariants as verdict
 use Rattle.http_cache_client.specs.declared.tokens.Decision.{Decision}

@@ -5,7 +5,7 @@ use Rattle.http.specs.Response.{head_of}
 use Rattle.http.specs.declared.request.Request.{Request}
 use Rattle.http.specs.declared.response.Response.{Response}
 use Rattle.http_cache_messages.specs.Outgoing.{IsClean}
-use Rattle.http_cache_semantics.specs.Headers.{Headers, headers_of}
+use Rattle.http_cache_fields.specs.Headers.{Headers, headers_of}
 use Rattle.http_cache_client.specs.declared.origin.FetchError.{FetchError}
 use Rattle.http_cache_client.specs.declared.origin.FetchError.TheVariants.{Memory, Lost, Origin}
 

@@ -5,8 +5,8 @@ use Rattle.http.specs.Response.{head_of, body_of}
 use Rattle.http.specs.declared.request.Request.{Request}
 use Rattle.http.specs.declared.response.Response.{Response}
 use Rattle.http_cache_messages.specs.Asking.{is_looked_up}
-use Rattle.http_cache_semantics.specs.Headers.{headers_of}
-use Rattle.http_cache_shelf.specs.Target.{target_text}
+use Rattle.http_cache_fields.specs.Headers.{headers_of}
+use Rattle.http_cache_storage.specs.Target.{target_text}
 use Rattle.http_cache_plans.specs.Plan.{IsElsewhere, IsWholeBody, HasCondition}
 use Rattle.http_cache_plans.specs.declared.body.Body.{Body}
 use Rattle.http_cache_client.specs.declared.tokens.Received.{Received}

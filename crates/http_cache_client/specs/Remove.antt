@@ -1,6 +1,6 @@
 -- How many stored responses a purge removes.
 use Rattle.std.specs.Prelude.{ℕ, List, [], ◌∷◌, ◌+◌, length}
-use Rattle.http_cache_shelf.specs.Shelf.{StoredByTarget}
+use Rattle.http_cache_storage.specs.Shelf.{StoredByTarget}
 
 -- how many responses are stored for all of some targets
 abbrev pub stored_count : StoredByTarget → List (List ℕ) → ℕ

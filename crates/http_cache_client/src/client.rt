@@ -1,15 +1,15 @@
 //! A caching client: its shelf, its name and its options.
 ghost use Rattle.std.specs.Prelude.{◌≡◌, ◌⊎◌, ℕ, List, true, map, string_bytes, length, IfOk, OnOk, OnErr};
-ghost use Rattle.http_cache_shelf.specs.Shelf.{KeepsAll, KeepsOthers, RemovesThese};
-ghost use Rattle.http_cache_shelf.specs.Target.{text_of};
+ghost use Rattle.http_cache_storage.specs.Shelf.{KeepsAll, KeepsOthers, RemovesThese};
+ghost use Rattle.http_cache_storage.specs.Target.{text_of};
 ghost use Rattle.http_cache_plans.specs.Plan.{Stores, IsChangeOf};
 ghost use Rattle.http_cache_client.specs.Remove.{stored_count};
 
 use bytes::Bytes;
 use http_cache_plans::plan::{Change, Settled};
 use http_cache_plans::reply::Reply;
-use http_cache_semantics::CacheOptions;
-use http_cache_shelf::{Shelf, ShelfError, Target};
+use http_cache_policy::policy::CacheOptions;
+use http_cache_storage::{Shelf, ShelfError, Target};
 use jiff::Timestamp;
 use std::alloc::{AllocError, Global};
 

@@ -2,7 +2,7 @@
 ghost use Rattle.std.specs.Prelude.{◌≡◌, ◌⊎◌, true, false, Some, None, IsSome, IfOk, IfErr, OnOk, OnErr};
 ghost use Rattle.http.specs.Response.{head_of, body_of};
 ghost use Rattle.http_cache_messages.specs.Asking.{is_looked_up};
-ghost use Rattle.http_cache_shelf.specs.Shelf.{KeepsAll, KeepsOthers};
+ghost use Rattle.http_cache_storage.specs.Shelf.{KeepsAll, KeepsOthers};
 ghost use Rattle.http_cache_client.specs.Receive.{own_text};
 ghost use Rattle.http_cache_client.specs.Ask.{fields_of, IsOfStore, IsCleanValidation, IsCleanDecision};
 ghost use Rattle.http_cache_client.specs.Ask.{IsConditionalDecision, IsAnswer, IsOnlyIfCached};
@@ -18,8 +18,8 @@ use http::{Request, Response};
 use http_cache_fields::reading::says;
 use http_cache_messages::asking::is_looked_up;
 use http_cache_plans::{Body, Times, Why};
-use http_cache_semantics::explain::Forward;
-use http_cache_shelf::Shelf;
+use http_cache_policy::explain::Forward;
+use http_cache_storage::Shelf;
 use jiff::Timestamp;
 use std::alloc::{AllocError, Global};
 

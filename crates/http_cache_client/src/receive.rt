@@ -1,8 +1,8 @@
 //! What is done with the outcome of a request that was sent.
 ghost use Rattle.std.specs.Prelude.{◌≡◌, ◌≢◌, ◌⊎◌, ℕ, List, true, false, None, IfOk, IfSome, OnErr};
 ghost use Rattle.http.specs.Response.{head_of, body_of};
-ghost use Rattle.http_cache_shelf.specs.Shelf.{KeepsAll, KeepsOthers};
-ghost use Rattle.http_cache_shelf.specs.Target.{text_of};
+ghost use Rattle.http_cache_storage.specs.Shelf.{KeepsAll, KeepsOthers};
+ghost use Rattle.http_cache_storage.specs.Target.{text_of};
 ghost use Rattle.http_cache_plans.specs.Plan.{Stores, IsChangeOf, IsElsewhere, IsWhole, IsKnownPlan};
 ghost use Rattle.http_cache_plans.specs.Plan.{HasCondition, is_failure};
 ghost use Rattle.http_cache_client.specs.Receive.{IsWholeResponse, MayBeStored, IsConditionalReceipt};
@@ -21,8 +21,8 @@ use http_cache_plans::receipt::{Lines, line_for, prepared};
 use http_cache_plans::renewal::{Renewal, renewal_of};
 use http_cache_plans::report::{answer_of, forwarded, replace_line};
 use http_cache_plans::{Body, Times, Why};
-use http_cache_semantics::explain::{Forward, Member};
-use http_cache_shelf::{ResponseId, Shelf, Target};
+use http_cache_policy::explain::{Forward, Member};
+use http_cache_storage::{ResponseId, Shelf, Target};
 use jiff::Timestamp;
 use std::alloc::{AllocError, Global};
 use std::mem;

@@ -6,7 +6,7 @@ ghost use Rattle.std.specs.Prelude.{◌≡◌};
 use bytes::Bytes;
 use http::{Response, request};
 use http_cache_plans::{Body, Why};
-use http_cache_shelf::ResponseId;
+use http_cache_storage::ResponseId;
 use std::alloc::Global;
 use std::mem;
 

@@ -5,10 +5,10 @@ use Rattle.std.specs.Cmp.Lexicographic.{nat_list_cmp_total}
 use Rattle.std.specs.Borrow.{Bor}
 use Rattle.std.specs.FinMap as fin
 use Rattle.http_header.specs.FieldValue.{FieldValue}
-use Rattle.http_cache_semantics.specs.Headers.{Headers, first, set}
-use Rattle.http_cache_semantics.proofs.HeadersLemmas.{ties}
-use Rattle.http_cache_semantics.specs.Filter.{is_spelled}
-use Rattle.http_cache_semantics.specs.Forwarding.{without_named, forwarded_headers}
+use Rattle.http_cache_fields.specs.Headers.{Headers, first, set}
+use Rattle.http_cache_fields.proofs.HeadersLemmas.{ties}
+use Rattle.http_cache_rules.specs.Filter.{is_spelled}
+use Rattle.http_cache_rules.specs.Forwarding.{without_named, forwarded_headers}
 use Rattle.http_cache_messages.specs.Outgoing.{removed_fields, set_if_some, validating, IsClean}
 
 -- what a reference shows

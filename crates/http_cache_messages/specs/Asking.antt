@@ -4,8 +4,8 @@ use Rattle.std.specs.Option.{option_map_or}
 use Rattle.http.specs.Request.{head_of, body_of}
 use Rattle.http.specs.declared.request.Request.{Request}
 use Rattle.http_uri.specs.Uri.{uri_eq}
-use Rattle.http_cache_semantics.specs.Headers.{Headers, headers_of}
-use Rattle.http_cache_semantics.specs.Messages.{RequestSeen}
+use Rattle.http_cache_fields.specs.Headers.{Headers, headers_of}
+use Rattle.http_cache_rules.specs.Messages.{RequestSeen}
 use Rattle.http_cache_messages.specs.declared.asking.Incoming.{Incoming}
 
 -- the method is GET or HEAD

@@ -1,9 +1,9 @@
 -- Whether a response was received whole (RFC 9110, section 8.6, and RFC 9111, section 3.3).
 use Rattle.std.specs.Prelude.{ℕ, Bool, false, ◌||◌, ◌==◌, List, codes, bytes_eq, option_map, unwrap_or}
 use Rattle.std.specs.List.{list_all}
-use Rattle.http_cache_semantics.specs.Headers.{Headers, contains_key}
-use Rattle.http_cache_semantics.specs.Number.{number}
-use Rattle.http_cache_semantics.specs.Pieces.{pieces_under}
+use Rattle.http_cache_fields.specs.Headers.{Headers, contains_key}
+use Rattle.http_cache_fields.specs.Number.{number}
+use Rattle.http_cache_fields.specs.Pieces.{pieces_under}
 
 -- the text is the number of a length
 abbrev pub is_length : ℕ → List ℕ → Bool

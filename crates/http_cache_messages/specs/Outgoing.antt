@@ -1,8 +1,8 @@
 -- The request that validates a stored response (RFC 9111, section 4.3.1).
 use Rattle.std.specs.Prelude.{◌≡◌, ℕ, List, [], ◌∷◌, Option, Some, None, codes, option_map}
 use Rattle.std.specs.FinMap as fin
-use Rattle.http_cache_semantics.specs.Headers.{Headers, first, set, IsAbsent}
-use Rattle.http_cache_semantics.specs.Forwarding.{without_named, forwarded_headers}
+use Rattle.http_cache_fields.specs.Headers.{Headers, first, set, IsAbsent}
+use Rattle.http_cache_rules.specs.Forwarding.{without_named, forwarded_headers}
 
 -- fields of a body that isn't sent, of a part of the response, and of the client's own conditions
 abbrev pub removed_fields : List (List ℕ)

@@ -1,11 +1,11 @@
 -- Whether a stored response is worth keeping.
 use Rattle.std.specs.Prelude.{ℤ, Bool, not, ◌&&◌, ◌||◌, codes, bytes_eq}
 use Rattle.std.specs.List.{list_any}
-use Rattle.http_cache_semantics.specs.Age.{is_stale_at}
-use Rattle.http_cache_semantics.specs.Exchange.{Exchange}
-use Rattle.http_cache_semantics.specs.Headers.{Headers, contains_key}
-use Rattle.http_cache_semantics.specs.Pieces.{pieces_under}
-use Rattle.http_cache_semantics.specs.StaleUse.{forbids_stale}
+use Rattle.http_cache_policy.specs.Age.{is_stale_at}
+use Rattle.http_cache_policy.specs.Exchange.{Exchange}
+use Rattle.http_cache_fields.specs.Headers.{Headers, contains_key}
+use Rattle.http_cache_fields.specs.Pieces.{pieces_under}
+use Rattle.http_cache_policy.specs.StaleUse.{forbids_stale}
 
 -- it has ETag or Last-Modified (RFC 9111, section 4.3.1)
 abbrev pub has_validator : Headers → Bool

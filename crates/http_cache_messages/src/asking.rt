@@ -10,9 +10,10 @@ ghost use Rattle.http_cache_messages.specs.Asking.{is_get_or_head, is_looked_up,
 use crate::memory::or_out_of_memory;
 use bytes::Bytes;
 use http::{HeaderMap, Method, Request, Uri};
+use http_cache_fields::CacheError;
 use http_cache_fields::reading::says;
-use http_cache_semantics::forwarding::joined_headers;
-use http_cache_semantics::{CacheError, RequestLike};
+use http_cache_policy::policy::RequestLike;
+use http_cache_rules::joined::joined_headers;
 use std::alloc::{AllocError, Global};
 
 /// A request of a client, with the lines of each field joined if a field has several, so that all of
@@ -57,7 +58,7 @@ impl<'a> Incoming<'a> {
         let joined = if headers.len() == headers.keys_len() {
             None
         } else {
-            Some(or_out_of_memory(joined_headers(alloc, headers))?)
+            Some(joined_headers(alloc, headers)?)
         };
         Ok(Incoming { request, joined })
     }

@@ -7,11 +7,13 @@ use http::header::{
     AGE, CACHE_STATUS, CONNECTION, CONTENT_LENGTH, DATE, EXPIRES, TRANSFER_ENCODING,
 };
 use http::{HeaderMap, HeaderName, HeaderValue};
+use http_cache_fields::CacheError;
 use http_cache_fields::headers::{contains_key, first_text, insert, remove};
 use http_cache_fields::pieces::pieces_under;
 use http_cache_fields::text::number;
-use http_cache_semantics::CacheError;
-use http_cache_semantics::forwarding::{forwarded_headers, http_date, joined_headers};
+use http_cache_rules::dates::http_date;
+use http_cache_rules::forwarding::forwarded_headers;
+use http_cache_rules::joined::joined_headers;
 use httpdate::HttpDate;
 use jiff::Timestamp;
 use std::alloc::Global;
@@ -226,7 +228,7 @@ pub fn stored_head(
     if names_rules(headers) {
         return Err(CacheError::Malformed);
     }
-    let forwarded = forwarded_headers(alloc, headers)?;
+    let forwarded = forwarded_headers(headers)?;
     let mut head = joined_headers(alloc, &forwarded)?;
     add_date(alloc, &mut head, received)?;
     if !contains_key(&head, DATE) {

@@ -1,7 +1,7 @@
 //! Calls whose only error is out of memory.
 ghost use Rattle.std.specs.Prelude.{◌≡◌, Ok, IfOk};
 
-use http_cache_semantics::CacheError;
+use http_cache_fields::CacheError;
 use std::alloc::AllocError;
 
 /// Returns the value of a call whose only error is `Memory`.

@@ -1,16 +1,17 @@
 //! The request that validates a stored response (RFC 9111, section 4.3.1).
 ghost use Rattle.std.specs.Prelude.{◌≡◌, map, option_map, IfOk, OnOk};
 ghost use Rattle.http.specs.Request.{head_of};
-ghost use Rattle.http_cache_semantics.specs.Forwarding.{without_named};
-ghost use Rattle.http_cache_semantics.specs.Headers.{headers_of, first};
+ghost use Rattle.http_cache_rules.specs.Forwarding.{without_named};
+ghost use Rattle.http_cache_fields.specs.Headers.{headers_of, first};
 ghost use Rattle.http_cache_messages.specs.Outgoing.{set_if_some, with_validators, validating, IsClean};
 
 use bytes::Bytes;
 use http::header::{ETAG, IF_MODIFIED_SINCE, IF_NONE_MATCH, LAST_MODIFIED};
 use http::{HeaderMap, HeaderName, HeaderValue, Request, Version, request};
+use http_cache_fields::CacheError;
 use http_cache_fields::headers::{insert, remove};
-use http_cache_semantics::forwarding::forwarded_headers;
-use http_cache_semantics::{CacheError, CachePolicy};
+use http_cache_policy::policy::CachePolicy;
+use http_cache_rules::forwarding::forwarded_headers;
 use std::alloc::Global;
 
 // Fields of a body that isn't sent, of a part of the response, and of the client's own conditions.
@@ -94,7 +95,7 @@ pub fn validation_request(
     ensures clean { IfOk result (λ parts.
         IsClean policy.now.response_headers (headers_of parts.headers)) }
 {
-    let mut headers = forwarded_headers(alloc, request.headers())?;
+    let mut headers = forwarded_headers(request.headers())?;
     remove_all(&mut headers, &REMOVED);
     add_validators(&mut headers, policy.stored_headers())?;
     Ok(request::Parts {

@@ -1,7 +1,7 @@
 //! Whether a response is worth storing, and a stored one worth keeping.
 ghost use Rattle.std.specs.Prelude.{◌≡◌, true};
 ghost use Rattle.http_cache_fields.specs.Headers.{headers_of};
-ghost use Rattle.http_cache_semantics.specs.Storing.{is_storable};
+ghost use Rattle.http_cache_rules.specs.Storing.{is_storable};
 ghost use Rattle.http_cache_messages.specs.Worth.{has_validator, varies_by_all, can_be_used_again};
 
 use crate::quoted::is_misread;
@@ -9,7 +9,7 @@ use http::header::{ETAG, LAST_MODIFIED, VARY};
 use http::{HeaderMap, StatusCode};
 use http_cache_fields::headers::contains_key;
 use http_cache_fields::pieces::pieces_under;
-use http_cache_semantics::CachePolicy;
+use http_cache_policy::policy::CachePolicy;
 use jiff::Timestamp;
 
 /// Returns whether a stored response can be validated: it has ETag or Last-Modified (RFC 9111,

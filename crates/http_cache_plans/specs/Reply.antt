@@ -1,7 +1,7 @@
 -- What is sent of a stored response.
 use Rattle.std.specs.Prelude.{◌≡◌, ◌⊎◌, ℕ, true, Option, IfSome}
-use Rattle.http_cache_semantics.specs.Conditions.{is_conditional}
-use Rattle.http_cache_semantics.specs.Headers.{Headers}
+use Rattle.http_cache_rules.specs.Conditions.{is_conditional}
+use Rattle.http_cache_fields.specs.Headers.{Headers}
 use Rattle.http_cache_plans.specs.declared.reply.Reply.{Reply}
 
 -- a 304 is sent only to a request with a condition (RFC 9110, section 15.4.5)

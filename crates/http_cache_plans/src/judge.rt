@@ -1,11 +1,11 @@
 //! Which of the stored responses of a target answers a request.
 ghost use Rattle.std.specs.Prelude.{List, Contains};
-ghost use Rattle.http_cache_shelf.specs.declared.shelf.StoredResponse.{StoredResponse};
+ghost use Rattle.http_cache_storage.specs.declared.shelf.StoredResponse.{StoredResponse};
 ghost use Rattle.http_cache_plans.specs.Judge.{IsSelectedOf};
 
 use http_cache_messages::asking::Incoming;
-use http_cache_semantics::explain::{Explanation, Reason, StaleReason};
-use http_cache_shelf::StoredResponse;
+use http_cache_policy::explain::{Explanation, Reason, StaleReason};
+use http_cache_storage::StoredResponse;
 use jiff::Timestamp;
 
 /// What is found among the stored responses.

@@ -4,19 +4,20 @@
 //! end. After a policy is made nothing here can fail, so that a policy is dropped at few places.
 ghost use Rattle.std.specs.Prelude.{◌≡◌, true, false, IsSome, IfOk};
 ghost use Rattle.http_cache_plans.specs.Plan.{Stores, IsChangeOf, IsElsewhere, IsWhole, IsKnownPlan};
-ghost use Rattle.http_cache_shelf.specs.Target.{text_of};
+ghost use Rattle.http_cache_storage.specs.Target.{text_of};
 
 use crate::body::Body;
 use crate::reply::left_of;
 use bytes::Bytes;
 use http::{StatusCode, Version, response};
+use http_cache_fields::CacheError;
 use http_cache_messages::asking::Incoming;
 use http_cache_messages::complete::is_complete;
 use http_cache_messages::head::{add_cache_status, stored_head};
 use http_cache_messages::worth::{can_be_used_again, is_worth_storing};
-use http_cache_semantics::explain::TimeLeft;
-use http_cache_semantics::{CacheError, CacheOptions, CachePolicy};
-use http_cache_shelf::{ResponseId, StoredResponse, Target};
+use http_cache_policy::explain::TimeLeft;
+use http_cache_policy::policy::{CacheOptions, CachePolicy};
+use http_cache_storage::{ResponseId, StoredResponse, Target};
 use jiff::Timestamp;
 use std::alloc::{AllocError, Global};
 

@@ -11,7 +11,7 @@ use bytes::Bytes;
 use http::{HeaderMap, HeaderValue, Response};
 use http_cache_messages::head::add_date;
 use http_cache_messages::memory::or_out_of_memory;
-use http_cache_semantics::explain::Member;
+use http_cache_policy::explain::Member;
 use jiff::Timestamp;
 use std::alloc::{AllocError, Global};
 

@@ -1,17 +1,18 @@
 //! Stored responses that a 304 confirms.
 ghost use Rattle.std.specs.Prelude.{◌≡◌, false, IfOk, IfSome};
 ghost use Rattle.http_cache_plans.specs.Plan.{Stores, IsChangeOf};
-ghost use Rattle.http_cache_shelf.specs.Target.{text_of};
+ghost use Rattle.http_cache_storage.specs.Target.{text_of};
 ghost use Rattle.http_cache_plans.specs.Renewal.{IsRenewalFor};
 
 use crate::plan::{Arrived, Change, Plan};
 use crate::reply::Reply;
 use http::{Version, response};
+use http_cache_fields::CacheError;
 use http_cache_messages::head::stored_head;
 use http_cache_messages::worth::is_worth_storing;
-use http_cache_semantics::forwarding::updated_headers;
-use http_cache_semantics::{CacheError, CacheOptions, CachePolicy};
-use http_cache_shelf::{ResponseId, StoredResponse, Target};
+use http_cache_policy::policy::{CacheOptions, CachePolicy};
+use http_cache_rules::updated::updated_headers;
+use http_cache_storage::{ResponseId, StoredResponse, Target};
 use jiff::Timestamp;
 use std::alloc::{AllocError, Global};
 
@@ -33,7 +34,7 @@ pub fn renewed(
     let head = response::Parts {
         status: policy.stored_status(),
         version: Version::HTTP_11,
-        headers: updated_headers(alloc, policy.stored_headers(), &new)?,
+        headers: updated_headers(policy.stored_headers(), &new)?,
     };
     let asking = arrived.incoming.asking(policy.stored_method());
     CachePolicy::new_options(alloc, &asking, &head, times.sent, *options)

@@ -2,7 +2,7 @@
 ghost use Rattle.std.specs.Prelude.{◌≡◌, IfOk, true};
 ghost use Rattle.http.specs.Request.{head_of};
 ghost use Rattle.http_cache_fields.specs.Headers.{headers_of};
-ghost use Rattle.http_cache_semantics.specs.Conditions.{is_conditional};
+ghost use Rattle.http_cache_rules.specs.Conditions.{is_conditional};
 ghost use Rattle.http_cache_plans.specs.Reply.{IsConditionalReply, IsReplyOf};
 
 use bytes::Bytes;
@@ -11,11 +11,12 @@ use http::header::{
     IF_NONE_MATCH, LAST_MODIFIED, VARY,
 };
 use http::{HeaderMap, HeaderName, HeaderValue, Request, StatusCode, Version, response};
+use http_cache_fields::CacheError;
 use http_cache_fields::headers::{contains_key, copy_of_map, insert};
 use http_cache_messages::asking::Incoming;
-use http_cache_semantics::explain::TimeLeft;
-use http_cache_semantics::{CacheError, CachePolicy};
-use http_cache_shelf::{ResponseId, StoredResponse};
+use http_cache_policy::explain::TimeLeft;
+use http_cache_policy::policy::CachePolicy;
+use http_cache_storage::{ResponseId, StoredResponse};
 use jiff::Timestamp;
 use std::alloc::{AllocError, Global};
 use std::time::Duration;

@@ -5,10 +5,10 @@ ghost use Rattle.http.specs.Response.{head_of, body_of};
 use bytes::Bytes;
 use http::header::{CACHE_STATUS, HeaderValueError};
 use http::{HeaderMap, HeaderValue, Response, StatusCode, response};
+use http_cache_fields::CacheError;
 use http_cache_fields::headers::{contains_key, insert, replace};
 use http_cache_messages::memory::or_out_of_memory;
-use http_cache_semantics::CacheError;
-use http_cache_semantics::explain::{CacheOutcome, Explanation, Forward, Member, TimeLeft};
+use http_cache_policy::explain::{CacheOutcome, Explanation, Forward, Member, TimeLeft};
 use std::alloc::{AllocError, Global};
 
 /// Why a request is sent, for Cache-Status.

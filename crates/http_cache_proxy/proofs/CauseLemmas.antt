@@ -5,7 +5,7 @@ use Rattle.http.specs.declared.request.Request.{Request}
 use Rattle.http.specs.declared.response.Response.{Response as Answer}
 use Rattle.http_server.specs.Response.{IsResponse}
 use Rattle.http_server.specs.declared.response.Response.{Response}
-use Rattle.http_cache_shelf.specs.Shelf.{StoredByTarget, KeepsAll}
+use Rattle.http_cache_storage.specs.Shelf.{StoredByTarget, KeepsAll}
 use Rattle.http_cache_client.specs.Fetch.{Outcome, Sends, HasSentOwn, HasSentBoth, HasNoResponse, IsUnsent}
 use Rattle.http_cache_client.specs.declared.origin.FetchError.{FetchError}
 use Rattle.http_cache_client.specs.declared.origin.FetchError.TheVariants as fetch

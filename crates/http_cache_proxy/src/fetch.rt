@@ -1,6 +1,6 @@
 //! The answer to a request by way of the client, or why there is none.
 ghost use Rattle.std.specs.Prelude.{◌≡◌, ◌⊎◌, true, false, Some, None, IfOk, IfErr, IsErrOf, OnErr};
-ghost use Rattle.http_cache_shelf.specs.Shelf.{KeepsAll};
+ghost use Rattle.http_cache_storage.specs.Shelf.{KeepsAll};
 ghost use Rattle.http_cache_client.specs.Ask.{fields_of, IsOnlyIfCached};
 ghost use Rattle.http_cache_client.specs.Fetch.{Outcome, HasSentBoth, HasSentTwiceAtMost};
 ghost use Rattle.http_cache_messages.specs.Asking.{is_looked_up};

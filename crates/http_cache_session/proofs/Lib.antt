@@ -1,3 +1,2 @@
 -- Lemmas of a session.
-pub mod HandedLemmas
 pub mod KeptLemmas

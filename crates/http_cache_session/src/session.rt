@@ -4,19 +4,14 @@ ghost use Rattle.http.specs.Response.{body_of};
 ghost use Rattle.serde_json.specs.View.{view};
 ghost use Rattle.http_cache_frames.specs.Line.{number_under};
 ghost use Rattle.http_cache_plans.specs.Plan.{IsElsewhere};
-ghost use Rattle.http_cache_shelf.specs.Shelf.{KeepsAll};
-ghost use Rattle.http_cache_session.specs.Session.{IsRefused, IsRefusal, IsReplyFor, given_token, reply_id};
+ghost use Rattle.http_cache_storage.specs.Shelf.{KeepsAll};
+ghost use Rattle.http_cache_wire.specs.Wire.{IsRefused, IsRefusal, IsReplyFor, given_token, reply_id};
+ghost use Rattle.http_cache_wire.specs.Wire.{HandsOver, HasRest};
 ghost use Rattle.http_cache_session.specs.Session.{GivesNext, AddsGiven, KeepsUnderWay, Ends};
-ghost use Rattle.http_cache_session.specs.Session.{HandsOver, HasRest};
 ghost use Rattle.http_cache_session.specs.UnderWay.{id_at};
 ghost use Rattle.http_cache_session.specs.State.{shelf_of, next_token, id_under_way};
 
-use crate::asked::{Asked, id_of, token_of};
 use crate::errand::{Errand, UnderWay, UnderWays};
-use crate::fault::Fault;
-use crate::message::{Place, has_fragment, request_in, response_in, time_of, time_under};
-use crate::parts::{Written, written_own, written_request, written_response};
-use crate::target::targets_of;
 use bytes::Bytes;
 use http::{Method, Request, Response, StatusCode};
 use http_cache_client::{Client, Decision, Forwarded, Received, Validation};
@@ -24,7 +19,14 @@ use http_cache_frames::{Counts, Frame, Lost, Notice, Reason, Reply, Turn, text_u
 use http_cache_intermediary::Intermediary;
 use http_cache_messages::complete::is_complete;
 use http_cache_plans::{Body, Times};
-use http_cache_shelf::Shelf;
+use http_cache_storage::Shelf;
+use http_cache_wire::asked::{Asked, id_of, token_of};
+use http_cache_wire::fault::Fault;
+use http_cache_wire::message::{Place, request_in, response_in, time_of, time_under};
+use http_cache_wire::parts::{
+    Written, done, with_body, written_check, written_own, written_own_request, written_response,
+};
+use http_cache_wire::target::targets_of;
 use jiff::Timestamp;
 use serde_json::Value;
 use std::alloc::Global;
@@ -63,35 +65,6 @@ pub struct Session<S: Drop> {
 // A count and one more.
 fn more(count: &mut u64) {
     *count = count.saturating_add(1);
-}
-
-fn done(id: u64) -> Reply
-    ensures none { given_token result ≡ None }
-    ensures reply { IsReplyFor id result }
-{
-    Reply::Notice(Notice::Done { id })
-}
-
-// The client's own request as it is written, and the request.
-fn own_request(
-    alloc: Global,
-    request: Request<Bytes>,
-    is_body_with_caller: bool,
-) -> Result<(Written, Request<Bytes>), Fault> {
-    let (parts, body) = request.into_parts();
-    let sent = if is_body_with_caller {
-        None
-    } else {
-        Some(body.clone()?)
-    };
-    let written = written_request(alloc, &parts, sent)?;
-    Ok((written, Request::from_parts(parts, body)))
-}
-
-// A response whose body is here.
-fn with_body(response: Response<Bytes>) -> Response<Body> {
-    let (head, body) = response.into_parts();
-    Response::from_parts(head, Body::Here(body))
 }
 
 impl<S: Shelf + Drop> Session<S> {
@@ -171,13 +144,43 @@ impl<S: Shelf + Drop> Session<S> {
         self.under_way.len() >= self.settings.requests
     }
 
-    // Has a validation sent.
-    fn validate(
+    // Has a validation sent, and returns its token and how it is written.
+    fn send_check(
         &mut self,
         alloc: Global,
         id: u64,
         request: Request<Bytes>,
         mut check: Validation,
+        now: Timestamp,
+        is_answered: bool,
+    ) -> Result<(u64, Written), Fault>
+        ensures kept { self.new.client.shelf ≡ self.old.client.shelf }
+        ensures given { IfOk result (λ sent. AddsGiven (Some sent.0) id
+            self.old.under_way self.new.under_way) }
+        ensures ungiven { OnErr result (KeepsUnderWay self.old.under_way self.new.under_way) }
+    {
+        let parts = check.take_request(alloc);
+        let under_way = UnderWay {
+            id,
+            request,
+            errand: Some(Errand::Check(check)),
+            sent: now,
+            is_body_with_caller: false,
+            is_answered,
+        };
+        let written = written_check(alloc, parts)?;
+        let token = self.under_way.add(under_way)?;
+        more(&mut self.counts.validations);
+        Ok((token, written))
+    }
+
+    // Has a validation sent before the request is answered.
+    fn validate(
+        &mut self,
+        alloc: Global,
+        id: u64,
+        request: Request<Bytes>,
+        check: Validation,
         now: Timestamp,
     ) -> Result<Reply, Fault>
         ensures reply { IfOk result (IsReplyFor id) }
@@ -189,17 +192,7 @@ impl<S: Shelf + Drop> Session<S> {
         if self.is_full() {
             return Err(Fault::Refused(Reason::TooMany));
         }
-        let parts = check.take_request(alloc);
-        let written = written_request(alloc, &parts, Some(Bytes::new()))?;
-        let token = self.under_way.add(UnderWay {
-            id,
-            request,
-            errand: Some(Errand::Check(check)),
-            sent: now,
-            is_body_with_caller: false,
-            is_answered: false,
-        })?;
-        more(&mut self.counts.validations);
+        let (token, written) = self.send_check(alloc, id, request, check, now, false)?;
         Ok(written.send(id, token))
     }
 
@@ -222,7 +215,7 @@ impl<S: Shelf + Drop> Session<S> {
         if self.is_full() {
             return Err(Fault::Refused(Reason::TooMany));
         }
-        let (written, request) = own_request(alloc, request, is_body_with_caller)?;
+        let (written, request) = written_own_request(alloc, request, is_body_with_caller)?;
         let token = self.under_way.add(UnderWay {
             id,
             request,
@@ -241,7 +234,7 @@ impl<S: Shelf + Drop> Session<S> {
         id: u64,
         request: Request<Bytes>,
         answer: Response<Bytes>,
-        mut due: Validation,
+        due: Validation,
         now: Timestamp,
     ) -> Result<Reply, Fault>
         ensures reply { IfOk result (IsReplyFor id) }
@@ -254,25 +247,8 @@ impl<S: Shelf + Drop> Session<S> {
         if self.is_full() {
             return Ok(written.answer(id));
         }
-        let parts = due.take_request(alloc);
-        let check = written_request(alloc, &parts, Some(Bytes::new()))?;
-        let token = self.under_way.add(UnderWay {
-            id,
-            request,
-            errand: Some(Errand::Check(due)),
-            sent: now,
-            is_body_with_caller: false,
-            is_answered: true,
-        })?;
-        more(&mut self.counts.validations);
-        let Written { head, body } = written;
-        Ok(Reply::Stale {
-            id,
-            token,
-            head,
-            body: body.unwrap_or(Bytes::new()),
-            request: check.head,
-        })
+        let (token, check) = self.send_check(alloc, id, request, due, now, true)?;
+        Ok(written.stale(id, token, check))
     }
 
     // Answers without asking the origin.
@@ -297,7 +273,15 @@ impl<S: Shelf + Drop> Session<S> {
         Ok(written.answer(id))
     }
 
-    fn ask(&mut self, alloc: Global, id: u64, frame: Frame) -> Result<Reply, Fault>
+    // Asks the client.
+    fn decide(
+        &mut self,
+        alloc: Global,
+        id: u64,
+        request: Request<Bytes>,
+        place: Place,
+        now: Timestamp,
+    ) -> Result<Reply, Fault>
         ensures reply { IfOk result (IsReplyFor id) }
         ensures kept { KeepsAll (S.stored self.old.client.shelf) (S.next_id self.old.client.shelf)
             (S.stored self.new.client.shelf) (S.next_id self.new.client.shelf) }
@@ -305,15 +289,6 @@ impl<S: Shelf + Drop> Session<S> {
             self.old.under_way self.new.under_way) }
         ensures ungiven { OnErr result (KeepsUnderWay self.old.under_way self.new.under_way) }
     {
-        let now = time_of(&frame.line)?;
-        let place = Place::of(&frame)?;
-        let Frame { head, body, .. } = frame;
-        let is_cut = has_fragment(head.as_slice());
-        let request = request_in(alloc, self.settings.keys, &head, body, place)?;
-        if let Some(reply) = self.refused_request(alloc, id, &request, is_cut, now)? {
-            return Ok(reply);
-        }
-        let request = self.asked_request(alloc, request, place)?;
         match self.client.ask(alloc, &request, now)? {
             Decision::Answer(answer) => self.answer_now(alloc, id, request.method(), answer),
             Decision::Stale { answer, due } => {
@@ -327,6 +302,24 @@ impl<S: Shelf + Drop> Session<S> {
                 Ok(reply)
             }
         }
+    }
+
+    fn ask(&mut self, alloc: Global, id: u64, frame: Frame) -> Result<Reply, Fault>
+        ensures reply { IfOk result (IsReplyFor id) }
+        ensures kept { KeepsAll (S.stored self.old.client.shelf) (S.next_id self.old.client.shelf)
+            (S.stored self.new.client.shelf) (S.next_id self.new.client.shelf) }
+        ensures given { IfOk result (λ reply. AddsGiven (given_token reply) id
+            self.old.under_way self.new.under_way) }
+        ensures ungiven { OnErr result (KeepsUnderWay self.old.under_way self.new.under_way) }
+    {
+        let now = time_of(&frame.line)?;
+        let place = Place::of(&frame)?;
+        let (request, is_cut) = request_in(alloc, self.settings.keys, frame, place)?;
+        if let Some(reply) = self.refused_request(alloc, id, &request, is_cut, now)? {
+            return Ok(reply);
+        }
+        let request = self.asked_request(alloc, request, place)?;
+        self.decide(alloc, id, request, place, now)
     }
 
     // Hands a response to the client. None is a token that isn't under way.
@@ -664,8 +657,9 @@ impl<S: Shelf + Drop> Session<S> {
 
     /// Returns the reply to a frame. `stored` is what the shelf stores now, for `stats`.
     ///
-    /// After a reply that refuses the frame (`error`, but for "no response"), what is stored and under way is as
-    /// before. Any other reply to `received` or `failed` ends the request of the token.
+    /// After a reply that refuses the frame (`error`, but for "no response"), what is stored and
+    /// under way is as before. Any other reply to `received` or `failed` ends the request of the
+    /// token.
     ///
     /// # Errors
     ///

@@ -8,14 +8,14 @@ use Rattle.std.proofs.lemmas.List.{length-take-le}
 use Rattle.std.proofs.lemmas.Slice.Eq.{bytes_eq-Decides}
 use Rattle.lru.specs.LruCache.{LruCache, promoted}
 use Rattle.http_cache_shelf.specs.declared.memory.list.StoredList.{StoredList}
-use Rattle.http_cache_shelf.specs.declared.shelf.ResponseId.{ResponseId}
+use Rattle.http_cache_storage.specs.declared.shelf.ResponseId.{ResponseId}
 use Rattle.http_cache_shelf.specs.declared.memory.limit.Limits.{Limits}
 use Rattle.http_cache_shelf.specs.declared.memory.size.Amount.{Amount}
-use Rattle.http_cache_shelf.specs.Shelf.{StoredSeen, StoredByTarget, without, AreNewestOf, KeepsOthers, KeepsAllOthers}
+use Rattle.http_cache_storage.specs.Shelf.{StoredSeen, StoredByTarget, without, AreNewestOf, KeepsOthers, KeepsAllOthers}
 use Rattle.http_cache_shelf.specs.Size.{one, size_of, IsAllowed, FitTogether, FitsAlone}
 use Rattle.http_cache_shelf.specs.Memory.{all_seen, is_text, stored_under, is_last_used, IsOnTop, IsFront, AreLeft, AreFewer, IsBounded, IsFirstText, IsFirstShortened, CanStay, IsHeld, all_stored}
 use Rattle.http_cache_shelf.proofs.Lookups.{lookup-front}
-use Rattle.http_cache_shelf.proofs.ListLemmas.{parts}
+use Rattle.http_cache_storage.proofs.EndingLemmas.{parts}
 use Rattle.http_cache_shelf.proofs.MapLemmas.{true≢false, apart, written-on-top, stored-top}
 use Rattle.std.proofs.lemmas.List.Sums.{sum_by-cons}
 use Rattle.http_cache_shelf.proofs.Sums.{ones}

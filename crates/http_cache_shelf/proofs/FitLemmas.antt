@@ -3,11 +3,11 @@ use Rattle.std.proofs.Common.{◌≡◌, ◌≤◌, arith, ℕ, ℤ, suc, Bool, 
 use Rattle.std.specs.List.{filter, list_any}
 use Rattle.std.proofs.lemmas.List.Elements.{All-nil, All-cons, All-head, All-tail}
 use Rattle.std.proofs.lemmas.Slice.Eq.{bytes_eq-Decides}
-use Rattle.http_cache_semantics.specs.Exchange.{Exchange}
+use Rattle.http_cache_policy.specs.Exchange.{Exchange}
 use Rattle.http_cache_messages.specs.Worth.{can_be_used_again}
 use Rattle.http_cache_shelf.specs.declared.memory.limit.Limits.{Limits}
-use Rattle.http_cache_shelf.specs.declared.shelf.ResponseId.{ResponseId}
-use Rattle.http_cache_shelf.specs.Shelf.{StoredSeen, StoredByTarget, KeepsOthers, RemovesThese, IsSwept, AreNewestOf, with_exchange, renewed, without}
+use Rattle.http_cache_storage.specs.declared.shelf.ResponseId.{ResponseId}
+use Rattle.http_cache_storage.specs.Shelf.{StoredSeen, StoredByTarget, KeepsOthers, RemovesThese, IsSwept, AreNewestOf, with_exchange, renewed, without}
 use Rattle.http_cache_shelf.specs.Size.{one, AreFitting, FitTogether}
 use Rattle.http_cache_shelf.specs.Memory.{AreFewer, HasUnder}
 use Rattle.http_cache_shelf.proofs.IdLemmas.{all-front, some}

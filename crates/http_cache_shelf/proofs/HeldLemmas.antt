@@ -8,7 +8,7 @@ use Rattle.std.specs.Map.{lookup, remove_entry, set_value}
 use Rattle.lru.specs.LruCache.{LruCache, lru_cache, promoted, put_entries, last_entry}
 use Rattle.http_cache_shelf.specs.declared.memory.list.StoredList.{StoredList}
 use Rattle.http_cache_shelf.specs.declared.memory.size.Amount.{Amount}
-use Rattle.http_cache_shelf.specs.Shelf.{StoredSeen}
+use Rattle.http_cache_storage.specs.Shelf.{StoredSeen}
 use Rattle.http_cache_shelf.specs.declared.memory.limit.Limits.{Limits}
 use Rattle.http_cache_shelf.specs.Size.{one, size_of, replaced, IsAmountOf, IsAtMost, IsAllowed}
 use Rattle.http_cache_shelf.specs.Memory.{all_seen, all_stored, IsHeld, AreLeft}

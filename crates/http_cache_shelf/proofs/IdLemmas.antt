@@ -4,11 +4,11 @@ use Rattle.std.specs.List.{filter, list_any}
 use Rattle.std.specs.declared.string.String.{String}
 use Rattle.std.proofs.lemmas.List.Elements.{All-nil, All-cons, All-head, All-tail, All-weaker, All-same}
 use Rattle.std.proofs.lemmas.Slice.Eq.{bytes_eq-Decides}
-use Rattle.http_cache_semantics.specs.Exchange.{Exchange}
+use Rattle.http_cache_policy.specs.Exchange.{Exchange}
 use Rattle.http_cache_messages.specs.Worth.{can_be_used_again}
 use Rattle.http_cache_shelf.specs.declared.memory.list.StoredList.{StoredList}
-use Rattle.http_cache_shelf.specs.declared.shelf.ResponseId.{ResponseId}
-use Rattle.http_cache_shelf.specs.Shelf.{StoredSeen, StoredByTarget, AreIdsBelow, KeepsOthers, RemovesThese, IsSwept, with_exchange, renewed, without}
+use Rattle.http_cache_storage.specs.declared.shelf.ResponseId.{ResponseId}
+use Rattle.http_cache_storage.specs.Shelf.{StoredSeen, StoredByTarget, AreIdsBelow, KeepsOthers, RemovesThese, IsSwept, with_exchange, renewed, without}
 use Rattle.http_cache_shelf.specs.Memory.{stored_under, AreFewer, HasUnder, IsOnTop}
 use Rattle.http_cache_shelf.proofs.MapLemmas.{true≢false, stored-top}
 

@@ -1,6 +1,5 @@
 -- Lemmas on what is stored.
 mod BoundsLemmas
-mod EndingLemmas
 mod FitLemmas
 mod HeldLemmas
 mod IdLemmas

@@ -4,18 +4,14 @@ use Rattle.std.specs.List.{filter, find, list_any, position_or_len, sum_by}
 use Rattle.std.specs.Option.{option_map_or}
 use Rattle.std.proofs.lemmas.Bool.Decides.{nat_tests}
 use Rattle.std.proofs.lemmas.List.{length-take-le}
-use Rattle.http_cache_semantics.specs.Exchange.{Exchange}
-use Rattle.http_cache_shelf.specs.declared.shelf.StoredResponse.{StoredResponse}
+use Rattle.http_cache_policy.specs.Exchange.{Exchange}
+use Rattle.http_cache_storage.specs.declared.shelf.StoredResponse.{StoredResponse}
 use Rattle.http_cache_shelf.specs.declared.memory.limit.Limits.{Limits}
-use Rattle.http_cache_shelf.specs.Shelf.{StoredSeen, ShowsAll, renewed, with_exchange, has_id, without}
+use Rattle.http_cache_storage.specs.Shelf.{StoredSeen, ShowsAll, renewed, with_exchange, has_id, without}
 use Rattle.http_cache_shelf.specs.Size.{one, size_of, FitTogether}
 use Rattle.http_cache_shelf.proofs.Sums.{ones, few-less}
 use Rattle.http_cache_shelf.specs.Memory.{seen_of, AreLeft, IsRenewedAt}
-
-pub parts : {X : Type 0} (n : ℕ) (xs : List X) → xs ≡ take n xs ++ drop n xs
-parts zero xs = refl
-parts (suc n) [] = refl
-parts (suc n) (x ∷ xs) = ap (λ l. x ∷ l) (parts n xs)
+use Rattle.http_cache_storage.proofs.EndingLemmas.{parts}
 
 pub left-all : {X : Type 0} (stay : ℕ) (xs : List X) → AreLeft stay xs xs
 left-all stay xs = record { evicted = []; is = sym (append-nil xs); stayed = λ h. h }

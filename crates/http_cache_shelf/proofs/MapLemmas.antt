@@ -11,7 +11,7 @@ use Rattle.std.proofs.lemmas.List.Folds.{list_any-append}
 use Rattle.lru.specs.LruCache.{LruCache, promoted, put_entries}
 use Rattle.lru.proofs.CallerLemmas.{Contains-lookup_entry}
 use Rattle.http_cache_shelf.specs.declared.memory.list.StoredList.{StoredList}
-use Rattle.http_cache_shelf.specs.Shelf.{StoredSeen, StoredByTarget, RemovesThese}
+use Rattle.http_cache_storage.specs.Shelf.{StoredSeen, StoredByTarget, RemovesThese}
 use Rattle.http_cache_shelf.specs.Memory.{all_seen, is_text, stored_under, is_last_used, HasUnder, IsOnTop}
 use Rattle.http_cache_shelf.proofs.Lookups.{Agree, Apart, lookup-promoted, lookup-set_value_other, lookup-set_value_same, lookup-remove_entry_other, lookup-remove_entry_same, lookup-take, none-found, no-entry, some-entry}
 

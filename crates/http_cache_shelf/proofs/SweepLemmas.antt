@@ -9,7 +9,7 @@ use Rattle.std.proofs.lemmas.List.Elements.{All-cons, All-head, All-tail, All-ni
 use Rattle.std.proofs.lemmas.Slice.Eq.{bytes_eq-Decides}
 use Rattle.lru.specs.LruCache.{promoted, last_entry}
 use Rattle.http_cache_shelf.specs.declared.memory.list.StoredList.{StoredList}
-use Rattle.http_cache_shelf.specs.Shelf.{IsSwept}
+use Rattle.http_cache_storage.specs.Shelf.{IsSwept}
 use Rattle.http_cache_shelf.specs.Memory.{all_seen, usable, is_text, stored_under, AreTextsWithin, IsLastText, IsTurned, IsTurnedOrRemoved, IsFirstDropped}
 use Rattle.http_cache_shelf.proofs.MapLemmas.{true≢false, one}
 

@@ -8,7 +8,7 @@ use Rattle.std.proofs.lemmas.List.Sums.{sum_by-append}
 use Rattle.lru.specs.LruCache.{promoted, last_entry}
 use Rattle.lru.proofs.CallerLemmas.{Contains-lookup_entry}
 use Rattle.http_cache_shelf.specs.declared.memory.list.StoredList.{StoredList}
-use Rattle.http_cache_shelf.specs.Shelf.{StoredSeen}
+use Rattle.http_cache_storage.specs.Shelf.{StoredSeen}
 use Rattle.http_cache_shelf.specs.Memory.{all_seen, all_stored, is_text}
 use Rattle.http_cache_shelf.specs.Size.{one}
 use Rattle.http_cache_shelf.proofs.Sums.{ones}

@@ -1,6 +1,6 @@
--- What a shelf stores, under which text, and how a shelf in memory keeps it.
+-- How a shelf in memory keeps what it stores.
+pub use Rattle.http_cache_storage.specs.Shelf
+pub use Rattle.http_cache_storage.specs.Target
 pub mod Contents
 pub mod Memory
-pub mod Shelf
 pub mod Size
-pub mod Target

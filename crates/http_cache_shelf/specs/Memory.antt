@@ -4,15 +4,15 @@ use Rattle.std.specs.List.{filter, flat_map}
 use Rattle.std.specs.Option.{option_map_or}
 use Rattle.std.specs.Map.{lookup}
 use Rattle.std.specs.declared.string.String.{String}
-use Rattle.http_cache_semantics.specs.Exchange.{Exchange}
+use Rattle.http_cache_policy.specs.Exchange.{Exchange}
 use Rattle.http_cache_messages.specs.Worth.{can_be_used_again}
-use Rattle.http_cache_shelf.specs.declared.shelf.StoredResponse.{StoredResponse}
+use Rattle.http_cache_storage.specs.declared.shelf.StoredResponse.{StoredResponse}
 use Rattle.lru.specs.LruCache.{LruCache}
 use Rattle.http_cache_shelf.specs.declared.memory.list.StoredList.{StoredList}
 use Rattle.http_cache_shelf.specs.declared.memory.limit.Limits.{Limits}
 use Rattle.http_cache_shelf.specs.declared.memory.size.Amount.{Amount}
 use Rattle.http_cache_shelf.specs.Size.{IsAmountOf, FitTogether}
-use Rattle.http_cache_shelf.specs.Shelf.{StoredSeen, StoredByTarget, KeepsOthers, KeepsAllOthers, AreNewestOf}
+use Rattle.http_cache_storage.specs.Shelf.{StoredSeen, StoredByTarget, KeepsOthers, KeepsAllOthers, AreNewestOf}
 
 -- a stored response as contracts see it
 abbrev pub seen_of : StoredResponse → StoredSeen

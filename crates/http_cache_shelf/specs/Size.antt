@@ -5,7 +5,7 @@ use Rattle.std.specs.FinMap as fin
 use Rattle.http_cache_fields.specs.Headers.{Headers}
 use Rattle.http_cache_shelf.specs.declared.memory.limit.Limits.{Limits}
 use Rattle.http_cache_shelf.specs.declared.memory.size.Amount.{Amount}
-use Rattle.http_cache_shelf.specs.Shelf.{StoredSeen}
+use Rattle.http_cache_storage.specs.Shelf.{StoredSeen}
 
 -- the bytes of the field lines of a name
 abbrev pub lines_size : List ℕ × List (List ℕ) → ℕ

@@ -4,8 +4,8 @@
 //! in the map), `bounds` and `sweep` (the whole map), and `state` (the map, the amounts and the ids).
 ghost use Rattle.std.specs.Prelude.{◌≡◌, ◌≤◌, ◌==◌, ◌↔◌, max, ℕ, List, [], All, false, length, IsTrue, IfOk, OnErr};
 ghost use Rattle.std.specs.List.{sum_by};
-ghost use Rattle.http_cache_shelf.specs.Shelf.{IsPutFirst, KeepsOthers, KeepsAll};
-ghost use Rattle.http_cache_shelf.specs.Target.{text_of};
+ghost use Rattle.http_cache_storage.specs.Shelf.{IsPutFirst, KeepsOthers, KeepsAll};
+ghost use Rattle.http_cache_storage.specs.Target.{text_of};
 ghost use Rattle.http_cache_shelf.specs.Size.{size_of};
 ghost use Rattle.http_cache_shelf.specs.Contents.{contents, limits_of, CanTake};
 
@@ -24,10 +24,9 @@ use crate::memory::map::{first_stored, promote, remove_texts, set_policy};
 use crate::memory::size::Amount;
 pub use crate::memory::state::MemoryShelf;
 use crate::memory::sweep::sweep_all;
-use crate::shelf::{ResponseId, Shelf, ShelfError, StoredResponse};
-use crate::target::Target;
 use bytes::Bytes;
-use http_cache_semantics::CachePolicy;
+use http_cache_policy::policy::CachePolicy;
+use http_cache_storage::{ResponseId, Shelf, ShelfError, StoredResponse, Target};
 use jiff::Timestamp;
 use lru::LruCache;
 use std::alloc::{AllocError, Global};
@@ -159,8 +158,8 @@ impl MemoryShelf {
 
 impl Shelf for MemoryShelf {
     ghost use Rattle.std.specs.Prelude.{◌≡◌, ◌+◌, None, length, IsOk, IfOk, OnOk, OnErr};
-    ghost use Rattle.http_cache_shelf.specs.Shelf.{IsSwept, IsInserted, KeepsAll, KeepsOthers, without};
-    ghost use Rattle.http_cache_shelf.specs.Target.{text_of};
+    ghost use Rattle.http_cache_storage.specs.Shelf.{IsSwept, IsInserted, KeepsAll, KeepsOthers, without};
+    ghost use Rattle.http_cache_storage.specs.Target.{text_of};
     ghost use Rattle.http_cache_shelf.specs.Memory.{stored_under, is_last_used};
     ghost use Rattle.http_cache_shelf.specs.Size.{FitsAlone};
     ghost use Rattle.http_cache_shelf.specs.Contents.{contents, limits_of};

@@ -8,9 +8,9 @@ use Rattle.std.proofs.Math.IntN.{nat_abs}
 use Rattle.std.proofs.lemmas.List.Elements.{Contains-append_left, Contains-push, Contains-push_cases, Contains-append_cases}
 use Rattle.sqlite.specs.Order.{Row}
 use Rattle.http_cache_semantics.specs.Exchange.{Exchange}
-use Rattle.http_cache_shelf.specs.declared.shelf.ResponseId.{ResponseId}
-use Rattle.http_cache_shelf.specs.declared.shelf.ShelfError.{ShelfError}
-use Rattle.http_cache_shelf.specs.Shelf.{StoredSeen, StoredByTarget, IsPutFirst, KeepsOthers, KeepsAll}
+use Rattle.http_cache_storage.specs.declared.shelf.ResponseId.{ResponseId}
+use Rattle.http_cache_storage.specs.declared.shelf.ShelfError.{ShelfError}
+use Rattle.http_cache_storage.specs.Shelf.{StoredSeen, StoredByTarget, IsPutFirst, KeepsOthers, KeepsAll}
 use Rattle.http_cache_store.specs.Row.{IsResponseOf}
 use Rattle.http_cache_store.specs.Loaded.{IsThis, IsOfRow, IsOfOne, Adds, AreOfRows}
 

@@ -12,7 +12,7 @@ use Rattle.http_uri.specs.Grammar.{AllPass, IsForm, IsScheme, normal_scheme, or_
 use Rattle.http_uri.specs.Uri.{Spells, uri_scheme, uri_authority, uri_data, uri_path, uri_query, uri_text}
 use Rattle.http_uri.proofs.Theorems.{uri_text_parses, uri_text_round_trip}
 use Rattle.http_cache_semantics.specs.Headers.{Headers, headers_of, first_text}
-use Rattle.http_cache_shelf.specs.Target.{named_authority, without_default_port, path_or_root, text_after, target_text}
+use Rattle.http_cache_storage.specs.Target.{named_authority, without_default_port, path_or_root, text_after, target_text}
 use Rattle.http_cache_store.specs.Target.{host_in, path_in, IsCut, IsAskedAs, IsTargetText}
 use Rattle.http_cache_store.proofs.TargetLemmas.{no_host}
 

@@ -15,8 +15,8 @@ use Rattle.http_header.specs.HeaderMap.{insert}
 use Rattle.http_cache_semantics.specs.Headers.{Headers, headers_of, first, first_text}
 use Rattle.http_cache_semantics.proofs.HeadersLemmas.{first-headers_of_none, headers_of-insert, values-set_same}
 use Rattle.http_cache_semantics.specs.Text.{is_text, text_of as visible_text}
-use Rattle.http_cache_shelf.specs.declared.target.Target.{Target}
-use Rattle.http_cache_shelf.specs.Target.{text_of, named_authority, without_default_port, text_after, target_text}
+use Rattle.http_cache_storage.specs.declared.target.Target.{Target}
+use Rattle.http_cache_storage.specs.Target.{text_of, named_authority, without_default_port, text_after, target_text}
 use Rattle.http_cache_store.specs.Target.{host_in, path_in, IsCut, IsAskedAs, IsMadeUp, IsFound, IsTargetText}
 
 -- the text is cut where a search finds the first `//`

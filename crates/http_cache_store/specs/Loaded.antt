@@ -5,7 +5,7 @@ use Rattle.sqlite.specs.Store.{Ghosts}
 use Rattle.sqlite.specs.State.{HasCleanDisk}
 use Rattle.sqlite.specs.Held.{Held, state}
 use Rattle.http_cache_semantics.specs.Exchange.{Exchange}
-use Rattle.http_cache_shelf.specs.Shelf.{StoredSeen, StoredByTarget}
+use Rattle.http_cache_storage.specs.Shelf.{StoredSeen, StoredByTarget}
 use Rattle.http_cache_store.specs.Row.{IsResponseOf}
 use Rattle.http_cache_store.specs.Showing.{ShowsFirst, rows_text}
 

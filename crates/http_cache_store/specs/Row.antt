@@ -5,7 +5,7 @@ use Rattle.sqlite.specs.declared.types.Value.TheVariants.{Int, Text, Blob}
 use Rattle.http_cache_semantics.specs.Exchange.{Exchange}
 use Rattle.http_cache_semantics.specs.Kept.{kept_exchange}
 use Rattle.http_cache_semantics.specs.Stored.{ReadsBack, with_target}
-use Rattle.http_cache_shelf.specs.Target.{text_of}
+use Rattle.http_cache_storage.specs.Target.{text_of}
 use Rattle.http_cache_store.specs.declared.row.Found.{Found}
 use Rattle.http_cache_store.specs.declared.row.Found.TheVariants.{Response, Unreadable}
 use Rattle.http_cache_store.specs.Target.{IsTargetText}

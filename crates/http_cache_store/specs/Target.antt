@@ -4,8 +4,8 @@ use Rattle.std.specs.List.{before_first}
 use Rattle.http_uri.specs.Uri.{Spells}
 use Rattle.http_uri.specs.declared.uri.Uri.{Uri}
 use Rattle.http_cache_semantics.specs.Headers.{Headers, first_text}
-use Rattle.http_cache_shelf.specs.Target.{text_of, target_text}
-use Rattle.http_cache_shelf.specs.declared.target.Target.{Target}
+use Rattle.http_cache_storage.specs.Target.{text_of, target_text}
+use Rattle.http_cache_storage.specs.declared.target.Target.{Target}
 
 -- the text is cut at its first `//`
 pub record IsCut (text front rest : List ℕ) : Type 0 where

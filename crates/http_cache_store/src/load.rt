@@ -3,8 +3,8 @@ ghost use Rattle.std.specs.Prelude.{List, OnOk};
 ghost use Rattle.sqlite.specs.Order.{Row as SeenRow};
 ghost use Rattle.sqlite.specs.Held.{state};
 ghost use Rattle.sqlite.specs.State.{HasCleanDisk};
-ghost use Rattle.http_cache_shelf.specs.Shelf.{KeepsAll};
-ghost use Rattle.http_cache_shelf.specs.Target.{text_of};
+ghost use Rattle.http_cache_storage.specs.Shelf.{KeepsAll};
+ghost use Rattle.http_cache_storage.specs.Target.{text_of};
 ghost use Rattle.http_cache_store.specs.Showing.{ShowsFirst, rows_text};
 ghost use Rattle.http_cache_store.specs.Loaded.{IsThis, IsOfRow, IsOfOne, Adds};
 

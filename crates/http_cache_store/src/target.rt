@@ -6,7 +6,7 @@ ghost use Rattle.http_uri.specs.Uri.{Spells, SpellsNone};
 ghost use Rattle.http_uri.specs.declared.uri.Uri.{Uri as SeenUri};
 ghost use Rattle.http_cache_semantics.specs.Headers.{Headers, headers_of, first_text};
 ghost use Rattle.http_cache_semantics.specs.Text.{text_of as visible_text};
-ghost use Rattle.http_cache_shelf.specs.Target.{text_of};
+ghost use Rattle.http_cache_storage.specs.Target.{text_of};
 ghost use Rattle.http_cache_store.specs.Target.{host_in, path_in, IsMadeUp, IsFound, IsTargetText};
 
 use crate::error::StoreError;

@@ -8,7 +8,7 @@ use crate::memory::limit::Limits;
 use crate::memory::list::Kept;
 use crate::memory::map::tidy;
 use crate::memory::size::Amount;
-use crate::shelf::ResponseId;
+use http_cache_storage::ResponseId;
 
 // Removes the text that was used longest ago, and lists the ids of its responses.
 fn evict_one(kept: &mut Kept, held: &mut Amount, evicted: &mut Vec<ResponseId>)

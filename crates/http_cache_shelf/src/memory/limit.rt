@@ -4,9 +4,9 @@ ghost use Rattle.http_cache_shelf.specs.Memory.{seen_of};
 ghost use Rattle.http_cache_shelf.specs.Size.{FitsAlone, FitTogether, IsAllowed};
 
 use crate::memory::size::{Amount, response_size, total_size};
-use crate::shelf::StoredResponse;
 use bytes::Bytes;
-use http_cache_semantics::CachePolicy;
+use http_cache_policy::policy::CachePolicy;
+use http_cache_storage::StoredResponse;
 
 /// How much a shelf in memory stores at most.
 #[derive(Clone, Copy, Debug, PartialEq, Eq)]

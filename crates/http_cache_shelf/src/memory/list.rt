@@ -5,16 +5,16 @@
 ghost use Rattle.std.specs.Prelude.{◌≡◌, ◌-◌, ◌<◌, ◌≤◌, ◌∷◌, [], ℕ, length, map, take, not, nat_eq, vec_len, vec_capacity, option_copied, is_some, position, IsOk, IfOk, OnOk, OnErr};
 ghost use Rattle.std.specs.List.{filter, find, list_any};
 ghost use Rattle.http_cache_messages.specs.Worth.{can_be_used_again};
-ghost use Rattle.http_cache_shelf.specs.Shelf.{without, renewed, has_id, stored_body};
+ghost use Rattle.http_cache_storage.specs.Shelf.{without, renewed, has_id, stored_body};
 ghost use Rattle.http_cache_shelf.specs.Size.{IsAmountOf, IsOfList, FitTogether};
 ghost use Rattle.http_cache_shelf.specs.Memory.{AreLeft, IsRenewedAt, seen_of};
 
 use crate::memory::limit::Limits;
 use crate::memory::size::{Amount, total_size};
-use crate::shelf::{ResponseId, ShelfError, StoredResponse};
 use bytes::Bytes;
 use http_cache_messages::worth::can_be_used_again;
-use http_cache_semantics::CachePolicy;
+use http_cache_policy::policy::CachePolicy;
+use http_cache_storage::{ResponseId, ShelfError, StoredResponse};
 use jiff::Timestamp;
 use lru::LruCache;
 use std::alloc::{AllocError, Global};

@@ -4,17 +4,16 @@
 //! functions know nothing of limits. Those that change what is stored keep `held` the amount of it.
 ghost use Rattle.std.specs.Prelude.{◌≡◌, ◌∷◌, [], true, false, None, OnOk, OnErr, IsTrue, string_bytes, map};
 ghost use Rattle.std.specs.Map.{lookup};
-ghost use Rattle.http_cache_shelf.specs.Shelf.{without, renewed, has_id, RemovesThese, ShowsAll};
-ghost use Rattle.http_cache_shelf.specs.Target.{text_of};
+ghost use Rattle.http_cache_storage.specs.Shelf.{without, renewed, has_id, RemovesThese, ShowsAll};
+ghost use Rattle.http_cache_storage.specs.Target.{text_of};
 ghost use Rattle.http_cache_shelf.specs.Memory.{all_seen, seen_of, stored_under, is_last_used, is_text, HasUnder, IsOnTop, KeepsTexts, KeepsTextsBut, IsHeld, IsFirstText};
 ghost use Rattle.http_cache_shelf.specs.Size.{IsAtMost, IsSmall};
 ghost use Rattle.http_cache_shelf.specs.declared.memory.size.Amount.{Amount as Held};
 
 use crate::memory::list::{Kept, StoredList, list_of_one};
 use crate::memory::size::Amount;
-use crate::shelf::{ResponseId, ShelfError, StoredResponse};
-use crate::target::Target;
-use http_cache_semantics::CachePolicy;
+use http_cache_policy::policy::CachePolicy;
+use http_cache_storage::{ResponseId, ShelfError, StoredResponse, Target};
 use std::alloc::Global;
 
 /// Makes a text the one that was used last.

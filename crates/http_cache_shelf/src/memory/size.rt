@@ -5,10 +5,10 @@ ghost use Rattle.http_cache_fields.specs.Headers.{headers_of};
 ghost use Rattle.http_cache_shelf.specs.Memory.{seen_of};
 ghost use Rattle.http_cache_shelf.specs.Size.{headers_size, response_size as size_of_response, size_of, replaced, IsAtMost, IsSmall, IsOfList};
 
-use crate::shelf::StoredResponse;
 use bytes::Bytes;
 use http::HeaderMap;
-use http_cache_semantics::CachePolicy;
+use http_cache_policy::policy::CachePolicy;
+use http_cache_storage::StoredResponse;
 
 /// A number of stored responses, and the bytes that they count for.
 ///

@@ -3,8 +3,8 @@
 //! The struct counts what is stored and assigns the ids. Its ghost fields say that what is stored is
 //! within the limits after every call.
 ghost use Rattle.std.specs.Prelude.{◌≡◌, ◌<◌, ◌≤◌, ◌↔◌, ℕ, List, string_capacity, IsTrue, OnOk, OnErr};
-ghost use Rattle.http_cache_shelf.specs.Shelf.{without, AreIdsBelow, IsPutFirst, KeepsOthers, KeepsAll};
-ghost use Rattle.http_cache_shelf.specs.Target.{text_of};
+ghost use Rattle.http_cache_storage.specs.Shelf.{without, AreIdsBelow, IsPutFirst, KeepsOthers, KeepsAll};
+ghost use Rattle.http_cache_storage.specs.Target.{text_of};
 ghost use Rattle.http_cache_shelf.specs.Size.{FitsAlone, AreFitting, IsAllowed, IsSmall};
 ghost use Rattle.http_cache_shelf.specs.Memory.{stored_under, AreTextsWithin, HasUnder, IsHeld};
 
@@ -14,10 +14,9 @@ use crate::memory::list::Kept;
 use crate::memory::map::{put_stored, remove_ids, tidy};
 use crate::memory::size::Amount;
 use crate::memory::sweep::make_room;
-use crate::shelf::{ResponseId, ShelfError, StoredResponse};
-use crate::target::Target;
 use bytes::Bytes;
-use http_cache_semantics::CachePolicy;
+use http_cache_policy::policy::CachePolicy;
+use http_cache_storage::{ResponseId, ShelfError, StoredResponse, Target};
 use std::alloc::Global;
 
 /// Stored responses in memory, which are lost when the process ends.

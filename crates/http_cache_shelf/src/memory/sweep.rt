@@ -3,7 +3,7 @@
 //! The map lends a list only by its key, so each turn copies the key of the last entry into a buffer,
 //! sweeps that entry and makes it the first. After as many turns as entries the order is as before.
 ghost use Rattle.std.specs.Prelude.{◌≡◌, ◌⊎◌, ◌<◌, ◌≤◌, [], true, length, slice_get, string_bytes, string_capacity, IfSome, OnOk, OnErr};
-ghost use Rattle.http_cache_shelf.specs.Shelf.{IsSwept};
+ghost use Rattle.http_cache_storage.specs.Shelf.{IsSwept};
 ghost use Rattle.http_cache_shelf.specs.Memory.{stored_under, all_seen, AreTextsWithin, IsLastText, IsTurned, IsTurnedOrRemoved, IsFirstDropped, IsHeld};
 ghost use Rattle.http_cache_shelf.specs.Size.{IsAtMost};
 ghost use Rattle.http_cache_shelf.specs.declared.memory.size.Amount.{Amount as Held};

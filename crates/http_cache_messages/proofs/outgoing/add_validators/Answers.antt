@@ -1,6 +1,6 @@
 -- One condition is added after the other.
 use Rattle.std.proofs.Common.{codes, ◌∙◌}
-use Rattle.http_cache_semantics.specs.Headers.{headers_of}
+use Rattle.http_cache_fields.specs.Headers.{headers_of}
 use Rattle.http_cache_messages.specs.Outgoing.{set_if_some}
 use Rattle.http_cache_messages.proofs.outgoing.add_validators.Goals as goal
 

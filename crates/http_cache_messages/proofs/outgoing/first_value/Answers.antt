@@ -1,6 +1,6 @@
 -- What `get` shows is the first value.
 use Rattle.std.proofs.Common.{ap, sym, ◌∙◌, option_map}
-use Rattle.http_cache_semantics.proofs.HeadersLemmas.{first-headers_of}
+use Rattle.http_cache_fields.proofs.HeadersLemmas.{first-headers_of}
 use Rattle.http_cache_messages.proofs.OutgoingLemmas.{bytes-copied}
 use Rattle.http_cache_messages.proofs.outgoing.first_value.Goals as goal
 

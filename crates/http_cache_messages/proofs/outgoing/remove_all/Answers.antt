@@ -4,8 +4,8 @@ use Rattle.std.specs.Borrow.{Bor}
 use Rattle.std.specs.FinMap as fin
 use Rattle.std.proofs.lemmas.List.{map_more}
 use Rattle.http_header.specs.Token.{lowercase}
-use Rattle.http_cache_semantics.specs.Headers.{Headers, headers_of}
-use Rattle.http_cache_semantics.specs.Forwarding.{without_named}
+use Rattle.http_cache_fields.specs.Headers.{Headers, headers_of}
+use Rattle.http_cache_rules.specs.Forwarding.{without_named}
 use Rattle.http_cache_rules.proofs.ForwardingLemmas.{without_named-none, without_named-push}
 use Rattle.http_cache_messages.proofs.outgoing.remove_all.Goals as goal
 

@@ -1,7 +1,7 @@
 -- While names are taken away, the headers are without those so far.
 use Rattle.std.proofs.Common.{◌≡◌, map, take}
-use Rattle.http_cache_semantics.specs.Headers.{headers_of}
-use Rattle.http_cache_semantics.specs.Forwarding.{without_named}
+use Rattle.http_cache_fields.specs.Headers.{headers_of}
+use Rattle.http_cache_rules.specs.Forwarding.{without_named}
 use Rattle.http_cache_messages.proofs.outgoing.remove_all.Given as goal
 
 abbrev pub invariant-loop-name : goal.invariant-loop-name

@@ -1,8 +1,8 @@
 -- What is passed on, without what is taken off, and with the stored validators.
 use Rattle.std.proofs.Common.{ap, sym, subst, ◌∙◌}
 use Rattle.http.specs.Request.{head_of}
-use Rattle.http_cache_semantics.specs.Headers.{headers_of}
-use Rattle.http_cache_semantics.specs.Forwarding.{without_named, forwarded_headers}
+use Rattle.http_cache_fields.specs.Headers.{headers_of}
+use Rattle.http_cache_rules.specs.Forwarding.{without_named, forwarded_headers}
 use Rattle.http_cache_messages.specs.Outgoing.{removed_fields, with_validators, validating, IsClean}
 use Rattle.http_cache_messages.proofs.OutgoingLemmas.{IsClean-validating}
 use Rattle.http_cache_messages.proofs.outgoing.validation_request.Goals as goal
@@ -14,7 +14,7 @@ returns-clause-value c =
     ∙ (λ i. with_validators (c.stored_headers.ensures i)
     ((c.remove_all.ensures
     ∙ ap (without_named removed_fields)
-    (c.in_ok-headers.ensures.value ∙ ap (λ m. forwarded_headers (headers_of m)) c.headers.ensures)) i))
+    (c.in_ok-headers.ensures ∙ ap (λ m. forwarded_headers (headers_of m)) c.headers.ensures)) i))
 
 pub returns-clause-clean : goal.returns-clause-clean
 returns-clause-clean c =

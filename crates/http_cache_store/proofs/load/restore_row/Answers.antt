@@ -1,7 +1,7 @@
 -- What was restored was read of the row.
 use Rattle.std.proofs.Common.{SFits, w64, rules}
 use Rattle.std.proofs.Math.Facts.{to_z-of_z}
-use Rattle.http_cache_shelf.specs.Target.{text_of}
+use Rattle.http_cache_storage.specs.Target.{text_of}
 use Rattle.http_cache_store.proofs.LoadLemmas.{on_ok, adds_of_row}
 use Rattle.http_cache_store.proofs.load.restore_row.Goals as goal
 

@@ -2,7 +2,7 @@
 use Rattle.std.proofs.Common.{◌≡◌}
 use Rattle.sqlite.specs.State.{HasCleanDisk}
 use Rattle.sqlite.specs.Held.{state}
-use Rattle.http_cache_shelf.specs.Shelf.{KeepsAll}
+use Rattle.http_cache_storage.specs.Shelf.{KeepsAll}
 use Rattle.http_cache_shelf.specs.Memory.{stored_under}
 use Rattle.http_cache_store.proofs.load.use_all.Given as goal
 

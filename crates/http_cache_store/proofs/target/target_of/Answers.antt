@@ -1,7 +1,7 @@
 -- The target of the request that is made up from the text is another one, or there is no such request.
 use Rattle.std.proofs.Common.{◌≡◌, ap, sym, ◌∙◌}
 use Rattle.std.proofs.lemmas.Slice.Eq.{bytes_eq-Decides}
-use Rattle.http_cache_shelf.specs.Target.{text_of}
+use Rattle.http_cache_storage.specs.Target.{text_of}
 use Rattle.http_cache_store.proofs.TargetLemmas.{no_target}
 use Rattle.http_cache_store.proofs.target.target_of.Goals as goal
 use Rattle.http_cache_store.proofs.target.target_of.Goals.{in_default-via-in-Some+else-eq, in_default-via-in_default}

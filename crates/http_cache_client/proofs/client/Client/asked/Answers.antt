@@ -2,8 +2,8 @@
 use Rattle.std.proofs.Common.{◌≡◌, ℕ, List, true, Option, Some, IfOk, IfSome, rules, sym, subst, inl}
 use Rattle.http.specs.Request.{head_of}
 use Rattle.http_cache_fields.specs.Headers.{headers_of}
-use Rattle.http_cache_shelf.specs.Shelf.{StoredByTarget, ShowsAll}
-use Rattle.http_cache_shelf.specs.Target.{text_of}
+use Rattle.http_cache_storage.specs.Shelf.{StoredByTarget, ShowsAll}
+use Rattle.http_cache_storage.specs.Target.{text_of}
 use Rattle.http.specs.Response.{head_of as head_of_response}
 use Rattle.http.specs.declared.response.Response.{Response}
 use Rattle.http_cache_client.specs.Ask.{HasStoredStatus, IsAnswered}

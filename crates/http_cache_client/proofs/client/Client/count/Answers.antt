@@ -1,8 +1,8 @@
 -- As many are stored as the look-up showed.
 use Rattle.std.proofs.Common.{length, sym, ap, ◌∙◌}
 use Rattle.std.proofs.lemmas.Slice.Zip.{AllZip-long}
-use Rattle.http_cache_shelf.specs.Shelf.{IsShownAs, StoredByTarget}
-use Rattle.http_cache_shelf.specs.Target.{text_of}
+use Rattle.http_cache_storage.specs.Shelf.{IsShownAs, StoredByTarget}
+use Rattle.http_cache_storage.specs.Target.{text_of}
 use Rattle.http_cache_client.proofs.client.Client.count.Goals as goal
 
 pub returns-clause-count : goal.returns-clause-count

@@ -1,6 +1,6 @@
 -- The responses of one more target are counted.
 use Rattle.std.proofs.Common.{arith}
-use Rattle.http_cache_shelf.specs.Target.{text_of}
+use Rattle.http_cache_storage.specs.Target.{text_of}
 use Rattle.http_cache_client.proofs.CountLemmas.{counted, kept_twice}
 use Rattle.http_cache_client.proofs.client.Client.count_all.Goals as goal
 

@@ -1,7 +1,7 @@
 -- Nothing is changed, and the responses of the targets before the one at hand are counted.
 use Rattle.std.proofs.Common.{◌≡◌, map, take}
-use Rattle.http_cache_shelf.specs.Shelf.{KeepsAll}
-use Rattle.http_cache_shelf.specs.Target.{text_of}
+use Rattle.http_cache_storage.specs.Shelf.{KeepsAll}
+use Rattle.http_cache_storage.specs.Target.{text_of}
 use Rattle.http_cache_client.specs.Remove.{stored_count}
 use Rattle.http_cache_client.proofs.client.Client.count_all.Given as goal
 

@@ -1,7 +1,7 @@
 -- Nothing has changed before the change that is made.
 use Rattle.std.proofs.Common.{subst}
-use Rattle.http_cache_shelf.specs.Shelf.{StoredByTarget, KeepsOthers}
-use Rattle.http_cache_shelf.specs.Target.{text_of}
+use Rattle.http_cache_storage.specs.Shelf.{StoredByTarget, KeepsOthers}
+use Rattle.http_cache_storage.specs.Target.{text_of}
 use Rattle.http_cache_client.proofs.client.Client.stored.Goals as goal
 
 pub returns-clause-others : goal.returns-clause-others

@@ -1,6 +1,6 @@
 -- A reply that refuses nothing ends the request whose outcome the frame hands over.
 use Rattle.serde_json.specs.View.{view}
-use Rattle.http_cache_session.proofs.HandedLemmas.{handed}
+use Rattle.http_cache_wire.proofs.HandedLemmas.{handed}
 use Rattle.http_cache_session.proofs.session.Session.answer.Goals as goal
 
 pub returns-after-matches-clause-over : goal.returns-after-matches-clause-over

@@ -1,6 +1,6 @@
 -- What is left has ids and texts that were stored.
 use Rattle.std.proofs.Common.{string_capacity, map}
-use Rattle.http_cache_shelf.specs.Target.{text_of}
+use Rattle.http_cache_storage.specs.Target.{text_of}
 use Rattle.http_cache_shelf.specs.Memory.{stored_under}
 use Rattle.http_cache_shelf.proofs.FitLemmas.{fit-removed}
 use Rattle.http_cache_shelf.proofs.HeldLemmas.{allowed-less}

@@ -1,6 +1,6 @@
 -- The first text is shortened, then texts are evicted, and then the first text if nothing is left of it.
 use Rattle.std.proofs.Common.{◌≡◌, arith, List, length, ap, inl, inr}
-use Rattle.http_cache_shelf.specs.Shelf.{StoredSeen}
+use Rattle.http_cache_storage.specs.Shelf.{StoredSeen}
 use Rattle.http_cache_shelf.specs.Memory.{stored_under, all_seen}
 use Rattle.http_cache_shelf.specs.Size.{IsAllowed}
 use Rattle.http_cache_shelf.proofs.BoundsLemmas.{bounded, fewer, own-left, alone-allowed}

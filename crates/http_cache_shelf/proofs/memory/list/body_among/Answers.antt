@@ -1,6 +1,6 @@
 -- The first response of the id is the first one that is found.
 use Rattle.std.proofs.Common.{Some, nat_eq, ap, sym, ◌∙◌, option_map, option_copied}
-use Rattle.http_cache_shelf.specs.Shelf.{StoredSeen}
+use Rattle.http_cache_storage.specs.Shelf.{StoredSeen}
 use Rattle.http_cache_shelf.specs.Memory.{seen_of}
 use Rattle.http_cache_shelf.proofs.ListLemmas.{find-seen_of}
 use Rattle.http_cache_shelf.proofs.memory.list.body_among.Goals as goal

@@ -2,7 +2,7 @@
 use Rattle.std.proofs.Common.{rules, not, nat_eq}
 use Rattle.std.specs.List.{list_any}
 use Rattle.std.proofs.lemmas.Fn.{filter_same}
-use Rattle.http_cache_shelf.specs.declared.shelf.StoredResponse.{StoredResponse}
+use Rattle.http_cache_storage.specs.declared.shelf.StoredResponse.{StoredResponse}
 use Rattle.http_cache_shelf.proofs.memory.list.drop_ids.Goals as goal
 
 pub returns-clause-stored : goal.returns-clause-stored

@@ -1,6 +1,6 @@
 -- What is written at the index is the response with the new policy.
 use Rattle.std.proofs.Common.{ap, set}
-use Rattle.http_cache_shelf.specs.declared.shelf.StoredResponse.{StoredResponse}
+use Rattle.http_cache_storage.specs.declared.shelf.StoredResponse.{StoredResponse}
 use Rattle.http_cache_shelf.proofs.ListLemmas.{renewed-there}
 use Rattle.http_cache_shelf.proofs.memory.list.set_policy_at.Goals as goal
 

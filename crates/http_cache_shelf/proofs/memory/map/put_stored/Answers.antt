@@ -3,7 +3,7 @@ use Rattle.std.proofs.Common.{◌≡◌, ◌∷◌, [], Some, ap, sym, ◌∙◌
 use Rattle.std.specs.Map.{lookup, set_value}
 use Rattle.std.specs.Option.{option_copied_mut, option_map_or}
 use Rattle.lru.specs.LruCache.{promoted}
-use Rattle.http_cache_shelf.specs.Shelf.{without}
+use Rattle.http_cache_storage.specs.Shelf.{without}
 use Rattle.http_cache_shelf.specs.Memory.{seen_of, all_seen, is_text, stored_under, IsOnTop}
 use Rattle.http_cache_shelf.specs.declared.memory.list.StoredList.{StoredList}
 use Rattle.http_cache_shelf.specs.Size.{replaced, IsAtMost}

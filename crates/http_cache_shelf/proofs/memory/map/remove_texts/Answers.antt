@@ -1,8 +1,8 @@
 -- One text more in each turn.
 use Rattle.std.proofs.Common.{◌≡◌, rules, arith, List, ℕ, [], ◌∷◌, ◌++◌, map, take, get_or, ap, sym, subst, ◌∙◌}
 use Rattle.std.proofs.lemmas.List.{map_more}
-use Rattle.http_cache_shelf.specs.Shelf.{RemovesThese}
-use Rattle.http_cache_shelf.specs.Target.{text_of}
+use Rattle.http_cache_storage.specs.Shelf.{RemovesThese}
+use Rattle.http_cache_storage.specs.Target.{text_of}
 use Rattle.http_cache_shelf.specs.Memory.{stored_under}
 use Rattle.http_cache_shelf.proofs.HeldLemmas.{less-less}
 use Rattle.http_cache_shelf.proofs.MapLemmas.{removes-more}

@@ -1,7 +1,7 @@
 -- Nothing is stored under the texts so far.
 use Rattle.std.proofs.Common.{map, take}
-use Rattle.http_cache_shelf.specs.Shelf.{RemovesThese}
-use Rattle.http_cache_shelf.specs.Target.{text_of}
+use Rattle.http_cache_storage.specs.Shelf.{RemovesThese}
+use Rattle.http_cache_storage.specs.Target.{text_of}
 use Rattle.http_cache_shelf.specs.Memory.{stored_under, KeepsTexts, IsHeld}
 use Rattle.http_cache_shelf.specs.Size.{IsAtMost}
 use Rattle.http_cache_shelf.proofs.memory.map.remove_texts.Given as goal

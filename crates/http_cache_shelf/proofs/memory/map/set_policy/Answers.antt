@@ -2,7 +2,7 @@
 use Rattle.std.proofs.Common.{◌≡◌, [], Option, Some, ap, sym, ◌∙◌}
 use Rattle.std.specs.Map.{lookup}
 use Rattle.std.specs.Option.{option_copied_mut, option_map_or}
-use Rattle.http_cache_shelf.specs.Shelf.{renewed, has_id}
+use Rattle.http_cache_storage.specs.Shelf.{renewed, has_id}
 use Rattle.http_cache_shelf.specs.declared.memory.list.StoredList.{StoredList}
 use Rattle.http_cache_shelf.specs.Memory.{all_seen, is_text}
 use Rattle.http_cache_shelf.proofs.MapLemmas.{stored-changed}

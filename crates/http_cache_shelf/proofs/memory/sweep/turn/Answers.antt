@@ -3,7 +3,7 @@ use Rattle.std.proofs.Common.{◌≡◌, Some, None, ap, sym, ◌∙◌}
 use Rattle.std.specs.Map.{lookup}
 use Rattle.std.specs.Option.{option_copied_mut}
 use Rattle.http_cache_shelf.specs.Memory.{is_text, all_seen}
-use Rattle.http_cache_shelf.specs.Shelf.{StoredSeen}
+use Rattle.http_cache_storage.specs.Shelf.{StoredSeen}
 use Rattle.http_cache_messages.specs.Worth.{can_be_used_again}
 use Rattle.http_cache_shelf.specs.Size.{replaced, IsAtMost}
 use Rattle.http_cache_shelf.proofs.HeldLemmas.{found-less, held-written, kept-less, less-as, replaced-less}

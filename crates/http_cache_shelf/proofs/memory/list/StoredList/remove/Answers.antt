@@ -1,7 +1,7 @@
 -- What contracts see of what is left is left of what they saw.
 use Rattle.std.proofs.Common.{not, nat_eq, map, ap, sym, ◌∙◌}
 use Rattle.std.specs.List.{list_any}
-use Rattle.http_cache_shelf.specs.Shelf.{StoredSeen}
+use Rattle.http_cache_storage.specs.Shelf.{StoredSeen}
 use Rattle.http_cache_shelf.specs.Memory.{seen_of}
 use Rattle.http_cache_shelf.proofs.ListLemmas.{filter-seen_of}
 use Rattle.http_cache_shelf.proofs.memory.list.StoredList.remove.Goals as goal

@@ -1,6 +1,6 @@
 -- The first response of the id has the new policy.
 use Rattle.std.proofs.Common.{◌≡◌, Some, None, is_some, nat_eq, position, ap, sym, ◌∙◌}
-use Rattle.http_cache_shelf.specs.declared.shelf.StoredResponse.{StoredResponse}
+use Rattle.http_cache_storage.specs.declared.shelf.StoredResponse.{StoredResponse}
 use Rattle.http_cache_shelf.proofs.ListLemmas.{renewed-first, renewed-nowhere, is_named}
 use Rattle.http_cache_shelf.proofs.memory.list.StoredList.set_policy.Goals as goal
 

@@ -1,7 +1,7 @@
 -- A response is stored as by `put`, with none superseded.
 use Rattle.std.proofs.Common.{List, subst}
-use Rattle.http_cache_shelf.specs.Shelf.{StoredSeen, IsPutFirst}
-use Rattle.http_cache_shelf.specs.Target.{text_of}
+use Rattle.http_cache_storage.specs.Shelf.{StoredSeen, IsPutFirst}
+use Rattle.http_cache_storage.specs.Target.{text_of}
 use Rattle.http_cache_shelf.specs.Memory.{stored_under}
 use Rattle.http_cache_shelf.proofs.ListLemmas.{without-none}
 use Rattle.http_cache_shelf.proofs.memory.state.MemoryShelf.restore.Goals as goal

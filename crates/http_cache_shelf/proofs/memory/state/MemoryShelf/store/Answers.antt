@@ -1,7 +1,7 @@
 -- The new response is put first, is left there, and all is within the limits.
 use Rattle.std.proofs.Common.{◌≤◌, ◌+◌, ◌∷◌, arith, length, string_capacity, ap, inl, refl, subst, sym}
-use Rattle.http_cache_shelf.specs.Shelf.{StoredSeen, StoredByTarget, without}
-use Rattle.http_cache_shelf.specs.Target.{text_of}
+use Rattle.http_cache_storage.specs.Shelf.{StoredSeen, StoredByTarget, without}
+use Rattle.http_cache_storage.specs.Target.{text_of}
 use Rattle.http_cache_shelf.specs.Size.{IsSmall}
 use Rattle.http_cache_shelf.specs.Memory.{stored_under}
 use Rattle.http_cache_shelf.proofs.BoundsLemmas.{inserted, first-text, others-after, put-can-stay}

@@ -1,13 +1,13 @@
 -- A frame that hands over an outcome is read as one that does.
-use Rattle.std.proofs.Common.{◌≡◌, ◌⊎◌, ℕ, List, Option, Some, None, Bool, true, codes, is_some, option_and_then, sym, ap, subst, ◌∙◌, inl, inr}
+use Rattle.std.proofs.Common.{◌≡◌, ◌⊎◌, ℕ, List, Option, Some, None, true, codes, is_some, option_and_then, sym, ap, subst, ◌∙◌, inl, inr}
 use Rattle.std.proofs.lemmas.Bool.{false≢true}
 use Rattle.std.proofs.lemmas.Option.{none-some}
 use Rattle.serde_json.specs.Data.{Data}
 use Rattle.serde_json.specs.Find.{get, as_number, as_u64}
 use Rattle.http_cache_frames.specs.Line.{exact, number_under}
-use Rattle.http_cache_session.specs.Session.{HandsOver, HandsOverNothing, IsAskedBy}
-use Rattle.http_cache_session.specs.declared.asked.Asked.{Asked}
-use Rattle.http_cache_session.specs.declared.asked.Asked.TheVariants.{Ask, Received, Failed, Remove, Sweep, Stats, Quit}
+use Rattle.http_cache_wire.specs.Wire.{HandsOver, HandsOverNothing, IsAskedBy}
+use Rattle.http_cache_wire.specs.declared.asked.Asked.{Asked}
+use Rattle.http_cache_wire.specs.declared.asked.Asked.TheVariants.{Ask, Received, Failed, Remove, Sweep, Stats, Quit}
 
 -- what isn't there is no number
 absent : (name : List ℕ) (line : Data) (token : ℕ) → get name line ≡ None → number_under name line ≡ Some token → ⊥

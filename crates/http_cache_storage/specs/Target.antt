@@ -3,8 +3,8 @@ use Rattle.std.specs.Prelude.{ℕ, ◌-◌, List, [], ◌∷◌, ◌++◌, Optio
 use Rattle.http_uri.specs.ByteClasses.{lowercase, framed_text}
 use Rattle.http_uri.specs.Uri.{uri_scheme, uri_authority, uri_path, uri_query}
 use Rattle.http_uri.specs.declared.uri.Uri.{Uri}
-use Rattle.http_cache_semantics.specs.Headers.{Headers, first_text}
-use Rattle.http_cache_shelf.specs.declared.target.Target.{Target}
+use Rattle.http_cache_fields.specs.Headers.{Headers, first_text}
+use Rattle.http_cache_storage.specs.declared.target.Target.{Target}
 
 -- the text of a target
 abbrev pub text_of : Target → List ℕ

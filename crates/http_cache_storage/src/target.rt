@@ -4,9 +4,9 @@
 //! resolved here and nowhere else.
 ghost use Rattle.std.specs.Prelude.{◌≡◌, ◌++◌, IfOk, codes, option_copied, string_bytes};
 ghost use Rattle.http_uri.specs.ByteClasses.{lowercase};
-ghost use Rattle.http_cache_semantics.specs.Headers.{headers_of};
-ghost use Rattle.http_cache_shelf.specs.Target.{text_of, target_text, without_ending, without_default_port};
-ghost use Rattle.http_cache_shelf.specs.Target.{scheme_of, authority_of, text_after};
+ghost use Rattle.http_cache_fields.specs.Headers.{headers_of};
+ghost use Rattle.http_cache_storage.specs.Target.{text_of, target_text, without_ending, without_default_port};
+ghost use Rattle.http_cache_storage.specs.Target.{scheme_of, authority_of, text_after};
 
 use http::header::HOST;
 use http::{HeaderMap, Uri};

@@ -3,7 +3,7 @@ ghost use Rattle.std.specs.Prelude.{IfOk};
 ghost use Rattle.http.specs.Response.{body_of};
 ghost use Rattle.serde_json.specs.View.{view};
 ghost use Rattle.http_cache_plans.specs.Plan.{IsElsewhere};
-ghost use Rattle.http_cache_session.specs.Session.{HasRest, IsWithCaller};
+ghost use Rattle.http_cache_wire.specs.Wire.{HasRest, IsWithCaller};
 
 use crate::fault::Fault;
 use bytes::Bytes;
@@ -24,7 +24,7 @@ const PLACE: &[u8] = b"-";
 
 /// Where the body of a message is.
 #[derive(Clone, Copy, Debug, PartialEq, Eq)]
-pub(crate) enum Place {
+pub enum Place {
     /// In the frame.
     Here,
     /// With the caller; of this length, if that is known.
@@ -33,7 +33,7 @@ pub(crate) enum Place {
 
 impl Place {
     /// Returns where the body of a frame's message is.
-    pub(crate) fn of(frame: &Frame) -> Result<Place, Fault>
+    pub fn of(frame: &Frame) -> Result<Place, Fault>
         ensures rest { HasRest (view frame.now.line) → IfOk result IsWithCaller }
     {
         if !has_member(&frame.line, "rest") {
@@ -51,7 +51,7 @@ impl Place {
     }
 
     /// Returns what an intermediary says of a body of this length in the frame, or of the caller's.
-    pub(crate) fn content(self, length: usize) -> Content {
+    pub fn content(self, length: usize) -> Content {
         match self {
             Place::Here => Content::Known(length as u64),
             Place::Caller(Some(length)) => Content::Known(length),
@@ -61,18 +61,18 @@ impl Place {
 }
 
 /// Returns the time under a name, which is in milliseconds since 1970 and not after 9999.
-pub(crate) fn time_under(line: &Value, name: &str) -> Option<Timestamp> {
+pub fn time_under(line: &Value, name: &str) -> Option<Timestamp> {
     let millis = number_under(line, name)?;
     Timestamp::from_nanosecond(i128::from(millis).saturating_mul(NANOS_A_MILLISECOND)).ok()
 }
 
 /// Returns the time of a frame.
-pub(crate) fn time_of(line: &Value) -> Result<Timestamp, Fault> {
+pub fn time_of(line: &Value) -> Result<Timestamp, Fault> {
     time_under(line, "at").ok_or(Fault::Refused(Reason::NoTime))
 }
 
-/// Returns whether the target in the first line of a head has a fragment, which a `Uri` drops.
-pub(crate) fn has_fragment(head: &[u8]) -> bool {
+// Whether the target in the first line of a head has a fragment, which a `Uri` drops.
+fn has_fragment(head: &[u8]) -> bool {
     for byte in head {
         match *byte {
             b'#' => return true,
@@ -83,28 +83,28 @@ pub(crate) fn has_fragment(head: &[u8]) -> bool {
     false
 }
 
-/// Returns the request of a frame. A body that is with the caller has a byte in its place.
-pub(crate) fn request_in(
+/// Returns the request of a frame, and whether its target has a fragment. A body that is with the caller
+/// has a byte in its place.
+pub fn request_in(
     alloc: Global,
     keys: RandomState,
-    head: &Bytes,
-    body: Bytes,
+    frame: Frame,
     place: Place,
-) -> Result<Request<Bytes>, Fault> {
+) -> Result<(Request<Bytes>, bool), Fault> {
+    let Frame { head, body, .. } = frame;
     let parts = request_from_bytes(alloc, keys, head.as_slice())?;
     let body = match place {
         Place::Here => body,
         Place::Caller(_) => Bytes::from_static(PLACE),
     };
-    Ok(Request::from_parts(parts, body))
+    Ok((
+        Request::from_parts(parts, body),
+        has_fragment(head.as_slice()),
+    ))
 }
 
 /// Returns the response of a frame.
-pub(crate) fn response_in(
-    alloc: Global,
-    keys: RandomState,
-    frame: Frame,
-) -> Result<Response<Body>, Fault>
+pub fn response_in(alloc: Global, keys: RandomState, frame: Frame) -> Result<Response<Body>, Fault>
     ensures rest { HasRest (view frame.line)
         → IfOk result (λ response. IsElsewhere (body_of response)) }
 {

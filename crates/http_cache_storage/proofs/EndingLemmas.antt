@@ -1,9 +1,14 @@
 -- A text without an ending.
-use Rattle.std.proofs.Common.{◌≡◌, ◌-◌, ◌+◌, ℕ, Bool, true, false, List, ◌++◌, length, take, drop, cond, bytes_eq, refl, ap, ◌∙◌, arith, length-append}
+use Rattle.std.proofs.Common.{◌≡◌, ◌-◌, ◌+◌, ℕ, Bool, true, false, List, ◌++◌, length, take, drop, zero, suc, ◌∷◌, [], cond, bytes_eq, refl, ap, ◌∙◌, arith, length-append}
 use Rattle.std.proofs.lemmas.Slice.Eq.{bytes_eq-Decides}
 use Rattle.std.proofs.Math.Seq.{drop-append_seam, take-append_seam}
-use Rattle.http_cache_shelf.specs.Target.{without_ending}
-use Rattle.http_cache_shelf.proofs.ListLemmas.{parts}
+use Rattle.http_cache_storage.specs.Target.{without_ending}
+
+-- a list is what it begins with, and the rest
+pub parts : {X : Type 0} (n : ℕ) (xs : List X) → xs ≡ take n xs ++ drop n xs
+parts zero xs = refl
+parts (suc n) [] = refl
+parts (suc n) (x ∷ xs) = ap (λ l. x ∷ l) (parts n xs)
 
 pub lacks_ending : (ending text : List ℕ) → ((front : List ℕ) → text ≡ front ++ ending → ⊥) → without_ending ending text ≡ text
 lacks_ending ending text lacks =

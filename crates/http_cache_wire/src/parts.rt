@@ -1,27 +1,27 @@
-//! Heads and bodies as they are written.
+//! Replies as they are written.
 ghost use Rattle.std.specs.Prelude.{◌≡◌, Some, None};
-ghost use Rattle.http_cache_session.specs.Session.{IsReplyFor, given_token};
+ghost use Rattle.http_cache_wire.specs.Wire.{IsReplyFor, given_token};
 
 use bytes::Bytes;
-use http::{Method, Response, StatusCode, request, response};
-use http_cache_frames::Reply;
+use http::{Method, Request, Response, StatusCode, request, response};
+use http_cache_fields::CacheError;
+use http_cache_frames::{Notice, Reply};
 use http_cache_intermediary::{Content, Intermediary};
 use http_cache_plans::Body;
-use http_cache_semantics::CacheError;
 use http_heads::{bytes_of_request, bytes_of_response};
 use jiff::Timestamp;
 use std::alloc::{AllocError, Global};
 
 /// A message as it is written: its head, and its body unless that is with the caller.
 #[derive(Drop)]
-pub(crate) struct Written {
-    pub(crate) head: Vec<u8>,
-    pub(crate) body: Option<Bytes>,
+pub struct Written {
+    pub head: Vec<u8>,
+    pub body: Option<Bytes>,
 }
 
 impl Written {
     /// Returns the reply that answers a request.
-    pub(crate) fn answer(self, id: u64) -> Reply
+    pub fn answer(self, id: u64) -> Reply
         ensures none { given_token result ≡ None }
         ensures reply { IsReplyFor id result }
     {
@@ -29,8 +29,23 @@ impl Written {
         Reply::Answer { id, head, body }
     }
 
+    /// Returns the reply that answers with a stale response, and has a validation sent.
+    pub fn stale(self, id: u64, token: u64, check: Written) -> Reply
+        ensures given { given_token result ≡ Some token }
+        ensures reply { IsReplyFor id result }
+    {
+        let Written { head, body } = self;
+        Reply::Stale {
+            id,
+            token,
+            head,
+            body: body.unwrap_or(Bytes::new()),
+            request: check.head,
+        }
+    }
+
     /// Returns the reply that has a request sent.
-    pub(crate) fn send(self, id: u64, token: u64) -> Reply
+    pub fn send(self, id: u64, token: u64) -> Reply
         ensures given { given_token result ≡ Some token }
         ensures reply { IsReplyFor id result }
     {
@@ -57,7 +72,7 @@ fn content_of(body: Body) -> (Option<Bytes>, Content) {
 }
 
 /// Returns a response to a request of a method as it is written, by an intermediary if there is one.
-pub(crate) fn written_response(
+pub fn written_response(
     alloc: Global,
     intermediary: Option<&Intermediary>,
     method: &Method,
@@ -76,7 +91,7 @@ pub(crate) fn written_response(
 }
 
 /// Returns a response of the intermediary's own as it is written.
-pub(crate) fn written_own(
+pub fn written_own(
     alloc: Global,
     intermediary: &Intermediary,
     method: &Method,
@@ -93,7 +108,7 @@ pub(crate) fn written_own(
 }
 
 /// Returns a request as it is written. Without a body, the caller has it.
-pub(crate) fn written_request(
+pub fn written_request(
     alloc: Global,
     parts: &request::Parts,
     body: Option<Bytes>,
@@ -102,4 +117,39 @@ pub(crate) fn written_request(
         head: bytes_of_request(alloc, parts)?,
         body,
     })
+}
+
+/// Returns a validation as it is written.
+pub fn written_check(alloc: Global, parts: request::Parts) -> Result<Written, AllocError> {
+    written_request(alloc, &parts, Some(Bytes::new()))
+}
+
+/// Returns the client's own request as it is written, and the request.
+pub fn written_own_request(
+    alloc: Global,
+    request: Request<Bytes>,
+    is_body_with_caller: bool,
+) -> Result<(Written, Request<Bytes>), AllocError> {
+    let (parts, body) = request.into_parts();
+    let sent = if is_body_with_caller {
+        None
+    } else {
+        Some(body.clone()?)
+    };
+    let written = written_request(alloc, &parts, sent)?;
+    Ok((written, Request::from_parts(parts, body)))
+}
+
+/// Returns a response whose body is here.
+pub fn with_body(response: Response<Bytes>) -> Response<Body> {
+    let (head, body) = response.into_parts();
+    Response::from_parts(head, Body::Here(body))
+}
+
+/// Returns the reply to a request that is over without an answer.
+pub fn done(id: u64) -> Reply
+    ensures none { given_token result ≡ None }
+    ensures reply { IsReplyFor id result }
+{
+    Reply::Notice(Notice::Done { id })
 }

@@ -2,9 +2,9 @@
 use Rattle.std.proofs.Common.{◌≡◌, ℕ, List, ◌++◌, length, ◌-◌, take, Option, Some, None, Bor, ap, sym, ◌∙◌}
 use Rattle.std.specs.Option.{MatchOption, unwrap_or}
 use Rattle.std.specs.Str.Pattern.{FindsTextSuffix, StripsSuffix}
-use Rattle.http_cache_shelf.specs.Target.{without_ending}
-use Rattle.http_cache_shelf.proofs.EndingLemmas.{lacks_ending, has_ending}
-use Rattle.http_cache_shelf.proofs.target.without_ending.Goals as goal
+use Rattle.http_cache_storage.specs.Target.{without_ending}
+use Rattle.http_cache_storage.proofs.EndingLemmas.{lacks_ending, has_ending}
+use Rattle.http_cache_storage.proofs.target.without_ending.Goals as goal
 
 pub returns : goal.returns
 returns c =

@@ -3,11 +3,11 @@
 //! No code here knows how responses are kept. Every clause speaks of two ghost members, what is stored
 //! for the text of each target and the next id, so a client is proved once for all shelves.
 ghost use Rattle.std.specs.Prelude.{◌≡◌, ℕ, List, map, IfOk, OnOk, OnErr};
-ghost use Rattle.http_cache_semantics.specs.Exchange.{Exchange};
+ghost use Rattle.http_cache_policy.specs.Exchange.{Exchange};
 
 use crate::target::Target;
 use bytes::Bytes;
-use http_cache_semantics::CachePolicy;
+use http_cache_policy::policy::CachePolicy;
 use jiff::Timestamp;
 use std::alloc::{AllocError, AllocFailed, Global};
 use thiserror::Error;
@@ -75,12 +75,12 @@ impl<T: Drop> From<AllocFailed<T>> for ShelfError {
 /// at most one changing call for each request, as its last step, so a request changes all or nothing
 /// where each call of the shelf does.
 ///
-/// [`MemoryShelf`](crate::MemoryShelf) keeps responses in memory. To keep them elsewhere, implement the
+/// `MemoryShelf` of `http_cache_shelf` keeps responses in memory. To keep them elsewhere, implement the
 /// trait: define the ghost members over the fields, and prove each method and the law at the end.
 pub trait Shelf {
-    ghost use Rattle.http_cache_shelf.specs.Shelf.{StoredSeen, ShowsAll, IsInserted, renewed, without, has_id, stored_body};
-    ghost use Rattle.http_cache_shelf.specs.Shelf.{AreNewestOf, KeepsOthers, KeepsAllOthers, KeepsAll, RemovesThese, IsSwept, AreIdsBelow};
-    ghost use Rattle.http_cache_shelf.specs.Target.{text_of};
+    ghost use Rattle.http_cache_storage.specs.Shelf.{StoredSeen, ShowsAll, IsInserted, renewed, without, has_id, stored_body};
+    ghost use Rattle.http_cache_storage.specs.Shelf.{AreNewestOf, KeepsOthers, KeepsAllOthers, KeepsAll, RemovesThese, IsSwept, AreIdsBelow};
+    ghost use Rattle.http_cache_storage.specs.Target.{text_of};
 
     // What is stored for the text of a target, newest first.
     ghost stored: { Self → List ℕ → List StoredSeen };

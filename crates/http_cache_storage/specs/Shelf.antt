@@ -1,10 +1,10 @@
 -- What a shelf stores: for each target its stored responses, newest first.
 use Rattle.std.specs.Prelude.{option_map, ◌≡◌, ◌≢◌, ◌⊎◌, ◌+◌, ◌<◌, ◌++◌, ℕ, ℤ, Bool, List, [], ◌∷◌, Option, Some, None, All, not, nat_eq, bytes_eq, IfSome, if◌then◌else◌}
 use Rattle.std.specs.List.{find, filter, list_any, AllZip}
-use Rattle.http_cache_semantics.specs.Exchange.{Exchange}
+use Rattle.http_cache_policy.specs.Exchange.{Exchange}
 use Rattle.http_cache_messages.specs.Worth.{can_be_used_again}
-use Rattle.http_cache_shelf.specs.declared.shelf.ResponseId.{ResponseId}
-use Rattle.http_cache_shelf.specs.declared.shelf.StoredResponse.{StoredResponse}
+use Rattle.http_cache_storage.specs.declared.shelf.ResponseId.{ResponseId}
+use Rattle.http_cache_storage.specs.declared.shelf.StoredResponse.{StoredResponse}
 
 -- a stored response
 pub record StoredSeen : Type 0 where

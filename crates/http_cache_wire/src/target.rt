@@ -3,13 +3,13 @@ use crate::fault::Fault;
 use http::header::{HOST, HeaderValueError};
 use http::{HeaderMap, HeaderValue, Uri};
 use http_cache_frames::Reason;
-use http_cache_shelf::Target;
+use http_cache_storage::Target;
 use http_uri::UriError;
 use std::alloc::Global;
 
 /// Returns the targets of requests for a URI: of one that names all of it, and of one that names its path,
 /// and its host in Host.
-pub(crate) fn targets_of(alloc: Global, text: &str) -> Result<[Target; 2], Fault> {
+pub fn targets_of(alloc: Global, text: &str) -> Result<[Target; 2], Fault> {
     let uri = uri_from(alloc, text)?;
     let (Some(authority), Some(path)) = (uri.authority(), uri.path_and_query()) else {
         return Err(Fault::Refused(Reason::NoTarget));

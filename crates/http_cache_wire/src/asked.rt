@@ -2,14 +2,14 @@
 ghost use Rattle.std.specs.Prelude.{◌≡◌, ℕ, Some, codes};
 ghost use Rattle.serde_json.specs.View.{view};
 ghost use Rattle.http_cache_frames.specs.Line.{number_under};
-ghost use Rattle.http_cache_session.specs.Session.{IsAskedBy};
+ghost use Rattle.http_cache_wire.specs.Wire.{IsAskedBy};
 
 use http_cache_frames::{has_member, number_under};
 use serde_json::Value;
 
 /// What a frame asks for.
 #[derive(Clone, Copy)]
-pub(crate) enum Asked {
+pub enum Asked {
     /// The id, as of all below but two.
     Ask(u64),
     /// The token, if it has one.
@@ -24,7 +24,7 @@ pub(crate) enum Asked {
 
 impl Asked {
     /// Returns what a line asks for.
-    pub(crate) fn of(line: &Value) -> Option<Asked>
+    pub fn of(line: &Value) -> Option<Asked>
         ensures { IsAskedBy (view line.now) result }
     {
         if let Some(id) = number_under(line, "ask") {
@@ -50,7 +50,7 @@ impl Asked {
 }
 
 /// Returns the id of a frame, if it has one.
-pub(crate) fn id_of(line: &Value) -> Option<u64>
+pub fn id_of(line: &Value) -> Option<u64>
     ensures { (id : ℕ) → number_under (codes "ask") (view line.now) ≡ Some id → result ≡ Some id }
 {
     match number_under(line, "ask") {
@@ -62,7 +62,7 @@ pub(crate) fn id_of(line: &Value) -> Option<u64>
 }
 
 /// Returns the token of a frame, if it has one.
-pub(crate) fn token_of(line: &Value) -> Option<u64> {
+pub fn token_of(line: &Value) -> Option<u64> {
     match number_under(line, "received") {
         Some(token) => Some(token),
         None => number_under(line, "failed"),

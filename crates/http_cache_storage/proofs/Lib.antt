@@ -1,0 +1,2 @@
+-- Lemmas on texts and lists.
+pub mod EndingLemmas

@@ -1,0 +1,3 @@
+-- What a client stores, and under which text.
+pub mod Shelf
+pub mod Target

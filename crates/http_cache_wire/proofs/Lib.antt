@@ -1,0 +1,2 @@
+-- Lemmas of frames.
+pub mod HandedLemmas
