@@ -1,2 +1,0 @@
--- Lemmas of a session.
-pub mod KeptLemmas
