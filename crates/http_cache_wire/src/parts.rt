@@ -29,7 +29,7 @@ impl Written {
         Reply::Answer { id, head, body }
     }
 
-    /// Returns the reply that answers with a stale response, and has a validation sent.
+    /// Returns the reply that hands out a stale response, and asks for its validation.
     pub fn stale(self, id: u64, token: u64, check: Written) -> Reply
         ensures given { given_token result ≡ Some token }
         ensures reply { IsReplyFor id result }
