@@ -2,8 +2,8 @@
 use Rattle.std.specs.Prelude.{◌≡◌, ◌≢◌, ◌+◌, ℕ, Option, Some, None, true, is_some}
 use Rattle.http_cache_frames.specs.declared.reply.Reply.{Reply}
 use Rattle.http_cache_wire.specs.Wire.{given_token, reply_id}
-use Rattle.http_cache_session.specs.UnderWay.{Changes, KeepsIds}
-use Rattle.http_cache_session.specs.declared.errand.UnderWays.{UnderWays}
+use Rattle.http_cache_errands.specs.UnderWay.{Changes, KeepsIds}
+use Rattle.http_cache_errands.specs.declared.errands.UnderWays.{UnderWays}
 
 -- a reply gives the next token or none, and the next one is never given again
 abbrev pub GivesNext : Option ℕ → ℕ → ℕ → Type 0

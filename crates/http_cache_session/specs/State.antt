@@ -1,6 +1,6 @@
 -- What is seen of a session between frames.
 use Rattle.std.specs.Prelude.{ℕ, Option}
-use Rattle.http_cache_session.specs.UnderWay.{id_at}
+use Rattle.http_cache_errands.specs.UnderWay.{id_at}
 use Rattle.http_cache_session.specs.declared.session.Session.{Session}
 
 module _ {S : Type 0} where

@@ -6,7 +6,6 @@
 //! writes no output.
 #![tactic(auto)]
 
-mod errand;
 mod session;
 
 pub use session::{Session, Settings, Stored};

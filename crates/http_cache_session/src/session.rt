@@ -8,13 +8,13 @@ ghost use Rattle.http_cache_storage.specs.Shelf.{KeepsAll};
 ghost use Rattle.http_cache_wire.specs.Wire.{IsRefused, IsRefusal, IsReplyFor, given_token, reply_id};
 ghost use Rattle.http_cache_wire.specs.Wire.{HandsOver, HasRest};
 ghost use Rattle.http_cache_session.specs.Session.{GivesNext, AddsGiven, KeepsUnderWay, Ends};
-ghost use Rattle.http_cache_session.specs.UnderWay.{id_at};
+ghost use Rattle.http_cache_errands.specs.UnderWay.{id_at};
 ghost use Rattle.http_cache_session.specs.State.{shelf_of, next_token, id_under_way};
 
-use crate::errand::{Errand, UnderWay, UnderWays};
 use bytes::Bytes;
 use http::{Method, Request, Response, StatusCode};
 use http_cache_client::{Client, Decision, Forwarded, Received, Validation};
+use http_cache_errands::{Errand, UnderWay, UnderWays};
 use http_cache_frames::{Counts, Frame, Lost, Notice, Reason, Reply, Turn, text_under};
 use http_cache_intermediary::Intermediary;
 use http_cache_messages::complete::is_complete;

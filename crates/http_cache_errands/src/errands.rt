@@ -2,7 +2,7 @@
 ghost use Rattle.std.specs.Prelude.{◌≡◌, ◌≤◌, ◌+◌, ℕ, Some, None, option_map, IfOk, OnErr};
 ghost use Rattle.std.specs.BTreeMap.{get};
 ghost use Rattle.std.specs.Ordering.{nat_cmp};
-ghost use Rattle.http_cache_session.specs.UnderWay.{Changes, KeepsIds, id_at};
+ghost use Rattle.http_cache_errands.specs.UnderWay.{Changes, KeepsIds, id_at};
 
 use bytes::Bytes;
 use http::Request;
@@ -13,7 +13,7 @@ use std::collections::BTreeMap;
 
 /// What the caller was asked to send.
 #[derive(Debug, Drop)]
-pub(crate) enum Errand {
+pub enum Errand {
     /// The client's own request.
     Own(Forwarded),
     /// A validation.
@@ -24,32 +24,35 @@ pub(crate) enum Errand {
 
 /// A request whose outcome the caller is to hand back.
 #[derive(Debug, Drop)]
-pub(crate) struct UnderWay {
+pub struct UnderWay {
     /// The caller's id.
-    pub(crate) id: u64,
+    pub id: u64,
     /// The client's own request.
-    pub(crate) request: Request<Bytes>,
+    pub request: Request<Bytes>,
     /// What was sent. It is there between two frames.
-    pub(crate) errand: Option<Errand>,
+    pub errand: Option<Errand>,
     /// When it was sent, unless the caller says another time.
-    pub(crate) sent: Timestamp,
+    pub sent: Timestamp,
     /// Whether the body of the request is with the caller.
-    pub(crate) is_body_with_caller: bool,
+    pub is_body_with_caller: bool,
     /// Whether a stale response has answered the request.
-    pub(crate) is_answered: bool,
+    pub is_answered: bool,
 }
 
 /// The requests under way, by token.
 #[derive(Debug, Drop)]
-pub(crate) struct UnderWays {
-    pub(crate) by_token: BTreeMap<u64, UnderWay>,
-    pub(crate) next_token: u64,
+pub struct UnderWays {
+    /// The requests.
+    pub by_token: BTreeMap<u64, UnderWay>,
+    /// The token that the next one is given.
+    pub next_token: u64,
     // Of a token that isn't given yet no request is under way.
     ghost are_given: { (token : ℕ) → next_token ≤ token → get nat_cmp by_token token ≡ None },
 }
 
 impl UnderWays {
-    pub(crate) fn new(alloc: Global) -> UnderWays
+    /// Returns no requests under way; the first token is 1.
+    pub fn new(alloc: Global) -> UnderWays
         ensures next { result.next_token ≡ 1 }
         ensures none { (token : ℕ) → id_at result.by_token token ≡ None }
     {
@@ -59,12 +62,13 @@ impl UnderWays {
         }
     }
 
-    pub(crate) fn len(&self) -> usize {
+    /// Returns how many there are.
+    pub fn len(&self) -> usize {
         self.by_token.len()
     }
 
     /// Adds a request, and returns its token, which none had before.
-    pub(crate) fn add(&mut self, under_way: UnderWay) -> Result<u64, AllocError>
+    pub fn add(&mut self, under_way: UnderWay) -> Result<u64, AllocError>
         ensures given { IfOk result (λ token. (token ≡ self.old.next_token)
             × (self.new.next_token ≡ token + 1)) }
         ensures ungiven { OnErr result (self.new.next_token ≡ self.old.next_token) }
@@ -83,7 +87,8 @@ impl UnderWays {
         Ok(token)
     }
 
-    pub(crate) fn remove(&mut self, token: u64) -> Option<UnderWay>
+    /// Removes the request with a token, and returns it.
+    pub fn remove(&mut self, token: u64) -> Option<UnderWay>
         ensures removed { Changes self.old.by_token token None self.new.by_token }
         ensures id { option_map (λ one. one.id) result ≡ id_at self.old.by_token token }
         ensures next { self.new.next_token ≡ self.old.next_token }

@@ -2,7 +2,7 @@
 use Rattle.std.specs.Prelude.{◌≡◌, ℕ, Option, option_map, nat_eq, if◌then◌else◌}
 use Rattle.std.specs.BTreeMap.{BTreeMap, get}
 use Rattle.std.specs.Ordering.{nat_cmp}
-use Rattle.http_cache_session.specs.declared.errand.UnderWay.{UnderWay}
+use Rattle.http_cache_errands.specs.declared.errands.UnderWay.{UnderWay}
 
 -- requests by token
 abbrev pub ByToken : Type 0
