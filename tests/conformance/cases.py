@@ -1,6 +1,5 @@
-"""The cases, what a program without sockets reads of them, and what it wrote."""
+"""The cases: their requests, what the origin server would answer, and answers on a connection."""
 import email.utils
-import io
 import json
 import re
 import time
@@ -194,45 +193,7 @@ def origin_of(case, number, now):
     return answer
 
 
-# ---- what the program reads and writes
-
-
-def program_input(case, is_shared):
-    """A case as the program reads it."""
-    steps = []
-    for number, (step, now) in enumerate(zip(case["steps"], times(case))):
-        request = request_of(case, step, now)
-        steps.append({
-            "at_ns": int(round(now * 1e9)),
-            "request": request,
-            "raw_hex": raw_request(request).hex(),
-            "origin": origin_of(case, number, now),
-        })
-    return {"id": case["id"], "shared": is_shared, "steps": steps}
-
-
-def seen_request(written):
-    return {
-        "method": written["method"],
-        "target": written["target"],
-        "headers": written["headers"],
-        "body": bytes.fromhex(written["body_hex"]),
-    }
-
-
-class Wire:
-    """The bytes of a connection, as http.client reads them."""
-
-    def __init__(self, raw):
-        self.raw = raw
-
-    def makefile(self, *_):
-        return io.BytesIO(self.raw)
-
-
-def raw_answer(raw, method):
-    """The first answer among the bytes of a connection."""
-    return answer_on(Wire(raw), method)
+# ---- answers on a connection
 
 
 def answer_on(connection, method):
@@ -245,28 +206,3 @@ def answer_on(connection, method):
         return {"error": f"{type(e).__name__}: {e}"}
     headers = [[name, value] for name, value in answer.getheaders()]
     return {"status": answer.status, "headers": headers, "body": body, "is_cut_off": False}
-
-
-def seen_answer(written, method):
-    """An answer as the judge sees it. A Content-Length above the body's length means that it was cut off."""
-    if "error" in written:
-        return {"error": written["error"]}
-    if "raw_hex" in written:
-        return raw_answer(bytes.fromhex(written["raw_hex"]), method)
-    body = bytes.fromhex(written["body_hex"])
-    lengths = values(written["headers"], "content-length")
-    has_body = method != "HEAD" and written["status"] not in BODILESS
-    is_cut_off = has_body and bool(lengths) and lengths[0].isdigit() and int(lengths[0]) > len(body)
-    return {"status": written["status"], "headers": written["headers"], "body": body, "is_cut_off": is_cut_off}
-
-
-def observed(case, lines):
-    """What the program wrote of a case, step by step, as far as it did."""
-    steps = []
-    for number, step in enumerate(case["steps"]):
-        line = lines.get((case["id"], number))
-        if line is None:
-            break
-        saw = [seen_request(request) for request in line["origin_saw"]]
-        steps.append({"answer": seen_answer(line["answer"], method_of(step)), "origin_saw": saw})
-    return steps

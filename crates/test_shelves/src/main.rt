@@ -2,14 +2,12 @@
 //!
 //! | arguments | what is run |
 //! |---|---|
-//! | `cases` | cases of conformance |
 //! | `commands PATH [CALLS [RESPONSES]]` | commands on the store in a file |
 //! | `memory COUNT HITS`, `fill COUNT PATH`, `file HITS PATH` | hits, which are timed |
 //!
 //! They are one program, since each program over a store is compiled with all of sqlite.
 #![tactic(auto)]
 
-mod cases;
 mod commands;
 mod hits;
 
@@ -26,7 +24,6 @@ fn words_of(rt: &HostRuntime) -> anyhow::Result<Vec<String>> {
 fn main(rt: HostRuntime) -> anyhow::Result<()> {
     let words = words_of(&rt)?;
     match words.get(1).map(String::as_str) {
-        Some("cases") => cases::run(&rt),
         Some("commands") => commands::run(&rt, words.get(2..).unwrap_or(&[])),
         _ => hits::run(&rt, words.get(1..).unwrap_or(&[])),
     }
