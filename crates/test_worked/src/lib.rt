@@ -6,6 +6,10 @@ mod comparisons;
 #[cfg(test)]
 mod errors;
 #[cfg(test)]
+mod limits;
+#[cfg(test)]
 mod own_messages;
+#[cfg(test)]
+mod targets;
 #[cfg(test)]
 mod variants;
