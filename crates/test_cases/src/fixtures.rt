@@ -87,3 +87,30 @@ pub fn with_further(alloc: Global, lines: &str, count: u32) -> Result<String, Fa
     }
     Ok(text)
 }
+
+/// Returns what is asked of a value, if it was made. Only this owns values of types with much in them, whatever the
+/// type, which keeps the proofs of its callers short.
+pub fn with<T: Drop, R: Drop, F: FnOnce(&T) -> Result<R, Fail>>(
+    made: Result<T, Fail>,
+    ask: F,
+) -> Result<R, Fail>
+    requires { F.IsAlwaysCallable ask }
+{
+    match made {
+        Ok(value) => ask(&value),
+        Err(e) => Err(e),
+    }
+}
+
+/// The same of a value that is changed.
+pub fn with_mut<T: Drop, R: Drop, F: FnOnce(&mut T) -> Result<R, Fail>>(
+    made: Result<T, Fail>,
+    ask: F,
+) -> Result<R, Fail>
+    requires { F.IsAlwaysCallable ask }
+{
+    match made {
+        Ok(mut value) => ask(&mut value),
+        Err(e) => Err(e),
+    }
+}

@@ -3,7 +3,7 @@ use http_cache_semantics::policy::Fraction;
 use http_cache_semantics::{CacheOptions, CachePolicy};
 use std::alloc::Global;
 use std::test::Fail;
-use test_cases::fixtures::{after, policy, request};
+use test_cases::fixtures::{after, policy, request, with};
 
 #[test]
 fn fractions_are_compared_as_given(rt: HostRuntime) -> Result<(), Fail> {
@@ -30,14 +30,17 @@ fn fractions_are_compared_as_given(rt: HostRuntime) -> Result<(), Fail> {
 
 // The explanations of a request at two moments are equal where their ages are.
 fn is_same_at(alloc: Global, policy: &CachePolicy, one: i64, other: i64) -> Result<bool, Fail> {
-    let request = request(alloc, "GET", "")?;
-    Ok(policy.explain(&request, after(one)?) == policy.explain(&request, after(other)?))
+    let (one, other) = (after(one)?, after(other)?);
+    with(request(alloc, "GET", ""), |request| {
+        Ok(policy.explain(request, one) == policy.explain(request, other))
+    })
 }
 
 #[test]
 fn explanations_are_compared(rt: HostRuntime) -> Result<(), Fail> {
-    let policy = policy(rt.alloc(), "Cache-Control: max-age=10")?;
-    assert_eq!(rt; is_same_at(rt.alloc(), &policy, 1, 1)?, true);
-    assert_eq!(rt; is_same_at(rt.alloc(), &policy, 1, 2)?, false);
-    Ok(())
+    with(policy(rt.alloc(), "Cache-Control: max-age=10"), |policy| {
+        assert_eq!(rt; is_same_at(rt.alloc(), policy, 1, 1)?, true);
+        assert_eq!(rt; is_same_at(rt.alloc(), policy, 1, 2)?, false);
+        Ok(())
+    })
 }

@@ -14,7 +14,7 @@ use std::alloc::Global;
 use std::hash::RandomState;
 use std::process::Abort;
 use std::test::Fail;
-use test_cases::fixtures::{after, field, policy};
+use test_cases::fixtures::{after, field, policy, with, with_mut};
 
 fn cases() -> [&'static str; 9] {
     [
@@ -195,15 +195,20 @@ fn skip(alloc: Global, shelf: &mut MemoryShelf, step: &str) -> Result<String, Fa
 // Does what a step says, and returns the text of its outcome.
 fn outcome_of(alloc: Global, shelf: &mut MemoryShelf, step: &str) -> Result<String, Fail> {
     match field(step, 0)? {
-        "put" => put(alloc, shelf, &target_of(alloc, step)?, step),
-        "restore" => restore(alloc, shelf, &target_of(alloc, step)?, step),
+        "put" => with(
+            target_of(alloc, step),
+            |target| put(alloc, shelf, target, step),
+        ),
+        "restore" => with(
+            target_of(alloc, step),
+            |target| restore(alloc, shelf, target, step),
+        ),
         "skip" => skip(alloc, shelf, step),
         "evicted" => ids_evicted(alloc, shelf),
-        "find" => {
-            let target = target_of(alloc, step)?;
-            done(shelf.look_up(alloc, &target))?;
-            ids_of(alloc, shelf.found(&target))
-        }
+        "find" => with(target_of(alloc, step), |target| {
+            done(shelf.look_up(alloc, target))?;
+            ids_of(alloc, shelf.found(target))
+        }),
         "sweep" => {
             let removed = done(shelf.sweep(after(10_000_000_000)?))?;
             Ok(format!(in alloc; "{removed}")?)
@@ -228,10 +233,13 @@ fn shelves_within_limits(rt: HostRuntime) -> Result<(), Fail> {
     for case in cases() {
         let mut lines = case.lines();
         let limits = limits_of(lines.next().ok_or("no limits")?)?;
-        let mut shelf = MemoryShelf::new(rt.alloc(), RandomState::new(&rt)?, limits)?;
-        for step in lines {
-            check_step(&rt, rt.alloc(), &mut shelf, step)?;
-        }
+        let shelf = MemoryShelf::new(rt.alloc(), RandomState::new(&rt)?, limits);
+        with_mut(shelf.map_err(Fail::from), |shelf| {
+            for step in lines {
+                check_step(&rt, rt.alloc(), shelf, step)?;
+            }
+            Ok(())
+        })?;
     }
     Ok(())
 }

@@ -9,7 +9,7 @@ use std::alloc::Global;
 use std::cell::Cell;
 use std::process::Abort;
 use std::test::Fail;
-use test_cases::fixtures::{after, policy, request, response};
+use test_cases::fixtures::{after, policy, request, response, with};
 
 // A request that takes each target for its own, or none. It counts how often it is asked for a copy
 // of its target, and may have none to give.
@@ -97,8 +97,9 @@ fn told_by(
     policy: &CachePolicy,
     request: &Own,
     now: Timestamp,
-) -> Result<(bool, bool), CacheError> {
-    Ok(told(&policy.before_request(alloc, request, now)?))
+) -> Result<(bool, bool), Fail> {
+    let answer = policy.before_request(alloc, request, now);
+    with(answer.map_err(Fail::from), |answer| Ok(told(answer)))
 }
 
 // The same, once it is seen that the calls that take no memory tell it too.
@@ -125,9 +126,10 @@ fn asked_for_copies(
 
 // What is told of a request, which has no copy of its target to give and isn't asked for one.
 fn asks(alloc: Global, lines: &str, takes_all: bool) -> Result<((bool, bool), u32), Fail> {
-    let policy = policy(alloc, LINES)?;
-    let request = own_request(alloc, lines, takes_all, true)?;
-    asked_for_copies(alloc, &policy, &request)
+    with(policy(alloc, LINES), |policy| {
+        let request = own_request(alloc, lines, takes_all, true);
+        with(request, |request| asked_for_copies(alloc, policy, request))
+    })
 }
 
 #[test]
@@ -153,21 +155,25 @@ fn caches(
     response: &response::Parts,
     first: Timestamp,
     second: Timestamp,
-) -> Result<usize, CacheError> {
+) -> Result<usize, Fail> {
     let opts = CacheOptions::default();
-    let policies = chain(alloc, request, response, opts, first, &[second])?;
-    Ok(policies.len())
+    let policies = chain(alloc, request, response, opts, first, &[second]);
+    with(policies.map_err(Fail::from), |policies| Ok(policies.len()))
 }
 
 fn reached(alloc: Global, request: &Own) -> Result<usize, Fail> {
     let (first, second) = (after(0)?, after(1_000_000_000)?);
-    let response = response(alloc, "200", LINES)?;
-    Ok(caches(alloc, request, &response, first, second)?)
+    with(
+        response(alloc, "200", LINES),
+        |response| caches(alloc, request, response, first, second),
+    )
 }
 
 fn reaches(alloc: Global, takes_all: bool) -> Result<usize, Fail> {
-    let request = own_request(alloc, "", takes_all, false)?;
-    reached(alloc, &request)
+    with(
+        own_request(alloc, "", takes_all, false),
+        |request| reached(alloc, request),
+    )
 }
 
 #[test]
@@ -178,22 +184,25 @@ fn a_chain_ends_where_no_target_matches(rt: HostRuntime) -> Result<(), Fail> {
 }
 
 // Why no policy is made, if that is so.
-fn stored(alloc: Global, request: &Own, now: Timestamp) -> Option<CacheError> {
+fn stored(alloc: Global, request: &Own, now: Timestamp) -> Result<Option<CacheError>, Fail> {
     let response = Bare {
         status: StatusCode::OK,
         headers: HeaderMap::new(alloc),
     };
-    match CachePolicy::new(alloc, request, &response, now) {
-        Ok(_) => None,
-        Err(e) => Some(e),
-    }
+    with(
+        Ok(response),
+        |response| Ok(CachePolicy::new(alloc, request, response, now).err()),
+    )
 }
 
 // The same, and how often one asks for a copy of the target.
 fn stores(alloc: Global, is_tight: bool) -> Result<(Option<CacheError>, u32), Fail> {
     let now = after(0)?;
-    let request = own_request(alloc, "", true, is_tight)?;
-    Ok((stored(alloc, &request, now), request.copies.get()))
+    let request = own_request(alloc, "", true, is_tight);
+    with(
+        request,
+        |request| Ok((stored(alloc, request, now)?, request.copies.get())),
+    )
 }
 
 #[test]
@@ -203,30 +212,23 @@ fn one_copy_of_the_target_of_what_is_stored(rt: HostRuntime) -> Result<(), Fail>
     Ok(())
 }
 
-fn refusal(
-    alloc: Global,
-    policy: &CachePolicy,
-    request: &Own,
-    response: &response::Parts,
-    now: Timestamp,
-) -> Option<CacheError> {
-    match policy.after_response(alloc, request, response, now) {
-        Ok(_) => None,
-        Err(e) => Some(e),
-    }
-}
-
 // Why a policy isn't renewed for a request that has no copy of its target to give.
 fn renewed(alloc: Global, request: &Own) -> Result<Option<CacheError>, Fail> {
     let now = after(0)?;
-    let policy = policy(alloc, LINES)?;
-    let response = response(alloc, "200", LINES)?;
-    Ok(refusal(alloc, &policy, request, &response, now))
+    with(policy(alloc, LINES), |policy| {
+        with(response(alloc, "200", LINES), |response| {
+            Ok(policy.after_response(alloc, request, response, now).err())
+        })
+    })
 }
 
 #[test]
 fn no_renewal_without_a_copy_of_the_target(rt: HostRuntime) -> Result<(), Fail> {
-    let request = own_request(rt.alloc(), "", true, true)?;
-    assert_eq!(rt; renewed(rt.alloc(), &request)?, Some(CacheError::Memory));
+    let alloc = rt.alloc();
+    let refused = with(
+        own_request(alloc, "", true, true),
+        |request| renewed(alloc, request),
+    )?;
+    assert_eq!(rt; refused, Some(CacheError::Memory));
     Ok(())
 }

@@ -6,7 +6,7 @@ use std::alloc::{AllocError, Global};
 use std::fmt::Write;
 use std::process::Abort;
 use std::test::Fail;
-use test_cases::fixtures::{after, field, request, response, with_further};
+use test_cases::fixtures::{after, field, request, response, with, with_further, with_mut};
 
 // What is done in turn: a policy is added for a request with its headers and those of its response,
 // the policy at a place is taken out, or a request with headers asks so many seconds after the
@@ -58,6 +58,12 @@ fn add_choice(told: &mut String, choice: &Choice) -> Result<(), AllocError> {
     }
 }
 
+fn text_of(alloc: Global, choice: &Choice) -> Result<String, Fail> {
+    let mut told = String::new(alloc);
+    add_choice(&mut told, choice)?;
+    Ok(told)
+}
+
 fn asked(
     alloc: Global,
     variants: &Variants,
@@ -65,9 +71,8 @@ fn asked(
     seconds: &str,
 ) -> Result<String, Fail> {
     let now = after(seconds.parse::<i64>()?.saturating_mul(1_000_000_000))?;
-    let mut told = String::new(alloc);
-    add_choice(&mut told, &variants.choose(alloc, asking, now)?)?;
-    Ok(told)
+    let choice = variants.choose(alloc, asking, now);
+    with(choice.map_err(Fail::from), |choice| text_of(alloc, choice))
 }
 
 fn policy_of(
@@ -79,22 +84,29 @@ fn policy_of(
 }
 
 fn policy(alloc: Global, asked: &str, told: &str) -> Result<CachePolicy, Fail> {
-    let asking = request(alloc, "GET", asked)?;
-    let answer = response(alloc, "200", told)?;
-    policy_of(alloc, &asking, &answer)
+    with(request(alloc, "GET", asked), |asking| {
+        with(
+            response(alloc, "200", told),
+            |answer| policy_of(alloc, asking, answer),
+        )
+    })
+}
+
+fn second<A: Drop, B>(pair: (A, B)) -> B {
+    pair.1
 }
 
 fn put(variants: &mut Variants, policy: CachePolicy) -> Result<(), Fail> {
-    match variants.add(policy) {
-        Ok(()) => Ok(()),
-        Err((_, e)) => Err(e)?,
-    }
+    variants
+        .add(policy)
+        .map_err(|refused| Fail::from(second(refused)))
 }
 
 // The seconds that the policy had left which was taken out, or 0 where there was none.
 fn taken(variants: &mut Variants, place: usize) -> Result<u64, Fail> {
+    let now = after(0)?;
     match variants.remove(place) {
-        Some(policy) => Ok(policy.time_to_live(after(0)?).as_secs()),
+        Some(policy) => with(Ok(policy), |policy| Ok(policy.time_to_live(now).as_secs())),
         None => Ok(0),
     }
 }
@@ -105,8 +117,10 @@ fn choice_for(
     lines: &str,
     seconds: &str,
 ) -> Result<String, Fail> {
-    let asking = request(alloc, "GET", lines)?;
-    asked(alloc, variants, &asking, seconds)
+    with(
+        request(alloc, "GET", lines),
+        |asking| asked(alloc, variants, asking, seconds),
+    )
 }
 
 fn asks(rt: &impl Abort, alloc: Global, variants: &Variants, step: &str) -> Result<(), Fail> {
@@ -145,11 +159,12 @@ fn take_step(
 
 #[test]
 fn choices_among_variants(rt: HostRuntime) -> Result<(), Fail> {
-    let mut variants = Variants::new(rt.alloc());
-    for step in steps().lines() {
-        take_step(&rt, rt.alloc(), &mut variants, step)?;
-    }
-    Ok(())
+    with_mut(Ok(Variants::new(rt.alloc())), |variants| {
+        for step in steps().lines() {
+            take_step(&rt, rt.alloc(), variants, step)?;
+        }
+        Ok(())
+    })
 }
 
 // The choice among the policies for a request, or in which words it is refused.
@@ -159,19 +174,21 @@ fn choice_or_refusal(
     asking: &request::Parts,
     nanos: i64,
 ) -> Result<String, Fail> {
-    let mut told = String::new(alloc);
     match variants.choose(alloc, asking, after(nanos)?) {
-        Ok(choice) => add_choice(&mut told, &choice)?,
-        Err(e) => write!(told, "{e}")?,
+        Ok(choice) => with(Ok(choice), |choice| text_of(alloc, choice)),
+        Err(e) => Ok(format!(in alloc; "{e}")?),
     }
-    Ok(told)
 }
 
 // The same for a GET without headers, where there is one policy of a response with headers.
 fn choice_of_one(alloc: Global, lines: &str, nanos: i64) -> Result<String, Fail> {
-    let mut variants = Variants::new(alloc);
-    put(&mut variants, policy(alloc, "", lines)?)?;
-    choice_or_refusal(alloc, &variants, &request(alloc, "GET", "")?, nanos)
+    with_mut(Ok(Variants::new(alloc)), |variants| {
+        put(variants, policy(alloc, "", lines)?)?;
+        with(
+            request(alloc, "GET", ""),
+            |asking| choice_or_refusal(alloc, variants, asking, nanos),
+        )
+    })
 }
 
 // A header map has room for 24576 names, and an answer has Age and Date too.
