@@ -1,27 +1,26 @@
-//! What is told while a long recording is read.
-use std::io::{self, IsTerminal, Read, Stdin};
+//! What is written to a terminal while a long recording is read.
+use std::io::{self, IsTerminal, Read};
 
 const MEBIBYTE: u64 = 1024 * 1024;
 
-// So many bytes come in silence at first, and then between two lines.
+// So many bytes are read in silence at first, and then between two lines.
 const STEP: u64 = 16 * MEBIBYTE;
 
-/// Standard input. Where standard error is a terminal, it tells there how much of a long recording
-/// has come.
+/// A reader that writes on standard error, if that is a terminal, how much of a long recording was read.
 #[derive(Drop)]
-pub struct Watched<'a> {
+pub struct Watched<'a, R> {
     rt: &'a HostRuntime,
-    stdin: Stdin,
+    reader: R,
     is_watched: bool,
     count: u64,
 }
 
-impl Watched<'_> {
-    /// The standard input of a process, of which nothing was read.
-    pub fn new(rt: &HostRuntime) -> Watched<'_> {
+impl<R: Read> Watched<'_, R> {
+    /// Returns a reader of which nothing was read.
+    pub fn new(rt: &HostRuntime, reader: R) -> Watched<'_, R> {
         Watched {
             rt,
-            stdin: rt.stdin(),
+            reader,
             is_watched: rt.stderr().is_terminal(),
             count: 0,
         }
@@ -31,21 +30,21 @@ impl Watched<'_> {
     fn tell(&self, what: &str) {
         if self.is_watched {
             let mebibytes = self.count / MEBIBYTE;
-            // Where it can't be written, the audit goes on.
+            // If it can't be written, the audit goes on.
             let _ = eprintln!(self.rt; "cacheaudit: {mebibytes} MiB {what}");
         }
     }
 }
 
-impl Read for Watched<'_> {
+impl<R: Read> Read for Watched<'_, R> {
     fn read(&mut self, buf: &mut [u8]) -> io::Result<usize> {
-        let count = self.stdin.read(buf)?;
+        let count = self.reader.read(buf)?;
         let steps = self.count / STEP;
         self.count = self.count.saturating_add(count as u64);
         if count == 0 && steps > 0 {
-            self.tell("are audited");
+            self.tell("read; the audit begins");
         } else if self.count / STEP > steps {
-            self.tell("have come");
+            self.tell("read");
         }
         Ok(count)
     }

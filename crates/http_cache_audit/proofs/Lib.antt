@@ -1,5 +1,8 @@
 -- The lemmas about an audit.
-pub mod JsonLineLemmas
-pub mod LineLemmas
+pub mod CountsLemmas
+pub mod JsonLemmas
+pub mod ListLemmas
 pub mod ReadLemmas
-pub mod TellLemmas
+pub mod SourcesLemmas
+pub mod StoredLemmas
+pub mod WalkLemmas

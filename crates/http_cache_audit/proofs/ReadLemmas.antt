@@ -19,7 +19,7 @@ front-whole (Some bytes) n m all next is short =
     let within : length bytes ≤ m = omega (arith, next, taken, short) in
     is ∙ take_all m bytes within
 
--- what was read behind nothing is the front
+-- what was read after nothing is the front
 pub read-front : (known inner : Option (List ℕ)) (n limit : ℕ) (all start : List ℕ) → limit ≡ n → inner ≡ known
     → start ≡ [] → IfSome (option_map (take limit) inner) (λ bytes. all ≡ start ++ bytes)
     → IfSome (option_map (take n) known) (λ bytes. all ≡ bytes)

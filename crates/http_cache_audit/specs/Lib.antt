@@ -1,8 +1,15 @@
--- What an audit of a recorded session tells.
-pub mod JsonLine
-pub mod Lines
+pub mod Row
+pub mod Order
+pub mod Sources
+pub mod Assume
 pub mod Lint
+pub mod Lifetime
+pub mod Own
+pub mod Again
+pub mod Stored
+pub mod Walk
+pub mod Members
+pub mod Counts
+pub mod Report
 pub mod Output
 pub mod Status
-pub mod Tell
-pub mod Words

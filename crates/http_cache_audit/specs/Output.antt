@@ -1,11 +1,11 @@
 -- What is written for the bytes of a recording, and why nothing is.
-use Rattle.std.specs.Prelude.{◌<◌, ◌+◌, ℕ, List, Bool, length, take, ⊤, Option, option_map, IfSome}
-use Rattle.http_cache_semantics.specs.Options.{Options}
-use Rattle.http_cache_recording.specs.Entry.{RecordedSeen}
+use Rattle.std.specs.Prelude.{◌≡◌, ◌<◌, ◌+◌, ℕ, List, Bool, true, false, length, take, ⊤, Option, option_map, IfSome}
+use Rattle.std.specs.List.{list_any}
+use Rattle.http_cache_recording.specs.Entry.{RecordedSeen, ReadingSeen, entry, skipped}
 use Rattle.http_cache_recording.specs.Recording.{IsRecording, IsCause}
 use Rattle.http_cache_audit.specs.declared.error.AuditError.{AuditError}
 use Rattle.http_cache_audit.specs.declared.error.AuditError.TheVariants.{NotReadable, TooLong, Recording, Memory, NotWritten}
-use Rattle.http_cache_audit.specs.Lines.{IsAudit}
+use Rattle.http_cache_audit.specs.Report.{SettingsSeen, IsAudit}
 
 -- how many bytes the longest recording has
 abbrev pub longest_recording : ℕ
@@ -15,11 +15,20 @@ longest_recording = 1_073_741_824
 abbrev pub front_of : Option (List ℕ) → Option (List ℕ)
 front_of known = option_map (take (longest_recording + 1)) known
 
--- the bytes are a recording, and the text is of its audit
-pub record IsAudited (options : Options) (json : Bool) (bytes text : List ℕ) : Type 0 where
+abbrev pub is_audited : ReadingSeen → Bool
+is_audited (entry e) = true
+is_audited (skipped reason) = false
+
+abbrev pub any_audited : List RecordedSeen → Bool
+any_audited rs = list_any (λ (r : RecordedSeen). is_audited r.reading) rs
+
+-- the bytes are a recording, the text is of its audit, and an entry was audited, or none was
+pub record IsAudited (s : SettingsSeen) (ignores_no_cache : Bool) (bytes : List ℕ) (audited : Bool) (text : List ℕ)
+    : Type 0 where
   pub recorded : List RecordedSeen
-  pub is_recording : IsRecording bytes recorded
-  pub is_audit : IsAudit options json recorded text
+  pub is_recording : IsRecording ignores_no_cache bytes recorded
+  pub is_audit : IsAudit s recorded text
+  pub any : audited ≡ any_audited recorded
 
 -- what an error says of what a reader has left, where that is known
 abbrev pub IsRefusal : Option (List ℕ) → AuditError → Type 0

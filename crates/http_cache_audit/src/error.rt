@@ -1,4 +1,7 @@
 //! Why a recording wasn't audited.
+ghost use Rattle.std.specs.Prelude.{◌≡◌};
+ghost use Rattle.http_cache_audit.specs.Status.{status_of};
+
 use http_cache_recording::ReadingError;
 use thiserror::Error;
 
@@ -14,8 +17,8 @@ pub enum AuditError {
     /// What it gave is no recording.
     #[error("{0}")]
     Recording(ReadingError),
-    /// The audit has no memory.
-    #[error("no memory")]
+    /// The allocator had no memory.
+    #[error("out of memory")]
     Memory,
     /// The writer failed.
     #[error("output: not written")]
@@ -23,9 +26,6 @@ pub enum AuditError {
 }
 
 impl AuditError {
-    ghost use Rattle.std.specs.Prelude.{◌≡◌};
-    ghost use Rattle.http_cache_audit.specs.Status.{status_of};
-
     /// The exit status: 2 where the input is no recording, 3 where memory or the output fails.
     pub fn status(&self) -> u8
         ensures { result ≡ status_of self.now }

@@ -1,11 +1,20 @@
-//! What is told of a recorded session: a line an entry, and a summary.
+//! What a cache would have done with a recorded session: a row for each entry, what is printed of it, and
+//! counts.
 #![tactic(auto)]
 
-pub mod audit;
+mod again;
+mod assume;
+mod counts;
 pub mod error;
-pub mod examples;
-pub mod json;
+mod lifetime;
 pub mod lint;
+mod members;
+mod order;
+mod own;
+pub mod report;
+mod row;
 pub mod run;
-pub mod tell;
-pub mod words;
+mod sources;
+mod stored;
+mod texts;
+mod walk;

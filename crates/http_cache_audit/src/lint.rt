@@ -1,17 +1,16 @@
 //! What looks wrong in a response, though the rules of caching give it a meaning.
-ghost use Rattle.std.specs.Prelude.{◌≡◌, ◌≤◌, ◌&&◌, ◌||◌, ◌++◌, not, length, pos, int_lt, ◌-ℤ◌, option_copied};
+ghost use Rattle.std.specs.Prelude.{◌≡◌, ◌++◌, pos, int_lt, ◌-ℤ◌, option_copied};
 ghost use Rattle.std.specs.Prelude.{map, string_bytes, IfOk, OnOk};
-ghost use Rattle.std.specs.List.{find, list_any, position_or_len};
-ghost use Rattle.std.specs.Char.{is_ascii_uppercase};
+ghost use Rattle.std.specs.List.{list_any};
 ghost use Rattle.http_header.specs.Token.{lowercase};
-ghost use Rattle.http_cache_semantics.specs.Headers.{headers_of};
-ghost use Rattle.http_cache_fields.specs.Headers.{contains_key};
-ghost use Rattle.http_cache_fields.specs.Text.{is_equals};
-ghost use Rattle.http_cache_audit.specs.Lint.{cache_pieces, is_named, says_other, is_in_conflict, has_semicolon};
-ghost use Rattle.http_cache_audit.specs.Lint.{begins_quoted, is_quoted, is_upper_case, is_dated_before};
-ghost use Rattle.http_cache_audit.specs.Lint.{lint_in, hint, words_of, hints_of};
+ghost use Rattle.http_cache_fields.specs.Headers.{headers_of};
+ghost use Rattle.http_cache_audit.specs.Lint.{cache_pieces, is_named, first_named, says_other};
+ghost use Rattle.http_cache_audit.specs.Lint.{is_in_conflict, has_semicolon, begins_quoted, is_quoted};
+ghost use Rattle.http_cache_audit.specs.Lint.{is_upper_case, has_flaw, is_dated_before, lint_in, hint};
+ghost use Rattle.http_cache_audit.specs.Lint.{words_of, hints_of};
 ghost use Rattle.http_cache_recording.specs.Entry.{entry_seen};
 
+use crate::own::date_of;
 use http::header::{AGE, CACHE_CONTROL};
 use http::{HeaderMap, response};
 use http_cache_fields::directives::split_piece;
@@ -19,7 +18,6 @@ use http_cache_fields::headers::contains_key;
 use http_cache_fields::names::is_same_name;
 use http_cache_fields::pieces::pieces_under;
 use http_cache_recording::{Answer, Entry};
-use http_cache_walk::walk::date_of;
 use jiff::Timestamp;
 use std::alloc::{AllocError, Global};
 
@@ -53,9 +51,9 @@ fn says_other(name: &str, one: &str, piece: &str) -> bool
 }
 
 // The first piece of the Cache-Control lines whose directive has the name.
-fn first_named<'a>(headers: &'a HeaderMap, name: &str) -> Option<&'a str>
-    ensures { lowercase name.now ≡ name.now → option_copied result
-        ≡ find (is_named name.now) (cache_pieces (headers_of headers.now)) }
+pub(crate) fn first_named<'a>(headers: &'a HeaderMap, name: &str) -> Option<&'a str>
+    ensures { lowercase name.now ≡ name.now
+        → option_copied result ≡ first_named (headers_of headers.now) name.now }
 {
     pieces_under(headers, CACHE_CONTROL).find(|piece| is_named(name, piece))
 }
@@ -95,91 +93,84 @@ fn is_quoted(piece: &str) -> bool
         }
 }
 
-// The length of the name that a piece begins with.
-fn name_len(text: &[u8]) -> usize
-    ensures value { result ≡ position_or_len is_equals text.now }
-    ensures within { result ≤ length text.now }
-{
-    for (i, b) in text.iter().enumerate() {
-        if *b == b'=' {
-            return i;
-        }
-    }
-    text.len()
-}
-
-fn any_upper(text: &[u8]) -> bool
-    ensures { result ≡ list_any is_ascii_uppercase text.now }
-{
-    for b in text {
-        if b.is_ascii_uppercase() {
-            return true;
-        }
-    }
-    false
-}
-
 // The name of a directive has a letter in upper case.
 fn is_upper_case(piece: &str) -> bool
     ensures { result ≡ is_upper_case piece.now }
 {
-    let text = piece.as_bytes();
-    any_upper(&text[..name_len(text)])
+    let mut name = piece.as_bytes().iter().take_while(|b| **b != b'=');
+    name.any(|b| b.is_ascii_uppercase())
 }
 
-fn any_semicolon(headers: &HeaderMap) -> bool
-    ensures { result ≡ list_any has_semicolon (cache_pieces (headers_of headers.now)) }
+// What looks wrong in a directive.
+#[derive(Clone, Copy)]
+enum Flaw {
+    Semicolon,
+    Quoted,
+    UpperCase,
+}
+
+fn has_flaw(flaw: Flaw, piece: &str) -> bool
+    ensures { result ≡ has_flaw flaw piece.now }
 {
-    pieces_under(headers, CACHE_CONTROL).any(|piece| has_semicolon(piece))
+    match flaw {
+        Flaw::Semicolon => has_semicolon(piece),
+        Flaw::Quoted => is_quoted(piece),
+        Flaw::UpperCase => is_upper_case(piece),
+    }
 }
 
-fn any_quoted(headers: &HeaderMap) -> bool
-    ensures { result ≡ list_any is_quoted (cache_pieces (headers_of headers.now)) }
+fn any_flaw(headers: &HeaderMap, flaw: Flaw) -> bool
+    ensures { result ≡ list_any (has_flaw flaw) (cache_pieces (headers_of headers.now)) }
 {
-    pieces_under(headers, CACHE_CONTROL).any(|piece| is_quoted(piece))
+    pieces_under(headers, CACHE_CONTROL).any(|piece| has_flaw(flaw, piece))
 }
 
-fn any_upper_case(headers: &HeaderMap) -> bool
-    ensures { result ≡ list_any is_upper_case (cache_pieces (headers_of headers.now)) }
-{
-    pieces_under(headers, CACHE_CONTROL).any(|piece| is_upper_case(piece))
-}
-
-// More than a minute lies between two moments.
+// Whether a time is more than a minute before another.
 fn is_minute_before(date: Timestamp, received: Timestamp) -> bool
     ensures { result ≡ int_lt (pos 60_000_000_000) (received.nanosecond -ℤ date.nanosecond) }
 {
     received.as_nanosecond() - date.as_nanosecond() > 60_000_000_000
 }
 
-// The moment of the Date is more than a minute before another.
-fn is_dated_before(received: Timestamp, headers: &HeaderMap) -> bool
-    ensures { result ≡ is_dated_before received.nanosecond (headers_of headers.now) }
+// Whether the Date is more than a minute before a time.
+fn is_dated_before(
+    alloc: Global,
+    received: Timestamp,
+    headers: &HeaderMap,
+) -> Result<bool, AllocError>
+    ensures { IfOk result (λ yes. yes
+        ≡ is_dated_before received.nanosecond (headers_of headers.now)) }
 {
-    match date_of(headers) {
+    Ok(match date_of(alloc, headers)? {
         Some(date) => is_minute_before(date, received),
         None => false,
-    }
+    })
 }
 
-// What looks wrong in a response, by when it came.
-fn lint_of(response: &response::Parts, received: Timestamp) -> Lint
-    ensures { result ≡ lint_in received.nanosecond (headers_of response.now.headers) }
+// What looks wrong in a response, by when it was received.
+fn lint_of(
+    alloc: Global,
+    response: &response::Parts,
+    received: Timestamp,
+) -> Result<Lint, AllocError>
+    ensures { IfOk result (λ lint. lint
+        ≡ lint_in received.nanosecond (headers_of response.now.headers)) }
 {
     let headers = &response.headers;
+    let is_old = is_dated_before(alloc, received, headers)?;
     let max_age = is_in_conflict(headers, "max-age");
     let s_maxage = is_in_conflict(headers, "s-maxage");
-    Lint {
+    Ok(Lint {
         conflicting: max_age || s_maxage,
-        semicolon: any_semicolon(headers),
-        quoted: any_quoted(headers),
-        upper_case: any_upper_case(headers),
-        old_date: is_dated_before(received, headers) && !contains_key(headers, AGE),
-    }
+        semicolon: any_flaw(headers, Flaw::Semicolon),
+        quoted: any_flaw(headers, Flaw::Quoted),
+        upper_case: any_flaw(headers, Flaw::UpperCase),
+        old_date: is_old && !contains_key(headers, AGE),
+    })
 }
 
-// The words of a hint behind others, where it holds.
-fn push_hint(
+/// Puts words behind others, where something holds.
+pub(crate) fn push_hint(
     alloc: Global,
     all: &mut Vec<String>,
     holds: bool,
@@ -212,13 +203,13 @@ fn words_of(alloc: Global, lint: Lint) -> Result<Vec<String>, AllocError>
     Ok(all)
 }
 
-/// What looks wrong in the response that came for an entry, in words. Nothing is hinted at where
-/// nothing came, or where the browser answered from its own cache.
+/// Returns what looks wrong in the response that an entry received, in words. Nothing looks wrong if it
+/// received none, or if the browser answered from its own cache.
 pub fn hints_of(alloc: Global, entry: &Entry) -> Result<Vec<String>, AllocError>
     ensures { IfOk result (λ all. map string_bytes all.items ≡ hints_of (entry_seen entry.now)) }
 {
     match &entry.answer {
         Answer::Failed | Answer::Cached(_) => Ok(Vec::new(alloc)),
-        Answer::Received(response) => words_of(alloc, lint_of(response, entry.received)),
+        Answer::Received(response) => { words_of(alloc, lint_of(alloc, response, entry.received)?) }
     }
 }

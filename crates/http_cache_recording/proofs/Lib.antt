@@ -1,4 +1,3 @@
 -- The lemmas of recordings.
 pub mod FieldLemmas
 pub mod MendLemmas
-pub mod ToldLemmas

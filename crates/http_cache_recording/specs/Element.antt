@@ -1,149 +1,169 @@
--- What an element of the list of entries says.
-use Rattle.std.specs.Prelude.{◌≡◌, ◌⊎◌, ℕ, ◌==◌, ℤ, Bool, true, false, List, bytes_eq, codes, unwrap_or, is_some}
-use Rattle.std.specs.Prelude.{Option, Some, None, if◌then◌else◌, MatchOption}
-use Rattle.http_header.specs.Token.{IsToken}
-use Rattle.http_header.specs.FieldValue.{IsFieldValue}
-use Rattle.http_uri.specs.Uri.{Spells, SpellsNone, uri_eq}
-use Rattle.http_uri.specs.declared.uri.Uri.{Uri}
-use Rattle.http.specs.StatusCode.{IsStatusCode}
+-- What an element of the list of entries holds.
+use Rattle.std.specs.Prelude.{◌≡◌, ℕ, ◌==◌, ◌||◌, ◌&&◌, not, nat_lt, ℤ, Bool, true, false, List, ◌++◌, length, bytes_eq, codes, unwrap_or}
+use Rattle.std.specs.Prelude.{is_some, is_none, Option, Some, option_map, if◌then◌else◌, MatchOption}
+use Rattle.std.specs.List.{list_all}
+use Rattle.std.specs.Int.{is_in_range}
+use Rattle.std.specs.Option.{option_or, option_map_or}
+use Rattle.http_header.specs.Token.{is_token_byte}
 use Rattle.serde_json.specs.Data.{Data}
-use Rattle.serde_json.specs.Find.{get, as_str, as_bool, as_array}
+use Rattle.serde_json.specs.Find.{get, as_bool}
+use Rattle.http_cache_fields.specs.Headers.{Headers, contains_key}
 use Rattle.http_cache_rules.specs.Messages.{ResponseSeen}
-use Rattle.http_cache_stored.specs.Form.{◌>>=◌}
-use Rattle.http_cache_stored.specs.Pairs.{HoldsPairs}
-use Rattle.http_cache_recording.specs.Entry.{AnswerSeen, failed, cached, received, EntrySeen, ReadingSeen, entry}
-use Rattle.http_cache_recording.specs.Entry.{skipped, SkipSeen, no_request, scheme, no_target, connect, upgrade}
-use Rattle.http_cache_recording.specs.Entry.{service_worker, no_moment, too_many_headers, RecordedSeen}
-use Rattle.http_cache_recording.specs.Number.{whole_part}
+use Rattle.http_cache_stored.specs.Form.{◌>>=◌, given}
+use Rattle.http_cache_recording.specs.declared.element.Reader.{Reader}
+use Rattle.http_cache_recording.specs.declared.entry.Kind.{Kind}
+use Rattle.http_cache_recording.specs.declared.entry.Kind.TheVariants as kind
+use Rattle.http_cache_recording.specs.Entry.{AnswerSeen, failed, cached, received, BodySeen, EntrySeen, RecordedSeen}
+use Rattle.http_cache_recording.specs.Entry.{entry, skipped}
+use Rattle.http_cache_recording.specs.Number.{whole}
 use Rattle.http_cache_recording.specs.Moment.{moment_of_text, received_at}
-use Rattle.http_cache_recording.specs.Target.{without_fragment, other_scheme, PartsSeen, url_parts, host_of}
-use Rattle.http_cache_recording.specs.Target.{target_text}
-use Rattle.http_cache_recording.specs.Fields.{pairs_of, request_pairs, Overflow}
-use Rattle.http_cache_recording.specs.Told.{member_of, some_text, status_of, mark_of, told_of}
+use Rattle.http_cache_recording.specs.Target.{has_user, other_scheme, url_parts, target_text}
+use Rattle.http_cache_recording.specs.Fields.{headers_in, without_no_cache}
+use Rattle.http_cache_recording.specs.Printed.{member_of, text_in, some_text_in, request_text, status_of, browser_of, error_of, printed_of}
+use Rattle.http_cache_recording.specs.Printed.{IsSkippedUrl}
 
--- what is asked: a url and a method
-pub record AskedSeen : Type 0 where
-  pub url : List ℕ
-  pub method : List ℕ
+-- ---- why it isn't audited
 
--- what a request asks that has a url, a method and a list of headers
-unfoldable pub asked_of : Data → Option AskedSeen
-asked_of d = do
-  request ← get (codes "request") d
-  url ← get (codes "url") request >>= as_str
-  method ← get (codes "method") request >>= as_str >>= some_text
-  headers ← get (codes "headers") request >>= as_array
-  Some (record { url = url; method = method })
+-- a token (RFC 9110, section 5.6.2)
+abbrev pub is_token : List ℕ → Bool
+is_token text = nat_lt 0 (length text) && list_all is_token_byte text
 
--- whether a service worker answered, where that is told
-abbrev pub worker_flag : Data → Option Bool
-worker_flag d = member_of (codes "response") (codes "_fetchedViaServiceWorker") d >>= as_bool
+-- the method of the request, if it is a token (RFC 9110, section 9.1)
+unfoldable pub method_in : Data → Option (List ℕ)
+method_in d = request_text (codes "method") d >>= (λ m. given (is_token m) m)
 
--- why what was asked isn't audited, whatever its target
-unfoldable pub set_aside : List ℕ → Data → Option SkipSeen
-set_aside method d =
-    if bytes_eq method (codes "CONNECT") then Some connect
-    else (if status_of d == 101 then Some upgrade
-    else (if unwrap_or (worker_flag d) false then Some service_worker else None))
+-- a service worker answered
+abbrev pub by_worker : Data → Option (List ℕ)
+by_worker d =
+    member_of (codes "response") (codes "_fetchedViaServiceWorker") d >>= as_bool
+    >>= (λ flag. given flag (codes "service worker"))
 
--- when the request was sent, as it is written
-abbrev pub started_text : Data → Option (List ℕ)
-started_text d = get (codes "startedDateTime") d >>= as_str
+-- why what is asked by http or https isn't audited, whatever its target
+unfoldable pub other_reason : List ℕ → Data → Option (List ℕ)
+other_reason method d =
+    if bytes_eq method (codes "CONNECT") then Some (codes "connect")
+    else (if status_of d == 101 then Some (codes "upgrade") else by_worker d)
+
+-- why what is asked for at a url isn't audited
+abbrev pub url_reason : List ℕ → Data → List ℕ → Option (List ℕ)
+url_reason method d url =
+    option_or (given (has_user url) (codes "no target"))
+    (option_or (option_map (λ s. codes "scheme " ++ s) (other_scheme url))
+    (option_or (given (is_none (url_parts url)) (codes "no target")) (other_reason method d)))
+
+-- why an element isn't audited, but for its method and its time: the first reason that holds
+unfoldable pub reason_of : List ℕ → Data → Option (List ℕ)
+reason_of method d = option_map_or (url_reason method d) (request_text (codes "url") d) (Some (codes "no request"))
+
+-- ---- what it holds
+
+-- the target of an element that has one
+unfoldable pub target_in : Data → Option (List ℕ)
+target_in d = option_map target_text (request_text (codes "url") d >>= url_parts)
 
 -- when the request was sent
 unfoldable pub started_of : Data → Option ℤ
-started_of d = started_text d >>= moment_of_text
+started_of d = text_in (codes "startedDateTime") d >>= moment_of_text
 
--- the names and values of the headers of the request, and of the response
-abbrev pub asking_pairs : List ℕ → Data → List (List ℕ × List ℕ)
-asking_pairs host d = request_pairs host (member_of (codes "request") (codes "headers") d)
+-- the headers of the request, without `no-cache` if that is ignored
+unfoldable pub request_headers : Bool → Data → Headers
+request_headers ignores d =
+    let all = headers_in (member_of (codes "request") (codes "headers") d) in
+    if ignores then without_no_cache all else all
 
-abbrev pub answering_pairs : Data → List (List ℕ × List ℕ)
-answering_pairs d = pairs_of true (member_of (codes "response") (codes "headers") d)
+-- the response of an element with a status
+abbrev pub response_of : Data → ResponseSeen
+response_of d = record {
+  status = status_of d;
+  headers = headers_in (member_of (codes "response") (codes "headers") d);
+}
 
--- the response of an element that has one
-pub record IsResponseOf (d : Data) (r : ResponseSeen) : Type 0 where
-  pub status : r.status ≡ status_of d
-  pub code : IsStatusCode (status_of d)
-  pub headers : HoldsPairs (answering_pairs d) r.headers
+-- no whole response was received: an error, or no status
+abbrev pub is_failed : Data → Bool
+is_failed d = is_some (error_of d) || not (is_in_range 100 999 (status_of d))
 
--- what came: nothing where the status is none; what has a mark is from the browser's own cache
-abbrev pub IsAnswer : Data → AnswerSeen → Type 0
-IsAnswer d failed = IsStatusCode (status_of d) → ⊥
-IsAnswer d (cached r) = (is_some (mark_of d) ≡ true) × IsResponseOf d r
-IsAnswer d (received r) = (is_some (mark_of d) ≡ false) × IsResponseOf d r
+-- the response to the request, and where it is from
+unfoldable pub answer_of : Data → AnswerSeen
+answer_of d =
+    if is_failed d then failed
+    else (if is_some (browser_of d) then cached (response_of d) else received (response_of d))
 
--- the target of a request, its host and its method
-pub record MadeSeen : Type 0 where
-  pub target : Uri
-  pub host : List ℕ
-  pub method : List ℕ
+-- the body of the response, if it was recorded: a 304 has none
+unfoldable pub body_of : Data → Option BodySeen
+body_of d = do
+  content ← member_of (codes "response") (codes "content") d
+  text ← some_text_in (codes "text") content
+  given (not (status_of d == 304)) (record { text = text; encoding = some_text_in (codes "encoding") content })
 
--- what is seen of them
-abbrev pub made_seen : Uri → List ℕ → List ℕ → MadeSeen
-made_seen target host method = record { target = target; host = host; method = method }
+-- ---- what it is counted as
 
--- the entry of an element
-pub record IsEntry (d : Data) (made : MadeSeen) (started : ℤ) (e : EntrySeen) : Type 0 where
-  pub starts : e.started ≡ started
-  pub received : e.received ≡ received_at started (whole_part (get (codes "time") d))
-  pub target : e.request.target ≡ made.target
-  pub same : e.request.is_same_target ≡ uri_eq made.target
-  pub method : e.request.method ≡ made.method
-  pub headers : HoldsPairs (asking_pairs made.host d) e.request.headers
-  pub answer : IsAnswer d e.answer
+-- the browser redirected the request by itself
+abbrev pub is_internal : AnswerSeen → Bool
+is_internal failed = false
+is_internal (cached r) = contains_key r.headers (codes "non-authoritative-reason")
+is_internal (received r) = contains_key r.headers (codes "non-authoritative-reason")
 
--- a header map has no room for the headers of the request, or for those of the response
-abbrev pub IsOverfull : Data → List ℕ → Type 0
-IsOverfull d host =
-    Overflow (asking_pairs host d) ⊎ (IsStatusCode (status_of d) × Overflow (answering_pairs d))
+-- the request asks if another origin may be asked (CORS)
+abbrev pub is_preflight : Data → List ℕ → Headers → Bool
+is_preflight d method h =
+    bytes_eq method (codes "OPTIONS")
+    && (contains_key h (codes "access-control-request-method")
+    || option_map_or (λ t. bytes_eq t (codes "preflight")) (some_text_in (codes "_resourceType") d) false)
 
--- the entry, where header maps have room for it
-abbrev pub IsFilled : Data → MadeSeen → ℤ → ReadingSeen → Type 0
-IsFilled d made started (entry e) = IsEntry d made started e
-IsFilled d made started (skipped s) = (s ≡ too_many_headers) × IsOverfull d made.host
+-- a store can answer requests of the method
+abbrev pub is_answered_by_store : List ℕ → Bool
+is_answered_by_store method = bytes_eq method (codes "GET") || bytes_eq method (codes "HEAD")
 
--- the same, where the request was sent at a moment since 1970
-abbrev pub IsTimed : Data → MadeSeen → ReadingSeen → Type 0
-IsTimed d made r = MatchOption (started_of d) (r ≡ skipped no_moment) (λ started. IsFilled d made started r)
+-- the request asks for a range, or got one
+abbrev pub is_range : Data → Headers → Bool
+is_range d h = status_of d == 206 || contains_key h (codes "range")
 
--- the same, where the request isn't set aside
-abbrev pub IsUsual : Data → MadeSeen → ReadingSeen → Type 0
-IsUsual d made r = MatchOption (set_aside made.method d) (IsTimed d made r) (λ s. r ≡ skipped s)
+-- no response was received
+abbrev pub has_failed : AnswerSeen → Bool
+has_failed failed = true
+has_failed (cached r) = false
+has_failed (received r) = false
 
--- the text is no target, or the host no header value, or the method no token (RFC 9110, section 9.1)
-abbrev pub IsNoTarget : List ℕ → List ℕ → List ℕ → Type 0
-IsNoTarget text host method = SpellsNone text ⊎ ((IsFieldValue host → ⊥) ⊎ (IsToken method → ⊥))
+-- what a request is counted as: the first that holds
+unfoldable pub kind_of : Data → List ℕ → Headers → AnswerSeen → Kind
+kind_of d method h a =
+    if is_internal a then kind.Internal
+    else (if is_preflight d method h then kind.Preflight
+    else (if not (is_answered_by_store method) then kind.Passed
+    else (if is_range d h then kind.Range else (if has_failed a then kind.Failed else kind.Asked))))
 
--- the target that a text spells, with a host and a method that a request can have
-pub record IsMade (text host method : List ℕ) (made : MadeSeen) : Type 0 where
-  pub spelled : Spells text made.target
-  pub host_is : made.host ≡ host
-  pub value : IsFieldValue host
-  pub method_is : made.method ≡ method
-  pub token : IsToken method
+-- ---- all of it
 
--- what the parts of a url say
-abbrev pub IsParted : Data → List ℕ → PartsSeen → ReadingSeen → Type 0
-IsParted d method parts r =
-    ((made : MadeSeen) × IsMade (target_text parts) (host_of parts.authority) method made × IsUsual d made r)
-    ⊎ (IsNoTarget (target_text parts) (host_of parts.authority) method × (r ≡ skipped no_target))
+-- the entry of a request that was sent at a time
+unfoldable pub entry_of : Bool → List ℕ → ℤ → Data → EntrySeen
+entry_of ignores method started d = record {
+  kind = kind_of d method (request_headers ignores d) (answer_of d);
+  started = started;
+  received = received_at started (unwrap_or (whole (get (codes "time") d)) 0);
+  method = method;
+  headers = request_headers ignores d;
+  answer = answer_of d;
+  body = body_of d;
+}
 
--- what is asked by http or https
-abbrev pub IsWeb : Data → AskedSeen → ReadingSeen → Type 0
-IsWeb d asked r =
-    MatchOption (url_parts (without_fragment asked.url)) (r ≡ skipped no_target)
-    (λ parts. IsParted d asked.method parts r)
+-- the row of an element that isn't audited
+abbrev pub IsSkipped : Reader → Data → List ℕ → RecordedSeen → Type 0
+IsSkipped reader d reason r =
+    (url : Option (List ℕ)) × IsSkippedUrl d url
+    × (r ≡ record { printed = printed_of reader.is_firefox url d; reading = skipped reason })
 
--- what is asked by any scheme
-abbrev pub IsAsked : Data → AskedSeen → ReadingSeen → Type 0
-IsAsked d asked r = MatchOption (other_scheme asked.url) (IsWeb d asked r) (λ s. r ≡ skipped (scheme s))
+-- the row of an element with a method, and a target and a time, or without
+abbrev pub IsRecordedBy : Reader → Data → List ℕ → RecordedSeen → Type 0
+IsRecordedBy reader d method r =
+    MatchOption (reason_of method d)
+    (MatchOption (started_of d) (IsSkipped reader d (codes "no moment") r)
+    (λ started. r ≡ record {
+      printed = printed_of reader.is_firefox (target_in d) d;
+      reading = entry (entry_of reader.ignores_no_cache method started d);
+    }))
+    (λ reason. IsSkipped reader d reason r)
 
--- what an element says: the first reason for which it says nothing, or its entry
-unfoldable pub IsReading : Data → ReadingSeen → Type 0
-IsReading d r = MatchOption (asked_of d) (r ≡ skipped no_request) (λ asked. IsAsked d asked r)
-
--- an element with what is told of it
-pub record IsRecorded (d : Data) (r : RecordedSeen) : Type 0 where
-  pub told : r.told ≡ told_of d
-  pub reading : IsReading d r.reading
+-- the row of an element: its entry, or the first reason why it isn't audited
+abbrev pub IsRecorded : Reader → Data → RecordedSeen → Type 0
+IsRecorded reader d r =
+    MatchOption (method_in d) (IsSkipped reader d (codes "no request") r) (λ method. IsRecordedBy reader d method r)

@@ -4,6 +4,6 @@ pub mod Number
 pub mod Moment
 pub mod Target
 pub mod Fields
-pub mod Told
+pub mod Printed
 pub mod Element
 pub mod Recording

@@ -16,7 +16,7 @@ is_high_digit b = is_in_range 56 57 b || is_in_range 65 66 b || is_in_range 97 9
 abbrev pub is_low_digit : ℕ → Bool
 is_low_digit b = is_in_range 67 70 b || is_in_range 99 102 b
 
--- `\ud` in front, and three bytes of which the last two are digits
+-- begins with `\ud` and three bytes of which the last two are digits
 unfoldable pub is_escape : List ℕ → Bool
 is_escape text =
     nat_le 6 (length text) && (slice_index text 0 == 92) && (slice_index text 1 == 117)
@@ -31,7 +31,7 @@ is_high text = is_escape text && is_high_digit (slice_index text 3)
 unfoldable pub is_low : List ℕ → Bool
 is_low text = is_escape text && is_low_digit (slice_index text 3)
 
--- the escape of a high surrogate in front, and that of a low one behind it
+-- the escape of a high surrogate in front, and of a low one after it
 unfoldable pub is_pair : List ℕ → Bool
 is_pair text = is_high text && is_low (drop 6 text)
 
@@ -39,14 +39,14 @@ is_pair text = is_high text && is_low (drop 6 text)
 unfoldable pub is_lone : List ℕ → Bool
 is_lone text = not (is_pair text) && (is_high text || is_low text)
 
--- how long the unit in front is: a pair, a lone surrogate, a backslash with the byte behind it, or a byte
+-- how long the unit in front is: a pair, a lone surrogate, a backslash with the byte after it, or a byte
 unfoldable pub unit_len : List ℕ → ℕ
 unit_len text =
     if is_pair text then 12
     else (if is_lone text then 6
     else (if nat_eq (slice_index text 0) 92 then min 2 (length text) else 1))
 
--- what becomes of the unit in front: a lone surrogate is read as U+FFFD
+-- what becomes of the unit in front: a lone surrogate is replaced by U+FFFD
 unfoldable pub unit : List ℕ → List ℕ
 unit text = if is_lone text then 92 ∷ 117 ∷ codes "fffd" else take (unit_len text) text
 
@@ -60,7 +60,7 @@ mended_from (p ∷ planned) (b ∷ bs) = p ∷ mended_from planned bs
 unfoldable pub mended : List ℕ → List ℕ
 mended text = mended_from [] text
 
--- the text behind a byte order mark
+-- the text after a byte order mark
 abbrev pub without_mark : List ℕ → List ℕ
 without_mark text = if starts_with nat_eq text (239 ∷ 187 ∷ 191 ∷ []) then drop 3 text else text
 

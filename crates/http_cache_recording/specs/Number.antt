@@ -1,17 +1,17 @@
--- What numbers of a recording count.
-use Rattle.std.specs.Prelude.{ℕ, Option, option_map, unwrap_or}
+-- Numbers of a recording.
+use Rattle.std.specs.Prelude.{ℕ, ◌^◌, nat_lt, Option, Some, None, if◌then◌else◌}
 use Rattle.std.specs.Int.{w64}
-use Rattle.std.specs.Float.{float_to_unsigned}
+use Rattle.std.specs.Float.{float_to_unsigned, is_sign_negative}
 use Rattle.serde_json.specs.Data.{Num, unsigned, negative, float, Data}
 use Rattle.serde_json.specs.Find.{as_number}
-use Rattle.http_cache_stored.specs.Form.{◌>>=◌}
+use Rattle.http_cache_stored.specs.Form.{◌>>=◌, given}
 
--- the number without its fraction: 0 below 0, and at most 2^64 - 1
-abbrev pub whole_of_number : Num → ℕ
-whole_of_number (unsigned n) = n
-whole_of_number (negative z) = 0
-whole_of_number (float x) = float_to_unsigned w64 x
+-- the number without its fraction, if it isn't below 0
+abbrev pub whole_of_number : Num → Option ℕ
+whole_of_number (unsigned n) = Some n
+whole_of_number (negative z) = None
+whole_of_number (float x) = if is_sign_negative x then None else Some (float_to_unsigned w64 x)
 
--- the same of a value, which is 0 where it is no number or missing
-unfoldable pub whole_part : Option Data → ℕ
-whole_part d = unwrap_or (option_map whole_of_number (d >>= as_number)) 0
+-- the number of a value without its fraction, if it has one from 0 to 2^53 - 1
+unfoldable pub whole : Option Data → Option ℕ
+whole d = d >>= as_number >>= whole_of_number >>= (λ n. given (nat_lt n (2 ^ 53)) n)

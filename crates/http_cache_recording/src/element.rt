@@ -1,220 +1,47 @@
 //! Entries from the elements of their list.
-ghost use Rattle.std.specs.Prelude.{◌≡◌, option_map, IfOk, IfSome, IsErrOf, MatchOption};
-ghost use Rattle.http_header.specs.Token.{IsToken};
-ghost use Rattle.http_header.specs.FieldValue.{IsFieldValue, plain_value};
-ghost use Rattle.http_uri.specs.Uri.{Spells, SpellsNone};
-ghost use Rattle.http.specs.StatusCode.{IsStatusCode};
+ghost use Rattle.std.specs.Prelude.{◌≡◌, option_map, string_bytes, IfOk};
+ghost use Rattle.http_cache_fields.specs.Headers.{headers_of};
 ghost use Rattle.serde_json.specs.View.{view};
-ghost use Rattle.http_cache_rules.specs.Messages.{response_seen};
-ghost use Rattle.http_cache_recording.specs.Entry.{answer_seen, entry_seen, skip_seen, reading_seen, recorded_seen};
-ghost use Rattle.http_cache_recording.specs.Element.{asked_of, worker_flag, set_aside, started_text, started_of};
-ghost use Rattle.http_cache_recording.specs.Element.{made_seen};
-ghost use Rattle.http_cache_recording.specs.Element.{IsResponseOf, IsAnswer, IsEntry, IsOverfull, IsFilled, IsTimed};
-ghost use Rattle.http_cache_recording.specs.Element.{IsUsual};
-ghost use Rattle.http_cache_recording.specs.Element.{IsNoTarget, IsMade, IsParted, IsWeb, IsAsked, IsReading};
-ghost use Rattle.http_cache_recording.specs.Element.{IsRecorded, answering_pairs};
-ghost use Rattle.http_cache_recording.specs.Fields.{Overflow};
-ghost use Rattle.http_cache_recording.specs.Told.{status_of};
-ghost use Rattle.http_cache_recording.specs.Target.{without_fragment, url_parts, host_of, target_text};
+ghost use Rattle.http_cache_recording.specs.Entry.{text_seen, answer_seen, body_seen, entry_seen, recorded_seen};
+ghost use Rattle.http_cache_recording.specs.Element.{method_in, other_reason, reason_of, target_in, started_of};
+ghost use Rattle.http_cache_recording.specs.Element.{request_headers, answer_of, body_of, is_internal, is_preflight};
+ghost use Rattle.http_cache_recording.specs.Element.{is_answered_by_store, is_range, kind_of, entry_of, IsSkipped, IsRecordedBy};
+ghost use Rattle.http_cache_recording.specs.Element.{IsRecorded};
 
-use crate::entry::{Answer, Entry, Reading, Recorded, Skip};
-use crate::fields::{Unfit, request_headers, response_headers};
+use crate::entry::{Answer, Body, Entry, Kind, Reading, Recorded};
+use crate::fields::{headers_in, remove_no_cache};
 use crate::moment::{moment_of_text, received_at};
-use crate::number::whole_part;
-use crate::target::{UrlParts, host_of, other_scheme, target_text, url_parts, without_fragment};
-use crate::told::{mark_of, member, some_text, status_of, told_of};
+use crate::number::whole;
+use crate::printed::{
+    browser_of, copied, error_of, member, printed_of, request_text, skipped_url, some_text_in,
+    status_of, text_in,
+};
+use crate::target::{has_user, other_scheme, target_text, url_parts};
 use http::method::MethodError;
-use http::{Method, StatusCode, Uri, Version, request, response};
+use http::{HeaderMap, Method, Version, response};
+use http_cache_fields::headers::contains_key;
 use http_cache_stored::texts::status_from_number;
-use http_header::{HeaderValue, HeaderValueError};
-use http_uri::UriError;
 use jiff::Timestamp;
 use serde_json::Value;
 use std::alloc::{AllocError, Global};
 
-// What is asked.
+/// How the elements of a recording are read.
 #[derive(Clone, Copy)]
-struct Asked<'a> {
-    url: &'a str,
-    method: &'a str,
+pub(crate) struct Reader {
+    /// Firefox wrote the recording.
+    pub is_firefox: bool,
+    /// Requests are read without their `no-cache`.
+    pub ignores_no_cache: bool,
 }
 
-#[tactic(auto, unfolding(crate::specs::Element::asked_of))]
-fn asked_of(value: &Value) -> Option<Asked<'_>>
-    ensures { option_map (λ a. record { url = a.url.now; method = a.method.now }) result
-        ≡ asked_of (view value.now) }
+// The method of the request, if it is a token (RFC 9110, section 9.1).
+#[tactic(auto, unfolding(crate::specs::Element::method_in))]
+fn method_in(alloc: Global, value: &Value) -> Result<Option<Method>, AllocError>
+    ensures { IfOk result (λ method. method ≡ method_in (view value.now)) }
 {
-    let request = value.get("request")?;
-    let url = request.get("url")?.as_str()?;
-    let method = some_text(request.get("method")?.as_str()?)?;
-    let _headers = request.get("headers")?.as_array()?;
-    Some(Asked { url, method })
-}
-
-fn worker_flag(value: &Value) -> Option<bool>
-    ensures { result ≡ worker_flag (view value.now) }
-{
-    member(value, "response", "_fetchedViaServiceWorker")?.as_bool()
-}
-
-// Why what was asked isn't audited, whatever its target.
-#[tactic(auto, unfolding(crate::specs::Element::set_aside))]
-fn set_aside(value: &Value, method: &str) -> Option<Skip>
-    ensures { option_map skip_seen result ≡ set_aside method.now (view value.now) }
-{
-    if method == "CONNECT" {
-        return Some(Skip::Connect);
-    }
-    if status_of(value) == 101 {
-        return Some(Skip::Upgrade);
-    }
-    match worker_flag(value) {
-        Some(true) => Some(Skip::ServiceWorker),
-        _ => None,
-    }
-}
-
-fn started_text(value: &Value) -> Option<&str>
-    ensures { option_map (λ t. t.now) result ≡ started_text (view value.now) }
-{
-    value.get("startedDateTime")?.as_str()
-}
-
-#[tactic(auto, unfolding(crate::specs::Element::started_of))]
-fn started_of(alloc: Global, value: &Value) -> Result<Option<Timestamp>, AllocError>
-    ensures { IfOk result (λ started. option_map (λ t. t.nanosecond) started
-        ≡ started_of (view value.now)) }
-{
-    match started_text(value) {
-        Some(text) => moment_of_text(alloc, text),
-        None => Ok(None),
-    }
-}
-
-fn response_of(alloc: Global, value: &Value, status: StatusCode) -> Result<response::Parts, Unfit>
-    requires same { status ≡ status_of (view value.now) }
-    requires code { IsStatusCode (status_of (view value.now)) }
-    ensures found { IfOk result (λ r. IsResponseOf (view value.now) (response_seen r)) }
-    ensures full { IsErrOf result Unfit.Full → Overflow (answering_pairs (view value.now)) }
-{
-    let headers = response_headers(alloc, member(value, "response", "headers"))?;
-    Ok(response::Parts {
-        status,
-        version: Version::HTTP_11,
-        headers,
-    })
-}
-
-// What came for the request.
-fn answer_of(alloc: Global, value: &Value) -> Result<Answer, Unfit>
-    ensures found { IfOk result (λ a. IsAnswer (view value.now) (answer_seen a)) }
-    ensures full { IsErrOf result Unfit.Full → IsStatusCode (status_of (view value.now))
-        × Overflow (answering_pairs (view value.now)) }
-{
-    let Some(status) = status_from_number(status_of(value)) else {
-        return Ok(Answer::Failed);
+    let Some(text) = request_text(value, "method") else {
+        return Ok(None);
     };
-    let response = response_of(alloc, value, status)?;
-    match mark_of(value) {
-        Some(_) => Ok(Answer::Cached(response)),
-        None => Ok(Answer::Received(response)),
-    }
-}
-
-// A target, and a host and a method that a request can have.
-#[derive(Drop)]
-struct Made {
-    target: Uri,
-    host: HeaderValue,
-    method: Method,
-}
-
-fn entry_of(alloc: Global, value: &Value, made: Made, started: Timestamp) -> Result<Entry, Unfit>
-    requires { made.host ≡ plain_value made.host.bytes }
-    ensures found { IfOk result (λ e. IsEntry (view value.now)
-        (made_seen made.target made.host.bytes made.method) started.nanosecond (entry_seen e)) }
-    ensures full { IsErrOf result Unfit.Full → IsOverfull (view value.now) made.host.bytes }
-{
-    let received = received_at(started, whole_part(value.get("time")));
-    let headers = request_headers(alloc, made.host, member(value, "request", "headers"))?;
-    let answer = answer_of(alloc, value)?;
-    Ok(Entry {
-        started,
-        received,
-        request: request::Parts {
-            method: made.method,
-            uri: made.target,
-            version: Version::HTTP_11,
-            headers,
-        },
-        answer,
-    })
-}
-
-fn read_filled(
-    alloc: Global,
-    value: &Value,
-    made: Made,
-    started: Timestamp,
-) -> Result<Reading, AllocError>
-    requires { made.host ≡ plain_value made.host.bytes }
-    ensures { IfOk result (λ r. IsFilled (view value.now)
-        (made_seen made.target made.host.bytes made.method) started.nanosecond (reading_seen r)) }
-{
-    match entry_of(alloc, value, made, started) {
-        Ok(entry) => Ok(Reading::Entry(entry)),
-        Err(Unfit::Full) => Ok(Reading::Skipped(Skip::TooManyHeaders)),
-        Err(Unfit::Memory) => Err(AllocError),
-    }
-}
-
-fn read_timed(alloc: Global, value: &Value, made: Made) -> Result<Reading, AllocError>
-    requires { made.host ≡ plain_value made.host.bytes }
-    ensures { IfOk result (λ r. IsTimed (view value.now)
-        (made_seen made.target made.host.bytes made.method) (reading_seen r)) }
-{
-    match started_of(alloc, value)? {
-        Some(started) => read_filled(alloc, value, made, started),
-        None => Ok(Reading::Skipped(Skip::NoMoment)),
-    }
-}
-
-fn read_usual(alloc: Global, value: &Value, made: Made) -> Result<Reading, AllocError>
-    requires { made.host ≡ plain_value made.host.bytes }
-    ensures { IfOk result (λ r. IsUsual (view value.now)
-        (made_seen made.target made.host.bytes made.method) (reading_seen r)) }
-{
-    match set_aside(value, made.method.as_str()) {
-        Some(skip) => Ok(Reading::Skipped(skip)),
-        None => read_timed(alloc, value, made),
-    }
-}
-
-fn uri_of(alloc: Global, text: &[u8]) -> Result<Option<Uri>, AllocError>
-    ensures { IfOk result (λ uri. MatchOption uri (SpellsNone text.now) (Spells text.now)) }
-{
-    match Uri::from_bytes(alloc, text) {
-        Ok(uri) => Ok(Some(uri)),
-        Err(UriError::OutOfMemory) => Err(AllocError),
-        Err(UriError::Invalid(_)) => Ok(None),
-    }
-}
-
-fn host_value(alloc: Global, host: &[u8]) -> Result<Option<HeaderValue>, AllocError>
-    ensures { IfOk result (λ value. MatchOption value (IsFieldValue host.now → ⊥)
-        (λ v. (v ≡ plain_value host.now) × IsFieldValue host.now)) }
-{
-    match HeaderValue::from_bytes(alloc, host) {
-        Ok(value) => Ok(Some(value)),
-        Err(HeaderValueError::OutOfMemory) => Err(AllocError),
-        Err(HeaderValueError::Invalid) => Ok(None),
-    }
-}
-
-fn method_of(alloc: Global, text: &str) -> Result<Option<Method>, AllocError>
-    ensures { IfOk result (λ method. MatchOption method (IsToken text.now → ⊥)
-        (λ m. (m ≡ text.now) × IsToken text.now)) }
-{
     match Method::from_bytes(alloc, text.as_bytes()) {
         Ok(method) => Ok(Some(method)),
         Err(MethodError::OutOfMemory) => Err(AllocError),
@@ -222,92 +49,249 @@ fn method_of(alloc: Global, text: &str) -> Result<Option<Method>, AllocError>
     }
 }
 
-fn made_of(
-    alloc: Global,
-    text: &[u8],
-    host: &[u8],
-    method: &str,
-) -> Result<Option<Made>, AllocError>
-    ensures made { IfOk result (λ made. MatchOption made
-        (IsNoTarget text.now host.now method.now)
-        (λ m. IsMade text.now host.now method.now (made_seen m.target m.host.bytes m.method))) }
-    ensures plain { IfOk result (λ made. IfSome made (λ m. m.host ≡ plain_value m.host.bytes)) }
+// Why what is asked by http or https isn't audited, whatever its target.
+#[tactic(auto, unfolding(crate::specs::Element::other_reason))]
+fn other_reason(value: &Value, method: &str) -> Option<&'static str>
+    ensures { option_map (λ t. t.now) result ≡ other_reason method.now (view value.now) }
 {
-    let Some(target) = uri_of(alloc, text)? else {
-        return Ok(None);
-    };
-    let Some(host) = host_value(alloc, host)? else {
-        return Ok(None);
-    };
-    let Some(method) = method_of(alloc, method)? else {
-        return Ok(None);
-    };
-    Ok(Some(Made {
-        target,
-        host,
-        method,
-    }))
+    if method == "CONNECT" {
+        return Some("connect");
+    }
+    if status_of(value) == 101 {
+        return Some("upgrade");
+    }
+    match member(value, "response", "_fetchedViaServiceWorker")?.as_bool()? {
+        true => Some("service worker"),
+        false => None,
+    }
 }
 
-fn read_parted(
+// Why an element isn't audited, but for its method and its time.
+#[tactic(auto, unfolding(crate::specs::Element::reason_of))]
+fn reason_of(alloc: Global, value: &Value, method: &str) -> Result<Option<String>, AllocError>
+    ensures { IfOk result (λ reason. text_seen reason ≡ reason_of method.now (view value.now)) }
+{
+    let Some(url) = request_text(value, "url") else {
+        return Ok(Some(String::from_str(alloc, "no request")?));
+    };
+    if has_user(url) {
+        return Ok(Some(String::from_str(alloc, "no target")?));
+    }
+    if let Some(scheme) = other_scheme(url) {
+        return Ok(Some(format!(in alloc; "scheme {scheme}")?));
+    }
+    if url_parts(url).is_none() {
+        return Ok(Some(String::from_str(alloc, "no target")?));
+    }
+    copied(alloc, other_reason(value, method))
+}
+
+// The target of an element that has one.
+#[tactic(auto, unfolding(crate::specs::Element::target_in))]
+fn target_in(alloc: Global, value: &Value) -> Result<Option<String>, AllocError>
+    ensures { IfOk result (λ target. text_seen target ≡ target_in (view value.now)) }
+{
+    let Some(url) = request_text(value, "url") else {
+        return Ok(None);
+    };
+    match url_parts(url) {
+        Some(parts) => Ok(Some(target_text(alloc, &parts)?)),
+        None => Ok(None),
+    }
+}
+
+#[tactic(auto, unfolding(crate::specs::Element::started_of))]
+fn started_of(alloc: Global, value: &Value) -> Result<Option<Timestamp>, AllocError>
+    ensures { IfOk result (λ started. option_map (λ t. t.nanosecond) started
+        ≡ started_of (view value.now)) }
+{
+    match text_in(value, "startedDateTime") {
+        Some(text) => moment_of_text(alloc, text),
+        None => Ok(None),
+    }
+}
+
+#[tactic(auto, unfolding(crate::specs::Element::request_headers))]
+fn request_headers(alloc: Global, value: &Value, reader: Reader) -> Result<HeaderMap, AllocError>
+    ensures { IfOk result (λ headers. headers_of headers
+        ≡ request_headers reader.ignores_no_cache (view value.now)) }
+{
+    let mut headers = headers_in(alloc, member(value, "request", "headers"))?;
+    if reader.ignores_no_cache {
+        remove_no_cache(&mut headers);
+    }
+    Ok(headers)
+}
+
+// The response to the request: none after an error, and without a status.
+#[tactic(auto, unfolding(crate::specs::Element::answer_of))]
+fn answer_of(alloc: Global, value: &Value) -> Result<Answer, AllocError>
+    ensures { IfOk result (λ a. answer_seen a ≡ answer_of (view value.now)) }
+{
+    if error_of(value).is_some() {
+        return Ok(Answer::Failed);
+    }
+    let Some(status) = status_from_number(status_of(value)) else {
+        return Ok(Answer::Failed);
+    };
+    let response = response::Parts {
+        status,
+        version: Version::HTTP_11,
+        headers: headers_in(alloc, member(value, "response", "headers"))?,
+    };
+    match browser_of(value) {
+        Some(_) => Ok(Answer::Cached(response)),
+        None => Ok(Answer::Received(response)),
+    }
+}
+
+// The body of the response, if it was recorded: a 304 has none.
+#[tactic(auto, unfolding(crate::specs::Element::body_of))]
+fn body_of(alloc: Global, value: &Value) -> Result<Option<Body>, AllocError>
+    ensures { IfOk result (λ body. option_map body_seen body ≡ body_of (view value.now)) }
+{
+    let Some(content) = member(value, "response", "content") else {
+        return Ok(None);
+    };
+    let Some(text) = some_text_in(content, "text") else {
+        return Ok(None);
+    };
+    if status_of(value) == 304 {
+        return Ok(None);
+    }
+    let text = String::from_str(alloc, text)?;
+    let encoding = copied(alloc, some_text_in(content, "encoding"))?;
+    Ok(Some(Body { text, encoding }))
+}
+
+// Whether the browser redirected the request by itself.
+fn is_internal(answer: &Answer) -> bool
+    ensures { result ≡ is_internal (answer_seen answer.now) }
+{
+    match answer {
+        Answer::Failed => false,
+        Answer::Cached(response) | Answer::Received(response) => {
+            contains_key(&response.headers, "non-authoritative-reason")
+        }
+    }
+}
+
+// Whether the request asks if another origin may be asked (CORS).
+fn is_preflight(value: &Value, method: &Method, headers: &HeaderMap) -> bool
+    ensures { result ≡ is_preflight (view value.now) method.now (headers_of headers.now) }
+{
+    method.as_str() == "OPTIONS"
+        && (contains_key(headers, "access-control-request-method")
+            || some_text_in(value, "_resourceType") == Some("preflight"))
+}
+
+// Whether a store can answer requests of the method.
+fn is_answered_by_store(method: &Method) -> bool
+    ensures { result ≡ is_answered_by_store method.now }
+{
+    method.as_str() == "GET" || method.as_str() == "HEAD"
+}
+
+// Whether the request asks for a range, or got one.
+fn is_range(value: &Value, headers: &HeaderMap) -> bool
+    ensures { result ≡ is_range (view value.now) (headers_of headers.now) }
+{
+    status_of(value) == 206 || contains_key(headers, "range")
+}
+
+// What a request is counted as.
+#[tactic(auto, unfolding(crate::specs::Element::kind_of))]
+fn kind_of(value: &Value, method: &Method, headers: &HeaderMap, answer: &Answer) -> Kind
+    ensures { result ≡ kind_of (view value.now) method.now (headers_of headers.now)
+        (answer_seen answer.now) }
+{
+    if is_internal(answer) {
+        Kind::Internal
+    } else if is_preflight(value, method, headers) {
+        Kind::Preflight
+    } else if !is_answered_by_store(method) {
+        Kind::Passed
+    } else if is_range(value, headers) {
+        Kind::Range
+    } else if matches!(answer, Answer::Failed) {
+        Kind::Failed
+    } else {
+        Kind::Asked
+    }
+}
+
+// The entry of a request that was sent at a time.
+#[tactic(auto, unfolding(crate::specs::Element::entry_of))]
+fn entry_of(
     alloc: Global,
     value: &Value,
-    method: &str,
-    parts: &UrlParts<'_>,
-) -> Result<Reading, AllocError>
-    ensures { IfOk result (λ r. IsParted (view value.now) method.now (record {
-      scheme = parts.now.scheme.now;
-      authority = parts.now.authority.now;
-      path = parts.now.path.now;
-    }) (reading_seen r)) }
+    method: Method,
+    started: Timestamp,
+    reader: Reader,
+) -> Result<Entry, AllocError>
+    ensures { IfOk result (λ e. entry_seen e ≡ entry_of reader.ignores_no_cache method
+        started.nanosecond (view value.now)) }
 {
-    let host = host_of(alloc, parts.authority)?;
-    let text = target_text(alloc, parts, host.as_slice())?;
-    match made_of(alloc, text.as_slice(), host.as_slice(), method)? {
-        Some(made) => read_usual(alloc, value, made),
-        None => Ok(Reading::Skipped(Skip::NoTarget)),
-    }
+    let headers = request_headers(alloc, value, reader)?;
+    let answer = answer_of(alloc, value)?;
+    let body = body_of(alloc, value)?;
+    Ok(Entry {
+        kind: kind_of(value, &method, &headers, &answer),
+        started,
+        received: received_at(started, whole(value.get("time")).unwrap_or(0)),
+        method,
+        headers,
+        answer,
+        body,
+    })
 }
 
-fn read_web(alloc: Global, value: &Value, url: &str, method: &str) -> Result<Reading, AllocError>
-    ensures { IfOk result (λ r. IsWeb (view value.now)
-        (record { url = url.now; method = method.now }) (reading_seen r)) }
+// The row of an element that isn't audited.
+fn skipped(
+    alloc: Global,
+    value: &Value,
+    reason: String,
+    reader: Reader,
+) -> Result<Recorded, AllocError>
+    ensures { IfOk result (λ r. IsSkipped reader (view value.now) (string_bytes reason)
+        (recorded_seen r)) }
 {
-    match url_parts(without_fragment(url)) {
-        Some(parts) => read_parted(alloc, value, method, &parts),
-        None => Ok(Reading::Skipped(Skip::NoTarget)),
-    }
+    let url = copied(alloc, skipped_url(value))?;
+    Ok(Recorded {
+        printed: printed_of(alloc, value, url, reader.is_firefox)?,
+        reading: Reading::Skipped(reason),
+    })
 }
 
-fn read_asked(alloc: Global, value: &Value, url: &str, method: &str) -> Result<Reading, AllocError>
-    ensures { IfOk result (λ r. IsAsked (view value.now)
-        (record { url = url.now; method = method.now }) (reading_seen r)) }
+// The row of an element with a method that is a token.
+fn recorded_by(
+    alloc: Global,
+    value: &Value,
+    method: Method,
+    reader: Reader,
+) -> Result<Recorded, AllocError>
+    ensures { IfOk result (λ r. IsRecordedBy reader (view value.now) method (recorded_seen r)) }
 {
-    match other_scheme(url) {
-        Some(scheme) => {
-            let scheme = String::from_str(alloc, scheme)?;
-            Ok(Reading::Skipped(Skip::Scheme(scheme)))
-        }
-        None => read_web(alloc, value, url, method),
+    if let Some(reason) = reason_of(alloc, value, method.as_str())? {
+        return skipped(alloc, value, reason, reader);
     }
+    let Some(started) = started_of(alloc, value)? else {
+        return skipped(alloc, value, String::from_str(alloc, "no moment")?, reader);
+    };
+    let target = target_in(alloc, value)?;
+    let entry = entry_of(alloc, value, method, started, reader)?;
+    Ok(Recorded {
+        printed: printed_of(alloc, value, target, reader.is_firefox)?,
+        reading: Reading::Entry(entry),
+    })
 }
 
-// What an element says: the first reason for which it says nothing, or its entry.
-#[tactic(auto, unfolding(crate::specs::Element::IsReading))]
-fn read(alloc: Global, value: &Value) -> Result<Reading, AllocError>
-    ensures { IfOk result (λ r. IsReading (view value.now) (reading_seen r)) }
+/// Returns the row of an element: what may be printed of it, and its entry or why it isn't audited.
+pub(crate) fn recorded(alloc: Global, value: &Value, reader: Reader) -> Result<Recorded, AllocError>
+    ensures { IfOk result (λ r. IsRecorded reader (view value.now) (recorded_seen r)) }
 {
-    match asked_of(value) {
-        Some(asked) => read_asked(alloc, value, asked.url, asked.method),
-        None => Ok(Reading::Skipped(Skip::NoRequest)),
+    match method_in(alloc, value)? {
+        Some(method) => recorded_by(alloc, value, method, reader),
+        None => skipped(alloc, value, String::from_str(alloc, "no request")?, reader),
     }
-}
-
-/// What an element says, and what is told of it.
-pub(crate) fn recorded(alloc: Global, value: &Value) -> Result<Recorded, AllocError>
-    ensures { IfOk result (λ r. IsRecorded (view value.now) (recorded_seen r)) }
-{
-    let told = told_of(alloc, value)?;
-    let reading = read(alloc, value)?;
-    Ok(Recorded { told, reading })
 }

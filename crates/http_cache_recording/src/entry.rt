@@ -1,42 +1,83 @@
-//! What an entry of a recording says.
-use http::{request, response};
+//! What a recording holds: one row for each entry.
+use http::{HeaderMap, Method, response};
 use jiff::Timestamp;
 
-/// An entry of a recording: what is told of it, and what it says or why it says nothing.
+/// An entry of a recording: what may be printed of it, and what it holds or why it isn't audited.
 #[derive(Debug, Drop)]
 pub struct Recorded {
-    /// What is told of it, whatever becomes of it.
-    pub told: Told,
-    /// What it says, or why it says nothing.
+    /// What may be printed of it. Nothing in it is a credential.
+    pub printed: Printed,
+    /// What it holds, or why it isn't audited.
     pub reading: Reading,
 }
 
-/// What an entry says, or why it says nothing.
+/// What may be printed of an entry.
+#[derive(Debug, Drop)]
+pub struct Printed {
+    /// The method, if it is a text that isn't empty.
+    pub method: Option<String>,
+    /// The target, in the form by which targets are compared. Of an entry that isn't audited, the
+    /// front of its url, after user and password.
+    pub url: Option<String>,
+    /// The status, or 0.
+    pub status: u64,
+    /// What the browser calls its own cache that answered, as `disk`, or `firefox`.
+    pub browser: Option<String>,
+    /// The browser's error, if it is a text that isn't empty.
+    pub error: Option<String>,
+    /// How many bytes were sent over the network for the response.
+    pub sent: u64,
+}
+
+/// What an entry holds, or why it isn't audited.
 #[derive(Debug, Drop)]
 pub enum Reading {
-    /// A request, and what came for it.
+    /// A request, and the response to it.
     Entry(Entry),
-    /// It isn't audited.
-    Skipped(Skip),
+    /// Why it isn't audited, as `scheme data` or `no request`.
+    Skipped(String),
 }
 
-/// A request, and what came for it.
+/// A request, and the response to it.
 #[derive(Debug, Drop)]
 pub struct Entry {
-    /// When it was sent.
+    /// What the request is counted as.
+    pub kind: Kind,
+    /// When the request was sent.
     pub started: Timestamp,
-    /// When its answer had come.
+    /// When the response was received.
     pub received: Timestamp,
-    /// The request, with its target in `uri`.
-    pub request: request::Parts,
-    /// What came for it.
+    /// The method of the request.
+    pub method: Method,
+    /// The headers of the request, without Host.
+    pub headers: HeaderMap,
+    /// The response, and where it is from.
     pub answer: Answer,
+    /// The body of the response, if it was recorded.
+    pub body: Option<Body>,
 }
 
-/// What came for a request.
+/// What a request is counted as: the first of these that applies.
+#[derive(Clone, Copy, Debug, PartialEq, Eq)]
+pub enum Kind {
+    /// The browser redirected it by itself: the response has `Non-Authoritative-Reason`.
+    Internal,
+    /// It asks whether another origin may be asked (CORS).
+    Preflight,
+    /// Its method is neither GET nor HEAD, so it goes to the origin.
+    Passed,
+    /// It asks for a range, or got one.
+    Range,
+    /// No whole response was received.
+    Failed,
+    /// A store could have answered it.
+    Asked,
+}
+
+/// The response to a request, and where it is from.
 #[derive(Debug, Drop)]
 pub enum Answer {
-    /// Nothing.
+    /// No response, or a part of one.
     Failed,
     /// A response from the browser's own cache.
     Cached(response::Parts),
@@ -44,40 +85,11 @@ pub enum Answer {
     Received(response::Parts),
 }
 
-/// Why an entry isn't audited.
+/// The body of a response, as it is recorded.
 #[derive(Debug, Drop)]
-pub enum Skip {
-    /// It has no request with a target, a method and a list of headers.
-    NoRequest,
-    /// The scheme of its target is neither http nor https; `none` where it has none.
-    Scheme(String),
-    /// Its target, or its method, is none that a request can have.
-    NoTarget,
-    /// It asks for a tunnel (RFC 9110, section 9.3.6).
-    Connect,
-    /// The connection went over to another protocol (RFC 9110, section 15.2.2).
-    Upgrade,
-    /// A service worker answered.
-    ServiceWorker,
-    /// When it was sent is no moment since 1970.
-    NoMoment,
-    /// It has more headers than a header map holds.
-    TooManyHeaders,
-}
-
-/// What is told of an entry, whatever becomes of it. Nothing in it is a credential.
-#[derive(Debug, Drop)]
-pub struct Told {
-    /// The method, where it is a text that isn't empty.
-    pub method: Option<String>,
-    /// The target, where it is a text, without fragment, user and password.
-    pub url: Option<String>,
-    /// The status, or 0 where there is none.
-    pub status: u64,
-    /// The browser's mark of its own cache, as `disk` or `memory`, or `firefox`.
-    pub mark: Option<String>,
-    /// The browser's error, where it is a text.
-    pub error: Option<String>,
-    /// How many bytes the origin sent.
-    pub bytes: u64,
+pub struct Body {
+    /// Its text, which isn't empty.
+    pub text: String,
+    /// How the text encodes its bytes, as `base64`, if that is said.
+    pub encoding: Option<String>,
 }

@@ -9,15 +9,39 @@ use thiserror::Error;
 #[derive(Clone, Copy, Debug, PartialEq, Eq, Error)]
 pub enum ReadingError {
     /// The allocator had no memory.
-    #[error("recording: no memory")]
+    #[error("recording: out of memory")]
     Memory,
+    /// There are no bytes.
+    #[error("recording: empty")]
+    Empty,
+    /// The bytes are compressed by gzip or zlib.
+    #[error("recording: compressed; unpack it first, as by gunzip")]
+    Compressed,
+    /// The bytes are text in UTF-16.
+    #[error("recording: UTF-16; save it as UTF-8 first")]
+    Utf16,
     /// The bytes are no JSON text in UTF-8.
-    #[error("recording: no JSON at line {line}, column {column}")]
+    #[error("recording: not JSON at line {line}, column {column}")]
     NotJson {
         /// The line at which the text stops being JSON, from 1.
         line: usize,
-        /// The byte of that line at which it stops, from 1; the last one where the text ends too
-        /// early.
+        /// The byte of that line at which it stops, from 1; the last one if the text ends early.
+        column: usize,
+    },
+    /// The text nests more than 127 lists and objects.
+    #[error("recording: nested too deeply at line {line}, column {column}")]
+    TooDeep {
+        /// The line at which it does, from 1.
+        line: usize,
+        /// The byte of that line, from 1.
+        column: usize,
+    },
+    /// A number of the text is greater than any that can be read.
+    #[error("recording: a number out of range at line {line}, column {column}")]
+    NumberOutOfRange {
+        /// The line of the number, from 1.
+        line: usize,
+        /// The byte of that line, from 1.
         column: usize,
     },
     /// It has no list of entries.

@@ -1,4 +1,6 @@
-//! A recorded session (HAR 1.2): what was asked and what came, entry by entry, from its bytes.
+//! A recorded session (HAR 1.2), entry by entry, from its bytes.
+//!
+//! It says nothing of caching: what a cache would answer is for the crates above.
 #![tactic(auto)]
 
 mod element;
@@ -8,10 +10,11 @@ mod fields;
 mod mend;
 mod moment;
 mod number;
+mod printed;
 pub mod recording;
 mod target;
-mod told;
 
-pub use entry::{Answer, Entry, Reading, Recorded, Skip, Told};
+pub use entry::{Answer, Body, Entry, Kind, Printed, Reading, Recorded};
 pub use error::ReadingError;
+pub use fields::{field_name, has_room};
 pub use recording::{LONGEST, recording_from_bytes};

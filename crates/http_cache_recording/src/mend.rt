@@ -1,5 +1,5 @@
-//! Surrogates that stand alone in a JSON text, mended in place.
-ghost use Rattle.std.specs.Prelude.{◌≡◌, ◌+◌, ◌<◌, ◌≤◌, ◌++◌, length, take, drop, IsTrue};
+//! Lone surrogates of a JSON text, mended in place.
+ghost use Rattle.std.specs.Prelude.{◌≡◌, ◌<◌, ◌≤◌, ◌++◌, length, drop, IsTrue};
 ghost use Rattle.http_cache_recording.specs.Mend.{is_hex, is_high_digit, is_low_digit, is_escape, is_high, is_low};
 ghost use Rattle.http_cache_recording.specs.Mend.{is_pair, is_lone, unit_len, unit, mended, without_mark};
 
@@ -21,7 +21,7 @@ fn is_low_digit(b: u8) -> bool
     matches!(b, b'C'..=b'F' | b'c'..=b'f')
 }
 
-// Whether `\ud` stands in front, and three bytes of which the last two are digits.
+// Whether the text begins with `\ud` and three bytes of which the last two are digits.
 #[tactic(auto, unfolding(crate::specs::Mend::is_escape))]
 fn is_escape(text: &[u8]) -> bool
     ensures value { result ≡ is_escape text.now }
@@ -84,50 +84,35 @@ fn unit_len(text: &[u8]) -> usize
     }
 }
 
-// Mends the unit at a place, and answers its length.
-fn mend_escape(text: &mut [u8], place: usize) -> usize
-    requires { place < length text.old }
-    ensures len { result ≡ unit_len (drop place text.old) }
+// Mends the unit in front, and returns its length. Most bytes are a unit of their own.
+fn mend_unit(text: &mut [u8]) -> usize
+    requires { 0 < length text.old }
+    ensures len { result ≡ unit_len text.old }
     ensures some { 0 < result }
-    ensures within { place + result ≤ length text.old }
-    ensures front { take (place + result) text.new
-        ≡ take place text.old ++ unit (drop place text.old) }
-    ensures back { drop (place + result) text.new ≡ drop (place + result) text.old }
+    ensures within { result ≤ length text.old }
+    ensures mended { text.new ≡ unit text.old ++ drop result text.old }
 {
-    let len = unit_len(&text[place..]);
-    if is_lone(&text[place..]) {
-        text[place..place + 6].copy_from_slice(b"\\ufffd");
+    if text[0] != b'\\' {
+        return 1;
+    }
+    let len = unit_len(text);
+    if is_lone(text) {
+        text[..6].copy_from_slice(b"\\ufffd");
     }
     len
 }
 
-// The same. Most bytes are a unit of their own, and are told at once.
-fn mend_unit(text: &mut [u8], place: usize) -> usize
-    requires { place < length text.old }
-    ensures len { result ≡ unit_len (drop place text.old) }
-    ensures some { 0 < result }
-    ensures within { place + result ≤ length text.old }
-    ensures front { take (place + result) text.new
-        ≡ take place text.old ++ unit (drop place text.old) }
-    ensures back { drop (place + result) text.new ≡ drop (place + result) text.old }
-{
-    if text[place] != b'\\' {
-        return 1;
-    }
-    mend_escape(text, place)
-}
-
-/// Each surrogate that stands alone becomes U+FFFD. Nothing else is changed.
+/// Replaces each lone surrogate by U+FFFD. Nothing else is changed.
 pub(crate) fn mend(text: &mut [u8])
     ensures { text.new ≡ mended text.old }
 {
     let mut place = 0;
     while place < text.len() {
-        place += mend_unit(text, place);
+        place += mend_unit(&mut text[place..]);
     }
 }
 
-/// The text behind a byte order mark.
+/// Returns the text after a byte order mark.
 pub(crate) fn without_mark(text: &[u8]) -> &[u8]
     ensures { result.now ≡ without_mark text.now }
 {

@@ -1,4 +1,4 @@
-//! When a request was sent, and when its answer had come.
+//! When a request was sent, and when the response to it was received.
 ghost use Rattle.std.specs.Prelude.{◌≡◌, ◌≤◌, length, ◌*◌, ◌+ℤ◌, pos, option_map, IfOk, OnOk, ◌++◌};
 ghost use Rattle.std.specs.List.{list_any, prefix_len, position_or_len};
 ghost use Rattle.std.specs.Char.{is_ascii_digit};
@@ -9,30 +9,22 @@ use jiff::Timestamp;
 use jiff_fmt::temporal::parse_timestamp;
 use std::alloc::{AllocError, Global};
 
-// Where the mark of a fraction stands.
+// The index of the mark of a fraction, or the length.
 fn mark_place(text: &[u8]) -> usize
     ensures value { result ≡ position_or_len is_mark text.now }
     ensures within { result ≤ length text.now }
 {
-    for (i, b) in text.iter().enumerate() {
-        if *b == b'.' || *b == b',' {
-            return i;
-        }
-    }
-    text.len()
+    text.iter()
+        .take_while(|b| !(**b == b'.' || **b == b','))
+        .count()
 }
 
-// How many digits stand in front.
+// How many digits come first.
 fn digits_len(text: &[u8]) -> usize
     ensures value { result ≡ prefix_len is_ascii_digit text.now }
     ensures within { result ≤ length text.now }
 {
-    for (i, b) in text.iter().enumerate() {
-        if !b.is_ascii_digit() {
-            return i;
-        }
-    }
-    text.len()
+    text.iter().take_while(|b| b.is_ascii_digit()).count()
 }
 
 fn any_zone_mark(text: &[u8]) -> bool
@@ -86,7 +78,7 @@ fn full_text(alloc: Global, text: &[u8]) -> Result<Vec<u8>, AllocError>
     Ok(full)
 }
 
-// The moment of a text that is read as it stands, since 1970.
+// The moment that a text writes, if it isn't before 1970.
 #[tactic(auto, unfolding(crate::specs::Moment::moment_of_written))]
 fn moment_of_written(text: &[u8]) -> Option<Timestamp>
     ensures { option_map (λ t. t.nanosecond) result ≡ moment_of_written text.now }
@@ -102,8 +94,8 @@ fn moment_of_written(text: &[u8]) -> Option<Timestamp>
     }
 }
 
-/// The moment of a text, since 1970. The digits of its fraction behind the ninth go, and without
-/// a zone it is told in UTC.
+/// Returns the moment of a text, if it isn't before 1970. The digits of its fraction after the ninth
+/// are left out, and a text without a zone is in UTC.
 #[tactic(auto, unfolding(crate::specs::Moment::moment_of_text))]
 pub(crate) fn moment_of_text(alloc: Global, text: &str) -> Result<Option<Timestamp>, AllocError>
     ensures { IfOk result (λ moment. option_map (λ t. t.nanosecond) moment
@@ -120,12 +112,12 @@ fn nanosecond_after(started: Timestamp, millis: u64) -> i128
     started.as_nanosecond() + millis as i128 * 1_000_000
 }
 
-/// The moment so many milliseconds after another, or that one where there is none such.
+/// Returns the moment so many milliseconds after another, or the other if there is none.
 #[tactic(auto, unfolding(crate::specs::Moment::received_at))]
 pub(crate) fn received_at(started: Timestamp, millis: u64) -> Timestamp
     ensures { result.nanosecond ≡ received_at started.nanosecond millis }
 {
-    if millis >= 1 << 53 {
+    if millis >= 1_000_000_000_000_000 {
         return started;
     }
     match Timestamp::from_nanosecond(nanosecond_after(started, millis)) {

@@ -1,37 +1,35 @@
-//! What numbers of a recording count.
-ghost use Rattle.std.specs.Prelude.{◌≡◌, option_map};
+//! Numbers of a recording.
+ghost use Rattle.std.specs.Prelude.{◌≡◌, ◌<◌, ◌^◌, option_map, IfSome};
 ghost use Rattle.serde_json.specs.View.{view, number_view};
-ghost use Rattle.http_cache_recording.specs.Number.{whole_of_number, whole_part};
+ghost use Rattle.http_cache_recording.specs.Number.{whole_of_number, whole};
 
 use serde_json::{Number, Value};
 use std::num::saturating_f64_to_u64;
 
-// The number without its fraction: 0 below 0, and at most 2^64 - 1.
-fn whole_of_number(number: &Number) -> u64
+// The number without its fraction, if it isn't below 0.
+fn whole_of_number(number: &Number) -> Option<u64>
     ensures { result ≡ whole_of_number (number_view number.now) }
 {
     if let Some(n) = number.as_u64() {
-        return n;
+        return Some(n);
     }
     if number.is_i64() {
-        return 0;
+        return None;
     }
-    match number.as_f64() {
-        Some(x) => saturating_f64_to_u64(x),
-        None => 0,
+    let x = number.as_f64()?;
+    if x.is_sign_negative() {
+        None
+    } else {
+        Some(saturating_f64_to_u64(x))
     }
 }
 
-/// The whole part of a number, and 0 where the value is none or missing.
-#[tactic(auto, unfolding(crate::specs::Number::whole_part))]
-pub(crate) fn whole_part(value: Option<&Value>) -> u64
-    ensures { result ≡ whole_part (option_map (λ v. view v.now) value.entry) }
+/// Returns a number without its fraction, if there is one from 0 to 2^53 - 1.
+#[tactic(auto, unfolding(crate::specs::Number::whole))]
+pub(crate) fn whole(value: Option<&Value>) -> Option<u64>
+    ensures value { result ≡ whole (option_map (λ v. view v.now) value.entry) }
+    ensures small { IfSome result (λ n. n < 2 ^ 53) }
 {
-    let Some(value) = value else {
-        return 0;
-    };
-    match value.as_number() {
-        Some(number) => whole_of_number(number),
-        None => 0,
-    }
+    let n = whole_of_number(value?.as_number()?)?;
+    if n < 1 << 53 { Some(n) } else { None }
 }

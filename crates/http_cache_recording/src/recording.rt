@@ -1,17 +1,18 @@
 //! Recorded sessions from bytes.
-ghost use Rattle.std.specs.Prelude.{◌≡◌, map, option_map, IfOk, IfErr};
+ghost use Rattle.std.specs.Prelude.{◌≡◌, ◌≤◌, map, option_map, IsTrue, IfOk, IfErr, IfSome};
 ghost use Rattle.std.specs.List.{AllZip};
 ghost use Rattle.serde_json.specs.View.{view, items_view};
 ghost use Rattle.http_cache_recording.specs.Entry.{recorded_seen};
 ghost use Rattle.http_cache_recording.specs.Element.{IsRecorded};
-ghost use Rattle.http_cache_recording.specs.Recording.{list_of_log, list_in_log, entries_of, AreEntries, IsJson};
-ghost use Rattle.http_cache_recording.specs.Recording.{IsRecording, IsTextCause, IsCauseIn, IsCause};
+ghost use Rattle.http_cache_recording.specs.Recording.{list_of_log, list_in_log, entries_of, creator_of};
+ghost use Rattle.http_cache_recording.specs.Recording.{is_by_firefox, IsJson, IsRecording, nesting_after, IsTooDeep};
+ghost use Rattle.http_cache_recording.specs.Recording.{is_compressed, is_utf16, other_form, IsFault, IsCause};
 
-use crate::element::recorded;
+use crate::element::{Reader, recorded};
 use crate::entry::Recorded;
 use crate::error::ReadingError;
 use crate::mend::{mend, without_mark};
-use serde_json::Value;
+use serde_json::{Error, Value};
 use std::alloc::{AllocError, Global};
 
 /// The length of the longest recording, in bytes. It is for those who read the bytes: nothing here
@@ -30,68 +31,219 @@ fn list_in_log(value: &Value) -> Option<&Vec<Value>>
     list_of_log(value.get("log")?)
 }
 
-// The list of entries of a recording: its log's, or its own where it is the log.
+// The list of entries of a recording: its log's, its own if it is the log, or itself.
 #[tactic(auto, unfolding(crate::specs::Recording::entries_of))]
 fn entries_of(value: &Value) -> Option<&Vec<Value>>
     ensures { option_map (λ vs. items_view vs.now.items) result ≡ entries_of (view value.now) }
 {
-    match list_in_log(value) {
+    if let Some(list) = list_in_log(value) {
+        return Some(list);
+    }
+    match list_of_log(value) {
         Some(list) => Some(list),
-        None => list_of_log(value),
+        None => value.as_array(),
     }
 }
 
-fn recorded_all(alloc: Global, values: &[Value]) -> Result<Vec<Recorded>, AllocError>
+// The name of the program that wrote the recording.
+#[tactic(auto, unfolding(crate::specs::Recording::creator_of))]
+fn creator_of(value: &Value) -> Option<&str>
+    ensures { option_map (λ t. t.now) result ≡ creator_of (view value.now) }
+{
+    let log = match value.get("log") {
+        Some(log) => log,
+        None => value,
+    };
+    log.get("creator")?.get("name")?.as_str()
+}
+
+fn is_by_firefox(value: &Value) -> bool
+    ensures { result ≡ is_by_firefox (view value.now) }
+{
+    creator_of(value) == Some("Firefox")
+}
+
+fn recorded_all(
+    alloc: Global,
+    values: &[Value],
+    reader: Reader,
+) -> Result<Vec<Recorded>, AllocError>
     ensures { IfOk result (λ rs.
-        AllZip IsRecorded (map view values.now) (map recorded_seen rs.items)) }
+        AllZip (IsRecorded reader) (map view values.now) (map recorded_seen rs.items)) }
 {
     let mut all = Vec::with_capacity(alloc, values.len())?;
     for value in values {
-        all.push(recorded(alloc, value)?)?;
+        all.push(recorded(alloc, value, reader)?)?;
     }
     Ok(all)
 }
 
-fn recording_of(alloc: Global, value: &Value) -> Result<Vec<Recorded>, ReadingError>
-    ensures found { IfOk result (λ rs. AreEntries (view value.now) (map recorded_seen rs.items)) }
-    ensures cause { IfErr result (IsCauseIn (view value.now)) }
+// Whether gzip or zlib compressed the bytes (RFC 1952, section 2.3.1; RFC 1950, section 2.2).
+fn is_compressed(bytes: &[u8]) -> bool
+    ensures { result ≡ is_compressed bytes.now }
 {
-    match entries_of(value) {
-        Some(values) => Ok(recorded_all(alloc, values.as_slice())?),
-        None => Err(ReadingError::NoEntries),
+    bytes.starts_with(b"\x1f\x8b")
+        || bytes.starts_with(b"\x78\x01")
+        || bytes.starts_with(b"\x78\x5e")
+        || bytes.starts_with(b"\x78\x9c")
+        || bytes.starts_with(b"\x78\xda")
+}
+
+// Whether the bytes are an object in UTF-16, or begin with the mark of that.
+fn is_utf16(bytes: &[u8]) -> bool
+    ensures { result ≡ is_utf16 bytes.now }
+{
+    bytes.starts_with(b"\xff\xfe")
+        || bytes.starts_with(b"\xfe\xff")
+        || bytes.starts_with(b"{\x00")
+        || bytes.starts_with(b"\x00{")
+}
+
+// What the bytes are, if they can't be text in UTF-8.
+#[tactic(auto, unfolding(crate::specs::Recording::other_form))]
+fn other_form(bytes: &[u8]) -> Option<ReadingError>
+    ensures value { result ≡ other_form bytes.now }
+    ensures cause { IfSome result (IsCause bytes.now) }
+{
+    if bytes.is_empty() {
+        Some(ReadingError::Empty)
+    } else if is_compressed(bytes) {
+        Some(ReadingError::Compressed)
+    } else if is_utf16(bytes) {
+        Some(ReadingError::Utf16)
+    } else {
+        None
     }
 }
 
-// The value of a text.
+// How many lists and objects the reader of JSON opens in one another.
+const DEPTH: usize = 127;
+
+// What is open after some bytes of a JSON text.
+#[derive(Clone, Copy)]
+struct Nesting {
+    depth: usize,
+    in_string: bool,
+    is_escaped: bool,
+}
+
+impl Nesting {
+    // After one byte more.
+    fn after(self, b: u8) -> Nesting
+        requires { self.depth ≤ 127 }
+        ensures { result ≡ nesting_after self b }
+    {
+        let is_mark = b == b'"' && !self.is_escaped;
+        Nesting {
+            depth: match b {
+                b'[' | b'{' if !self.in_string => self.depth + 1,
+                b']' | b'}' if !self.in_string => self.depth.saturating_sub(1),
+                _ => self.depth,
+            },
+            in_string: if is_mark {
+                !self.in_string
+            } else {
+                self.in_string
+            },
+            is_escaped: self.in_string && !self.is_escaped && b == b'\\',
+        }
+    }
+}
+
+// Whether a text opens too many lists and objects in one another, up to a line and a column.
+fn is_too_deep(text: &[u8], line: usize, column: usize) -> bool
+    ensures { IsTrue result → IsTooDeep text.now }
+{
+    let mut nesting = Nesting {
+        depth: 0,
+        in_string: false,
+        is_escaped: false,
+    };
+    let mut lines = 1usize;
+    let mut columns = 0usize;
+    for b in text {
+        if nesting.depth > DEPTH {
+            return true;
+        }
+        if lines > line || (lines == line && columns >= column) {
+            return false;
+        }
+        nesting = nesting.after(*b);
+        columns = if *b == b'\n' {
+            0
+        } else {
+            columns.saturating_add(1)
+        };
+        lines = lines.saturating_add((*b == b'\n') as usize);
+    }
+    nesting.depth > DEPTH
+}
+
+// Why a text is no JSON. Only its words tell when the reader of JSON met a number out of range.
+fn fault_of(alloc: Global, text: &[u8], e: &Error) -> Result<ReadingError, AllocError>
+    ensures { IfOk result (IsFault text.now) }
+{
+    let words = format!(in alloc; "{e}")?;
+    let (line, column) = (e.line(), e.column());
+    if is_too_deep(text, line, column) {
+        return Ok(ReadingError::TooDeep { line, column });
+    }
+    if words.as_str().contains("number out of range") {
+        return Ok(ReadingError::NumberOutOfRange { line, column });
+    }
+    Ok(ReadingError::NotJson { line, column })
+}
+
+// The value of bytes that are text.
 fn value_of(alloc: Global, bytes: Vec<u8>) -> Result<Value, ReadingError>
     ensures found { IfOk result (λ v. IsJson bytes.items (view v)) }
-    ensures cause { IfErr result (IsTextCause bytes.items) }
+    ensures cause { IfErr result (IsCause bytes.items) }
 {
     let mut bytes = bytes;
     mend(bytes.as_mut_slice());
-    match Value::from_slice(alloc, without_mark(bytes.as_slice())) {
+    let text = without_mark(bytes.as_slice());
+    match Value::from_slice(alloc, text) {
         Ok(value) => Ok(value),
         Err(e) => if e.is_memory() {
             Err(ReadingError::Memory)
         } else {
-            Err(ReadingError::NotJson {
-                line: e.line(),
-                column: e.column(),
-            })
+            Err(fault_of(alloc, text, &e)?)
         },
     }
 }
 
-/// The entries of a recorded session (HAR 1.2), in the order of the file: of `{"log": ..}` or of
-/// the log alone. A byte order mark at the front is skipped, and a surrogate that stands alone is
-/// read as U+FFFD. What can't be read in one entry harms no other.
+/// Returns the entries of a recorded session (HAR 1.2), in the order of the file: of
+/// `{"log": {"entries": [..]}}`, of the log, or of the list. A byte order mark at the front is
+/// skipped, and a surrogate without its other half is read as U+FFFD. What can't be read in one
+/// entry harms no other.
 ///
-/// It is `NotJson` where the bytes are no JSON text in UTF-8, and `NoEntries` where they have no
-/// list of entries.
-pub fn recording_from_bytes(alloc: Global, bytes: Vec<u8>) -> Result<Vec<Recorded>, ReadingError>
-    ensures found { IfOk result (λ rs. IsRecording bytes.items (map recorded_seen rs.items)) }
+/// If `no-cache` is ignored, the requests are read without their Cache-Control and Pragma that say
+/// it, as after a reload.
+///
+/// # Errors
+///
+/// Returns `Empty`, `Compressed` or `Utf16` if the bytes are such, `NotJson`, `TooDeep` or
+/// `NumberOutOfRange` if they are no JSON text in UTF-8 that can be read, and `NoEntries` if that
+/// has no list of entries.
+pub fn recording_from_bytes(
+    alloc: Global,
+    bytes: Vec<u8>,
+    ignores_no_cache: bool,
+) -> Result<Vec<Recorded>, ReadingError>
+    ensures found { IfOk result (λ rs. IsRecording ignores_no_cache bytes.items
+        (map recorded_seen rs.items)) }
     ensures cause { IfErr result (IsCause bytes.items) }
 {
+    if let Some(form) = other_form(bytes.as_slice()) {
+        return Err(form);
+    }
     let value = value_of(alloc, bytes)?;
-    recording_of(alloc, &value)
+    let reader = Reader {
+        is_firefox: is_by_firefox(&value),
+        ignores_no_cache,
+    };
+    match entries_of(&value) {
+        Some(values) => Ok(recorded_all(alloc, values.as_slice(), reader)?),
+        None => Err(ReadingError::NoEntries),
+    }
 }

@@ -1,4 +1,4 @@
--- What was read is what stands in front.
+-- What was read is the front.
 use Rattle.std.proofs.Common.{ap, ◌+◌}
 use Rattle.http_cache_audit.specs.Output.{longest_recording}
 use Rattle.http_cache_audit.proofs.ReadLemmas.{read-front}

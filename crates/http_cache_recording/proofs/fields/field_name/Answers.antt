@@ -1,32 +1,27 @@
 -- A text is a header name, or it isn't.
-use Rattle.std.proofs.Common.{◌≡◌, List, ℕ, sym, ap, ◌∙◌, subst, Err, Some}
-use Rattle.http_header.specs.Token.{lowercase}
-use Rattle.http_header.specs.FieldName.{is_field_name, IsHeaderName}
-use Rattle.http_header.proofs.TokenLemmas.{IsHeaderName-lowercase, IsFieldName-from_test}
+use Rattle.std.proofs.Common.{sym, ap, Err}
+use Rattle.http_header.proofs.TokenLemmas.{IsHeaderName-lowercase}
 use Rattle.http_cache_recording.specs.Fields.{field_name}
-use Rattle.http_cache_recording.proofs.FieldLemmas.{is_name-yes, is_name-no, given_yes, given_no}
+use Rattle.http_cache_recording.proofs.FieldLemmas.{holds, given_yes, given_no, is_field_name-Decides}
 use Rattle.http_cache_recording.proofs.fields.field_name.Goals as goal
 
 pub returns-in-Ok-clause-value : goal.returns-in-Ok-clause-value
 unfolding field_name
 returns-in-Ok-clause-value c =
-    let text = c.args.text.now in
-    let bytes : c.as_bytes.result.now ≡ text = c.as_bytes.ensures.value in
-    let good = is_name-yes c.as_bytes.result.now (λ bad. let w = c.in-Ok.ensures.invalid.1 bad in cc) in
-    ap (λ (v : List ℕ). Some v) (c.in-Ok.ensures.ok ∙ ap lowercase bytes)
-    ∙ sym (given_yes _ (lowercase text) (ap is_field_name (sym bytes) ∙ good))
+    rw (← c.as_bytes.ensures.value, c.in-Ok.ensures.ok)
+    (sym (given_yes _ (is_field_name-Decides c.as_bytes.result.now) _
+    (λ bad. let w = c.in-Ok.ensures.invalid.1 bad in cc)))
 
 pub returns-in-Ok-clause-valid : goal.returns-in-Ok-clause-valid
 returns-in-Ok-clause-valid c =
-    let good = is_name-yes c.as_bytes.result.now (λ bad. let w = c.in-Ok.ensures.invalid.1 bad in cc) in
-    subst IsHeaderName (sym c.in-Ok.ensures.ok)
-    (IsHeaderName-lowercase c.as_bytes.result.now (IsFieldName-from_test c.as_bytes.result.now good))
+    let text = c.as_bytes.result.now in
+    rw c.in-Ok.ensures.ok
+    (IsHeaderName-lowercase text (holds _ (is_field_name-Decides text)
+    (λ bad. let w = c.in-Ok.ensures.invalid.1 bad in cc)))
 
 pub returns-in-Err-Invalid-clause-value : goal.returns-in-Err-Invalid-clause-value
 unfolding field_name
 returns-in-Err-Invalid-clause-value c =
-    let text = c.args.text.now in
-    let bytes : c.as_bytes.result.now ≡ text = c.as_bytes.ensures.value in
-    let bad = is_name-no c.as_bytes.result.now
-    (c.in-Err-Invalid.ensures.invalid.0 (ap Err c.in-Err-Invalid.field-0-is)) in
-    sym (given_no _ (lowercase text) (ap is_field_name (sym bytes) ∙ bad))
+    rw (← c.as_bytes.ensures.value)
+    (sym (given_no _ (is_field_name-Decides c.as_bytes.result.now) _
+    (c.in-Err-Invalid.ensures.invalid.0 (ap Err c.in-Err-Invalid.field-0-is))))

@@ -1,33 +1,47 @@
 -- Each turn mends one unit.
-use Rattle.std.proofs.Common.{◌≡◌, ◌+◌, ◌<◌, ◌≤◌, ◌++◌, length, take, drop, sym, ap, ◌∙◌, arith}
-use Rattle.std.proofs.lemmas.List.{length-drop, drop-drop, append_assoc, append-nil, take_all, drop_all}
+use Rattle.std.proofs.Common.{ℕ, ◌≡◌, ◌+◌, ◌-◌, ◌<◌, ◌≤◌, List, ◌++◌, length, take, drop, sym, ap, ◌∙◌, arith}
+use Rattle.std.proofs.lemmas.List.{length-append, length-drop, length-take-le, append_assoc, append-nil}
+use Rattle.std.proofs.lemmas.List.{take_all, take_rest, drop_all, take_at, drop_at}
 use Rattle.http_cache_recording.specs.Mend.{unit_len, unit, mended}
-use Rattle.http_cache_recording.proofs.MendLemmas.{mended_step, mended_none}
+use Rattle.http_cache_recording.proofs.MendLemmas.{length-unit, mended_step}
 use Rattle.http_cache_recording.proofs.mend.mend.Goals as goal
 
 pub loop-place-preserved : goal.loop-place-preserved
 loop-place-preserved c =
     let text = c.loop-place.text in
     let place = c.loop-place.place in
+    let front = take place text in
     let at = drop place text in
+    let len = c.mend_unit-place.result in
+    let new = c.mend_unit-place.new.text in
     let has : 0 < length at = omega (arith, length-drop place text) in
-    let e = c.mend_unit-place.ensures in
-    let behind : drop (unit_len at) at ≡ drop (place + c.mend_unit-place.result) c.mend_unit-place.new.text =
-    drop-drop (unit_len at) place text ∙ ap (λ n. drop (place + n) text) (sym e.len) ∙ sym e.back in
+    let same = take_rest text place in
+    let len_is : len ≡ unit_len at = c.mend_unit-place.ensures.len ∙ ap unit_len same in
+    let none = drop_all (length text - place) at (omega (arith, length-drop place text)) in
+    let parts =
+    ap (λ (p : List ℕ). front ++ (new ++ p)) none
+    ∙ ap (λ (n : List ℕ). front ++ n)
+    (append-nil new ∙ c.mend_unit-place.ensures.mended ∙ (λ i. unit (same i) ++ drop len (same i)))
+    ∙ sym (append_assoc front (unit at) (drop len at)) in
+    let long : length (front ++ unit at) ≡ place + len =
+    length-append front (unit at)
+    ∙ omega (arith, length-take-le place text (omega arith), length-unit at has, len_is) in
+    let done = ap (take (place + len)) parts ∙ take_at (front ++ unit at) (drop len at) (place + len) long in
+    let left = ap (drop (place + len)) parts ∙ drop_at (front ++ unit at) (drop len at) (place + len) long in
     record {
       within = omega arith;
       whole =
-          c.loop-place.invariant.whole ∙ ap (λ m. take place text ++ m) (mended_step at has)
-          ∙ sym (append_assoc (take place text) (unit at) (mended (drop (unit_len at) at)))
-          ∙ ap (λ f. f ++ mended (drop (unit_len at) at)) (sym e.front)
-          ∙ ap (λ b. take (place + c.mend_unit-place.result) c.mend_unit-place.new.text ++ mended b) behind;
+          c.loop-place.invariant.whole ∙ ap (λ m. front ++ m) (mended_step at has)
+          ∙ sym (append_assoc front (unit at) (mended (drop (unit_len at) at)))
+          ∙ (λ i. sym done i ++ mended ((ap (λ n. drop n at) (sym len_is) ∙ sym left) i));
     }
 
 pub returns : goal.returns
+unfolding mended
 returns c =
     let text = c.loop-place.text in
     let place = c.loop-place.place in
     let all : length text ≤ place = c.loop-place-test.false in
     sym (c.loop-place.invariant.whole
-    ∙ ap (λ m. take place text ++ m) (ap mended (drop_all place text all) ∙ mended_none)
+    ∙ ap (λ m. take place text ++ m) (ap mended (drop_all place text all))
     ∙ append-nil (take place text) ∙ take_all place text all)

@@ -1,4 +1,4 @@
--- What is in front of the place is mended, and what is behind it isn't yet.
+-- What comes before the index is mended, and what follows isn't yet.
 use Rattle.std.proofs.Common.{◌≡◌, ◌-◌, ◌≤◌, ◌++◌, length, take, drop}
 use Rattle.http_cache_recording.specs.Mend.{mended}
 use Rattle.http_cache_recording.proofs.mend.mend.Given as goal

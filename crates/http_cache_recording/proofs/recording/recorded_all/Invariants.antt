@@ -7,4 +7,5 @@ use Rattle.http_cache_recording.specs.Element.{IsRecorded}
 use Rattle.http_cache_recording.proofs.recording.recorded_all.Given as goal
 
 abbrev pub invariant-loop-value : goal.invariant-loop-value
-invariant-loop-value l = AllZip IsRecorded (map view (take l.value-index l.values)) (map recorded_seen l.all.items)
+invariant-loop-value l =
+    AllZip (IsRecorded l.reader) (map view (take l.value-index l.values)) (map recorded_seen l.all.items)

@@ -1,13 +1,13 @@
--- No byte so far ends the authority, and what is counted stands behind the last `@` so far.
-use Rattle.std.proofs.Common.{◌≡◌, ℕ, ◌<◌, ◌≤◌, ◌-◌, get_or, take, false}
-use Rattle.http_uri.specs.ByteClasses.{index_after_last}
-use Rattle.http_cache_recording.specs.Target.{is_end}
+-- No byte from the length on is an `@`.
+use Rattle.std.proofs.Common.{◌≡◌, ◌+◌, ◌≤◌, ◌==◌, not, length, take}
+use Rattle.std.specs.List.{suffix_len}
 use Rattle.http_cache_recording.proofs.target.user_len.Given as goal
 
-abbrev pub invariant-loop-i : goal.invariant-loop-i
-invariant-loop-i l = record {
-  unended : (k : ℕ) → k < l.i → is_end (get_or l.text k 0) ≡ false;
-  last : l.len ≡ index_after_last 64 (take l.i l.text);
-  within : l.len ≤ l.i;
-  cut : 0 < l.len → get_or l.text (l.len - 1) 0 ≡ 64;
-}
+abbrev pub invariant-loop-len : goal.invariant-loop-len
+invariant-loop-len l =
+    (l.len ≤ length l.front)
+    × (l.len + suffix_len (λ b. not (b == 64)) l.front
+    ≡ length l.front + suffix_len (λ b. not (b == 64)) (take l.len l.front))
+
+abbrev pub decreases-loop-len : goal.decreases-loop-len
+decreases-loop-len l = l.len

@@ -1,0 +1,154 @@
+"""Prints how the time and memory of an audit grow with the entries of a recording.
+
+    audits.py LEAST WORD..    (LEAST: the fewest entries; WORD..: the command of cacheaudit; bin/bench --scaling calls it)
+
+A row a recording: its entries and bytes, the least processor time of three runs, by how much that has grown since half as many
+entries, the greatest memory of a run, and how many bytes of memory that is for each byte of the recording. The last rows are a
+page that a browser exported (tests/recordings/site.har), so often one after the other, in its indented and in a compact form.
+"""
+import copy
+import json
+import os
+import subprocess
+import sys
+import tempfile
+from datetime import datetime, timedelta, timezone
+from pathlib import Path
+
+LEAST = int(sys.argv[1])
+COMMAND = sys.argv[2:]
+DOUBLINGS = 3
+RUNS = 3
+PAGE = Path(__file__).resolve().parent.parent / "tests/recordings/site.har"
+PAGE_ENTRIES = 165
+START = datetime(2026, 1, 1, tzinfo=timezone.utc)
+LIFETIME = {"name": "Cache-Control", "value": "max-age=86400"}
+ENCODING = {"name": "Accept-Encoding", "value": "gzip"}
+
+
+def entry(number, url, request, response, status=200, more=None):
+    """An entry of a hundredth of a second after the one before."""
+    return {
+        "startedDateTime": (START + timedelta(milliseconds=10 * number)).isoformat(),
+        "time": 1,
+        "request": {"method": "GET", "url": url, "headers": request},
+        "response": {"status": status, "headers": response, "headersSize": 200, "bodySize": 1000},
+        **(more or {}),
+    }
+
+
+def received(number, url):
+    return entry(number, url, [ENCODING], [LIFETIME, {"name": "Vary", "value": "Accept-Encoding"}])
+
+
+def cached(number, url):
+    more = {"_fromCache": "disk"}
+    return entry(number, url, [], [LIFETIME, {"name": "Vary", "value": "Accept-Encoding"}], more=more)
+
+
+def variant(number):
+    tag = {"name": "ETag", "value": f'"{number}"'}
+    request = [{"name": "X", "value": str(number)}]
+    return entry(number, "http://example.org/", request, [LIFETIME, {"name": "Vary", "value": "X"}, tag])
+
+
+def unselected(number):
+    """A 304 for a variant that isn't stored."""
+    request = [{"name": "X", "value": str(number)}, {"name": "If-None-Match", "value": '"none"'}]
+    return entry(number, "http://example.org/", request, [{"name": "ETag", "value": '"none"'}], 304)
+
+
+def of_network(size):
+    return [received(i, f"http://example.org/{i}") for i in range(size)]
+
+
+def of_one_host(size):
+    return [cached(i, f"http://example.org/{i}") for i in range(size)]
+
+
+def of_many_hosts(size):
+    return [cached(i, f"http://h{i}.example.org/") for i in range(size)]
+
+
+def of_both(size):
+    return [(cached if i % 2 else received)(i, f"http://example.org/{i // 2}") for i in range(size)]
+
+
+def variants(size):
+    return [variant(i) for i in range(size)]
+
+
+def with_unselected(size):
+    return [variant(i) if i < size // 2 else unselected(i) for i in range(size)]
+
+
+KINDS = [
+    ("from the network", of_network),
+    ("from the browser's cache, of one host", of_one_host),
+    ("from the browser's cache, each of another host", of_many_hosts),
+    ("half from the network, then again from the browser's cache", of_both),
+    ("one url, each with another value of Vary", variants),
+    ("the same for half, then 304s that select none", with_unselected),
+]
+
+
+def pages(times):
+    """A recording of a page, so often one after the other, half a minute apart."""
+    page = json.loads(PAGE.read_text())
+    entries = page["log"]["entries"]
+    page["log"]["entries"] = []
+    for number in range(times):
+        for one in copy.deepcopy(entries):
+            at = datetime.fromisoformat(one["startedDateTime"].replace("Z", "+00:00"))
+            one["startedDateTime"] = (at + timedelta(seconds=30 * number)).isoformat()
+            page["log"]["entries"].append(one)
+    return page
+
+
+def run(path):
+    """The processor time of a run in seconds, and its greatest memory in bytes."""
+    with open(path, "rb") as recording:
+        ran = subprocess.Popen(COMMAND, stdin=recording, stdout=subprocess.DEVNULL)
+        _, status, used = os.wait4(ran.pid, 0)
+    if status != 0:
+        sys.exit(f"audits.py: {' '.join(COMMAND)}: status {status}")
+    return used.ru_utime + used.ru_stime, used.ru_maxrss * 1024
+
+
+def write(path, make):
+    """Writes a recording from a process of its own, since a run counts at least the memory of the process that begins it."""
+    pid = os.fork()
+    if pid == 0:
+        path.write_text(make())
+        os._exit(0)
+    if os.waitpid(pid, 0)[1] != 0:
+        sys.exit("audits.py: no recording was written")
+
+
+def row(name, size, make, before):
+    """Prints a row, and returns its time."""
+    with tempfile.TemporaryDirectory() as folder:
+        path = Path(folder) / "recording.har"
+        write(path, make)
+        length = path.stat().st_size
+        runs = [run(path) for _ in range(RUNS)]
+    seconds, memory = min(took for took, _ in runs), max(held for _, held in runs)
+    grown = f"{seconds / before:.2f}" if before else "-"
+    print(f"| {name} | {size} | {length} | {seconds:.2f} | {grown} | {memory / 1e6:.0f} | {memory / length:.1f} |", flush=True)
+    return seconds
+
+
+def main():
+    print("| recording | entries | bytes | s | grown | memory, MB | bytes of memory a byte |")
+    print("|---|---|---|---|---|---|---|")
+    for name, make in KINDS:
+        before = None
+        for size in (LEAST << doubling for doubling in range(DOUBLINGS + 1)):
+            before = row(name, size, lambda: json.dumps({"log": {"entries": make(size)}}), before)
+    for name, form in ("indented", {"indent": 1}), ("compact", {"separators": (",", ":")}):
+        before = None
+        for times in (max(1, LEAST // 660) << doubling for doubling in range(DOUBLINGS + 1)):
+            before = row(f"a page, {name}", times * PAGE_ENTRIES, lambda: json.dumps(pages(times), **form), before)
+
+
+main()

@@ -1,0 +1,6 @@
+-- Nothing is in an empty map.
+use Rattle.std.proofs.Common.{refl}
+use Rattle.http_cache_audit.proofs.sources.Sources.new.Goals as goal
+
+pub returns : goal.returns
+returns c = rw (c.new.ensures.empty, c.new-2.ensures.empty) refl

@@ -1,0 +1,19 @@
+-- Under each key is what the entries so far have left, and the rows so far with those of what is left are all.
+use Rattle.std.proofs.Common.{◌≡◌, ◌++◌, [], map, take, drop}
+use Rattle.http_cache_audit.specs.Order.{sent_seen}
+use Rattle.http_cache_audit.specs.Sources.{sources_seen, HoldsSources}
+use Rattle.http_cache_audit.specs.Row.{row_seen}
+use Rattle.http_cache_audit.specs.Walk.{walk_seen, walked_after, rows_after, rows_of, HaveLeft}
+use Rattle.http_cache_audit.proofs.walk.Walk.rows.Given as goal
+
+abbrev pub invariant-loop-one : goal.invariant-loop-one
+invariant-loop-one l =
+    let k = walk_seen l.self in
+    let ss = map sent_seen l.sent in
+    let before = take l.one-index ss in
+    record {
+      left : HaveLeft k (walked_after [] before) l.shelves;
+      holds : HoldsSources before (sources_seen l.sources);
+      told : map row_seen l.rows.items ++ rows_after k (walked_after [] before) (walked_after before (drop l.one-index ss))
+          ≡ rows_of k ss;
+    }

@@ -1,0 +1,95 @@
+//! The entries of a recording in the order of the walk.
+ghost use Rattle.std.specs.Prelude.{◌≡◌, ◌++◌, ℤ, map, option_map, IfOk, OnOk};
+ghost use Rattle.std.specs.Option.{option_to_list};
+ghost use Rattle.http_cache_recording.specs.Entry.{recorded_seen};
+ghost use Rattle.http_cache_audit.specs.Order.{moment_at, IsOrder, sent_seen, target_of, sent_at};
+ghost use Rattle.http_cache_audit.specs.Order.{IsWalk};
+
+use http_cache_recording::{Entry, Reading, Recorded};
+use std::alloc::{AllocError, Global};
+
+/// An entry, and its index in the recording.
+#[derive(Clone, Copy)]
+pub(crate) struct Sent<'a> {
+    /// Its index in the recording.
+    pub index: usize,
+    /// What was recorded.
+    pub recorded: &'a Recorded,
+    /// What it holds.
+    pub entry: &'a Entry,
+}
+
+impl<'a> Sent<'a> {
+    /// Returns its target, by which it is compared to others.
+    pub(crate) fn target(&self) -> &'a str
+        ensures { result.now ≡ target_of (sent_seen self.now).recorded }
+    {
+        match &self.recorded.printed.url {
+            Some(url) => url.as_str(),
+            None => "",
+        }
+    }
+}
+
+// When an entry was sent, with its index, if it isn't skipped.
+fn moment_at(index: usize, recorded: &Recorded) -> Option<(i128, usize)>
+    ensures { result ≡ moment_at (index, recorded_seen recorded.now) }
+{
+    match &recorded.reading {
+        Reading::Entry(entry) => Some((entry.started.as_nanosecond(), index)),
+        Reading::Skipped(_) => None,
+    }
+}
+
+fn push_some(all: &mut Vec<(i128, usize)>, moment: Option<(i128, usize)>) -> Result<(), AllocError>
+    ensures { OnOk result (all.new.items ≡ all.old.items ++ option_to_list moment) }
+{
+    match moment {
+        Some(moment) => Ok(all.push(moment)?),
+        None => Ok(()),
+    }
+}
+
+// When each entry was sent, in the order of the walk. No two are equal, so no order is lost.
+fn order(alloc: Global, recorded: &[Recorded]) -> Result<Vec<(i128, usize)>, AllocError>
+    ensures { IfOk result (λ all. IsOrder (map recorded_seen recorded.now) all.items) }
+{
+    let mut all = Vec::new(alloc);
+    for place in 0..recorded.len() {
+        push_some(&mut all, moment_at(place, &recorded[place]))?;
+    }
+    all.sort_unstable();
+    Ok(all)
+}
+
+// The entry at an index, if that isn't skipped.
+fn sent_at(recorded: &[Recorded], index: usize) -> Option<Sent<'_>>
+    ensures { (at : ℤ) → option_map sent_seen result
+        ≡ sent_at (map recorded_seen recorded.now) (at, index) }
+{
+    let one = recorded.get(index)?;
+    match &one.reading {
+        Reading::Entry(entry) => Some(Sent {
+            index,
+            recorded: one,
+            entry,
+        }),
+        Reading::Skipped(_) => None,
+    }
+}
+
+/// Returns the entries of a recording in the order of the walk: by the time at which they were sent,
+/// and of those sent at once by index.
+pub(crate) fn walk_of(alloc: Global, recorded: &[Recorded]) -> Result<Vec<Sent<'_>>, AllocError>
+    ensures { IfOk result (λ sent.
+        IsWalk (map recorded_seen recorded.now) (map sent_seen sent.items)) }
+{
+    let order = order(alloc, recorded)?;
+    let mut all = Vec::with_capacity(alloc, order.len())?;
+    for place in 0..order.len() {
+        if let Some(sent) = sent_at(recorded, order[place].1) {
+            all.push(sent)?;
+        }
+    }
+    Ok(all)
+}

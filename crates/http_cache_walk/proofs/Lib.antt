@@ -1,5 +1,0 @@
--- The lemmas about a walk.
-pub mod SessionLemmas
-pub mod ShelfLemmas
-pub mod SummaryLemmas
-pub mod WalkLemmas

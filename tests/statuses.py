@@ -1,0 +1,112 @@
+"""What of cacheaudit ends in which status, and what it writes on standard error."""
+import gzip
+import json
+import re
+import resource
+import subprocess
+import tempfile
+import zlib
+from pathlib import Path
+
+EXAMPLE = Path(__file__).resolve().parent.parent / "examples" / "session.har"
+OPTIONS = ["--private", "--shared", "--heuristic", "--json", "--no-query", "--ignore-request-no-cache"]
+UNKNOWN = "cacheaudit: unknown argument; --help lists them\n"
+NOTHING = "cacheaudit: no entry was audited\n"
+LIMIT = 48 << 20
+
+
+def runs():
+    """Words of a command line, the input, the status, and what is written on standard error."""
+    text = EXAMPLE.read_text()
+    bytes_of = EXAMPLE.read_bytes()
+    fault = "cacheaudit: recording: "
+    compressed = fault + "compressed; unpack it first, as by gunzip\n"
+    utf16 = fault + "UTF-16; save it as UTF-8 first\n"
+    return [
+        ([], bytes_of, 0, ""),
+        ([], b"", 2, fault + "empty\n"),
+        ([], gzip.compress(bytes_of), 2, compressed),
+        *[([], zlib.compress(bytes_of, level), 2, compressed) for level in (0, 1, 6, 9)],
+        *[([], text.encode(form), 2, utf16) for form in ("utf-16", "utf-16-le", "utf-16-be")],
+        ([], b"\xfe\xff" + text.encode("utf-16-be"), 2, utf16),
+        ([], b"[" * 128 + b"]" * 128, 2, fault + "nested too deeply at line 1, column 1"),
+        ([], b"[\n\n" + b"[" * 127 + b"]" * 128, 2, fault + "nested too deeply at line 3, column 12"),
+        ([], b'["' + b"[" * 128 + b'"]', 1, NOTHING),
+        ([], b"[" * 127 + b"]" * 127, 1, NOTHING),
+        ([], b"[\n1e400]", 2, fault + "a number out of range at line 2, column "),
+        ([], b"[1e300]", 1, NOTHING),
+        ([], b"{", 2, fault + "not JSON at line 1, column 1\n"),
+        ([], b'[\n"\xff"]', 2, fault + "not JSON at line 2, column "),
+        ([], b'{"log":{}}', 2, fault + "no list of entries at log.entries, nor at entries\n"),
+        ([], b'{"log":{"entries":{}}}', 2, fault + "no list of entries at log.entries, nor at entries\n"),
+        ([], b"[]", 1, NOTHING),
+        (["--json"], b'{"entries":[1,null]}', 1, NOTHING),
+        (["--nothing"], b"", 64, UNKNOWN),
+        (["-"], b"", 64, UNKNOWN),
+        ([str(EXAMPLE), str(EXAMPLE)], b"", 64, UNKNOWN),
+        (["--heuristic"], b"", 64, UNKNOWN),
+        (["--heuristic", "1/0"], b"", 64, UNKNOWN),
+        (["--heuristic", "1"], b"", 64, UNKNOWN),
+        ([str(EXAMPLE.parent / "nothing.har")], b"", 2, f"cacheaudit: {EXAMPLE.parent}/nothing.har: "),
+        ([str(EXAMPLE.parent)], b"", 2, "cacheaudit: "),
+    ]
+
+
+def ended(program, words, given):
+    return subprocess.run([program, *words], input=given, capture_output=True, timeout=10)
+
+
+def is_ended_so(run, status, error):
+    """Whether a run has the status and the text, or a text that begins so, on one line."""
+    text = run.stderr.decode()
+    if status == 2 and run.stdout or text.count("\n") != (status != 0):
+        return False
+    return run.returncode == status and (text == error or not error.endswith("\n") and error and text.startswith(error))
+
+
+def said(program):
+    """The faults of what is said of the program, and of recordings in other forms and places."""
+    log = json.loads(EXAMPLE.read_text())["log"]
+    forms = [b"\xef\xbb\xbf" + EXAMPLE.read_bytes(), json.dumps(log).encode(), json.dumps(log["entries"]).encode()]
+    usage = ended(program, ["--help", "--nothing"], b"")
+    version = ended(program, ["--version"], b"")
+    example = ended(program, [], EXAMPLE.read_bytes())
+    checks = [
+        ("help", usage.returncode == 0 and not usage.stderr and all(word.encode() in usage.stdout for word in OPTIONS)),
+        ("version", version.returncode == 0 and re.fullmatch(rb"cacheaudit \d+\.\d+\.\d+\n", version.stdout)),
+        ("forms", all(ended(program, [], form).stdout == example.stdout for form in forms)),
+        ("file", ended(program, [str(EXAMPLE)], b"").stdout == example.stdout != b""),
+        ("shared", ended(program, ["--shared"], EXAMPLE.read_bytes()).stdout == example.stdout),
+        ("private", ended(program, ["--private"], EXAMPLE.read_bytes()).stdout != example.stdout),
+        ("the last of two", ended(program, ["--private", "--shared"], EXAMPLE.read_bytes()).stdout == example.stdout),
+    ]
+    return len(checks), [("said", name) for name, holds in checks if not holds]
+
+
+def limit():
+    resource.setrlimit(resource.RLIMIT_AS, (LIMIT, LIMIT))
+
+
+def without_memory(program):
+    """The faults of a run that has no memory for what it reads. A build that tests its memory runs with no such limit."""
+    if subprocess.run([program, "--version"], capture_output=True, preexec_fn=limit).returncode != 0:
+        return 1, []
+    with tempfile.TemporaryFile() as file:
+        file.write(b"[" + b" " * (2 * LIMIT) + b"]")
+        file.seek(0)
+        run = subprocess.run([program], stdin=file, capture_output=True, preexec_fn=limit, timeout=10)
+    texts = ("cacheaudit: out of memory\n", "cacheaudit: recording: out of memory\n")
+    is_so = any(is_ended_so(run, 3, text) for text in texts)
+    return 1, [] if is_so else [("out of memory", run.returncode, run.stderr)]
+
+
+def status_faults(program):
+    """How many runs there are, and which end otherwise."""
+    counted = [said(program), without_memory(program)]
+    faults = [fault for _, some in counted for fault in some]
+    wanted = runs()
+    for words, given, status, error in wanted:
+        run = ended(program, words, given)
+        if not is_ended_so(run, status, error):
+            faults.append(("status", words, given[:40], run.returncode, run.stderr, "wanted", status, error))
+    return len(wanted) + sum(number for number, _ in counted), faults
