@@ -88,8 +88,8 @@ pub fn with_further(alloc: Global, lines: &str, count: u32) -> Result<String, Fa
     Ok(text)
 }
 
-/// Returns what is asked of a value, if it was made. Only this owns values of types with much in them, whatever the
-/// type, which keeps the proofs of its callers short.
+/// Returns what is asked of a value, if it was made. Only this owns values of types with much in them,
+/// whatever the type, which keeps the proofs of its callers short.
 pub fn with<T: Drop, R: Drop, F: FnOnce(&T) -> Result<R, Fail>>(
     made: Result<T, Fail>,
     ask: F,
@@ -102,7 +102,7 @@ pub fn with<T: Drop, R: Drop, F: FnOnce(&T) -> Result<R, Fail>>(
     }
 }
 
-/// The same of a value that is changed.
+/// Returns what is asked of a value that may be changed, if it was made, and owns it as `with` does.
 pub fn with_mut<T: Drop, R: Drop, F: FnOnce(&mut T) -> Result<R, Fail>>(
     made: Result<T, Fail>,
     ask: F,
