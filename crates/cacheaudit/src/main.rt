@@ -95,8 +95,10 @@ fn main(rt: HostRuntime) -> ExitCode {
     match asked {
         Some(Asked::Help) => say(&rt, USAGE),
         Some(Asked::Version) => say(&rt, VERSION),
-        Some(Asked::Audit(settings, Some(path))) => audit_file(&rt, path.as_str(), settings),
-        Some(Asked::Audit(settings, None)) => audit_input(&rt, settings),
+        Some(Asked::Audit(settings, file)) => match file {
+            Some(path) => audit_file(&rt, path.as_str(), settings),
+            None => audit_input(&rt, settings),
+        },
         None => {
             let _ = eprintln!(&rt; "cacheaudit: unknown argument; --help lists them");
             ExitCode::from(NO_COMMAND)
