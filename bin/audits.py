@@ -2,13 +2,16 @@
 
     audits.py LEAST WORD..    (LEAST: the fewest entries; WORD..: the command of cacheaudit; bin/bench --scaling calls it)
 
-A row a recording: its entries and bytes, the least processor time of three runs, by how much that has grown since half as many
-entries, the greatest memory of a run, and how many bytes of memory that is for each byte of the recording. The last rows are a
-page that a browser exported (tests/recordings/site.har), so often one after the other, in its indented and in a compact form.
+A row a recording: its entries and bytes, the millions of instructions of a run, where valgrind is installed, and by how much
+they have grown since half as many entries, the least processor time of three runs, the greatest memory of a run, and how many
+bytes of memory that is for each byte of the recording. The last rows are a page that a browser exported
+(tests/recordings/site.har), so often one after the other, in its indented and in a compact form.
 """
 import copy
 import json
 import os
+import re
+import shutil
 import subprocess
 import sys
 import tempfile
@@ -17,8 +20,10 @@ from pathlib import Path
 
 LEAST = int(sys.argv[1])
 COMMAND = sys.argv[2:]
-DOUBLINGS = 3
+DOUBLINGS = 5
 RUNS = 3
+MOST_COUNTED = 10000
+VALGRIND = ["valgrind", "--tool=callgrind", "--callgrind-out-file=/dev/null"]
 PAGE = Path(__file__).resolve().parent.parent / "tests/recordings/site.har"
 PAGE_ENTRIES = 165
 START = datetime(2026, 1, 1, tzinfo=timezone.utc)
@@ -115,6 +120,15 @@ def run(path):
     return used.ru_utime + used.ru_stime, used.ru_maxrss * 1024
 
 
+def instructions(path, size):
+    """The instructions of a run, if they are counted."""
+    if size > MOST_COUNTED or shutil.which("valgrind") is None:
+        return None
+    with open(path, "rb") as recording:
+        ran = subprocess.run([*VALGRIND, *COMMAND], stdin=recording, capture_output=True, check=True)
+    return int(re.findall(rb"Collected : (\d+)", ran.stderr)[-1])
+
+
 def write(path, make):
     """Writes a recording from a process of its own, since a run counts at least the memory of the process that begins it."""
     pid = os.fork()
@@ -126,28 +140,31 @@ def write(path, make):
 
 
 def row(name, size, make, before):
-    """Prints a row, and returns its time."""
+    """Prints a row, and returns its instructions."""
     with tempfile.TemporaryDirectory() as folder:
         path = Path(folder) / "recording.har"
         write(path, make)
         length = path.stat().st_size
+        counted = instructions(path, size)
         runs = [run(path) for _ in range(RUNS)]
     seconds, memory = min(took for took, _ in runs), max(held for _, held in runs)
-    grown = f"{seconds / before:.2f}" if before else "-"
-    print(f"| {name} | {size} | {length} | {seconds:.2f} | {grown} | {memory / 1e6:.0f} | {memory / length:.1f} |", flush=True)
-    return seconds
+    millions = f"{counted / 1e6:.0f}" if counted else "-"
+    grown = f"{counted / before:.2f}" if counted and before else "-"
+    cells = [name, size, length, millions, grown, f"{seconds:.2f}", f"{memory / 1e6:.0f}", f"{memory / length:.1f}"]
+    print("|", " | ".join(map(str, cells)), "|", flush=True)
+    return counted
 
 
 def main():
-    print("| recording | entries | bytes | s | grown | memory, MB | bytes of memory a byte |")
-    print("|---|---|---|---|---|---|---|")
+    print("| recording | entries | bytes | million instructions | grown | s | memory, MB | bytes of memory a byte |")
+    print("|---|---|---|---|---|---|---|---|")
     for name, make in KINDS:
         before = None
         for size in (LEAST << doubling for doubling in range(DOUBLINGS + 1)):
             before = row(name, size, lambda: json.dumps({"log": {"entries": make(size)}}), before)
     for name, form in ("indented", {"indent": 1}), ("compact", {"separators": (",", ":")}):
         before = None
-        for times in (max(1, LEAST // 660) << doubling for doubling in range(DOUBLINGS + 1)):
+        for times in (max(1, LEAST // PAGE_ENTRIES) << doubling for doubling in range(DOUBLINGS + 1)):
             before = row(f"a page, {name}", times * PAGE_ENTRIES, lambda: json.dumps(pages(times), **form), before)
 
 
