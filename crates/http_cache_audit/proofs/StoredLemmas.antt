@@ -99,10 +99,10 @@ forbidden : (o : Option Permission) (os found : Obstacles) → storability_by o 
 forbidden None os found is = cc
 forbidden (Some p) os found is = forbidden_step (is_any os) p os found is
 
--- what forbids is told whole
-pub told : (e : Exchange) (found : Obstacles) → storability e ≡ Forbidden found → found ≡ obstacles e
+-- what forbids is reported whole
+pub reported : (e : Exchange) (found : Obstacles) → storability e ≡ Forbidden found → found ≡ obstacles e
 unfolding storability
-told e found is = forbidden (permission e) (obstacles e) found is
+reported e found is = forbidden (permission e) (obstacles e) found is
 
 -- ---- what stays
 

@@ -95,7 +95,7 @@ abbrev pub saved_by : Option ℕ → List Addition
 saved_by None = (label_of (codes "counts") (codes "saved_unknown"), 1) ∷ []
 saved_by (Some n) = (label_of (codes "bytes") (codes "saved"), n) ∷ []
 
-unfoldable pub saved_additions : Bool → Option UsedSeen → List Addition
+abbrev pub saved_additions : Bool → Option UsedSeen → List Addition
 saved_additions is_fresh None = []
 saved_additions is_fresh (Some u) = if is_fresh then saved_by u.saved else []
 
@@ -131,7 +131,7 @@ abbrev pub additions_by : ReadingSeen → RowSeen → VerdictSeen → List Membe
 additions_by (skipped reason) r v ms = []
 additions_by (entry e) r v ms = entry_additions e.kind r v ms
 
-unfoldable pub audited_additions : RowSeen → List Member → List Addition
+abbrev pub audited_additions : RowSeen → List Member → List Addition
 audited_additions r ms = option_map_or (λ v. additions_by r.recorded.reading r v ms) r.verdict []
 
 -- what is counted of a row, with its members

@@ -33,11 +33,11 @@ settings_seen s = record { options = options_of s.options; hides_queries = s.hid
 abbrev pub printed_byte : ℕ → ℕ
 printed_byte b = if nat_le 32 b && nat_le b 126 then b else 63
 
--- a text behind its name
+-- a text after its name
 unfoldable pub named_text : List ℕ → List ℕ → List ℕ
 named_text name t = codes ", " ++ (name ++ (codes " " ++ t))
 
--- a member in a plain line: verdict, method and url are told by their place
+-- a member in a plain line: verdict, method and url have no name before them
 unfoldable pub word_text : List ℕ → List ℕ → List ℕ
 word_text name t =
     if bytes_eq name (codes "verdict") then t

@@ -31,7 +31,7 @@ use Rattle.http_cache_audit.specs.Row.{UsedSeen, ReceivedSeen, stored, updated, 
 use Rattle.http_cache_audit.specs.Row.{not_selected}
 use Rattle.http_cache_audit.specs.Lifetime.{whole_seconds, lifetime_of, kept_of}
 
--- a stored response: its exchange, names that are unknown in its request, the entry it came from, and what was sent for it
+-- a stored response: its exchange, names that are unknown in its request, the entry with its full response, and what was sent for it
 pub record StoredSeen : Type 0 where
   pub exchange : Exchange
   pub unknown : List (List ℕ)

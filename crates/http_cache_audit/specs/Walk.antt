@@ -289,7 +289,7 @@ judgement_of k w ss = judged_all k w.sent (asked_of k w ss) ss
 abbrev pub is_of_target : List ℕ → List ℕ → Bool
 is_of_target target key = bytes_eq (key_of (codes "GET") target) key || bytes_eq (key_of (codes "HEAD") target) key
 
--- a store is asked: the request could be answered by it, or no response came for such a one
+-- a store is asked: the request could be answered by it, or no response was received for such a one
 abbrev pub asks_store : Kind → Bool
 asks_store kind.Internal = false
 asks_store kind.Preflight = false
@@ -364,12 +364,16 @@ apart_row invalidated sent = record {
   invalidated = invalidated;
 }
 
+-- the row of one that may invalidate what is stored, by what is stored under each key
+abbrev pub passed_row : (List ℕ → ShelfSeen) → SentSeen → RowSeen
+passed_row at sent = apart_row (invalidated_from at sent) sent
+
 -- the row of an entry, by what is stored under each key
 abbrev pub row_on : WalkSeen → (List ℕ → ShelfSeen) → WalkedSeen → RowSeen
 row_on k at w =
     if asks_store w.sent.entry.kind
     then asked_row_on k (at (key_in w.sent)) w
-    else apart_row (invalidated_from at w.sent) w.sent
+    else passed_row at w.sent
 
 -- the row of an entry, by those before it
 abbrev pub row_by : WalkSeen → List WalkedSeen → WalkedSeen → RowSeen

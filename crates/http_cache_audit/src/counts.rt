@@ -176,7 +176,7 @@ impl Counts {
     }
 
     // What a hit saved.
-    #[tactic(auto, using(crate::proofs::CountsLemmas::also_none), unfolding(crate::specs::Counts::saved_additions))]
+    #[tactic(auto, using(crate::proofs::CountsLemmas::also_none))]
     fn add_saved(&mut self, is_fresh: bool, used: &Option<Used>) -> Result<(), AllocError>
         ensures { OnOk result (CountsAlso (saved_additions is_fresh (option_map used_seen used.now))
             self.old self.new) }
@@ -267,7 +267,7 @@ impl Counts {
         Ok(())
     }
 
-    #[tactic(auto, using(crate::proofs::CountsLemmas::also_none), unfolding(crate::specs::Counts::audited_additions))]
+    #[tactic(auto, using(crate::proofs::CountsLemmas::also_none))]
     fn add_audited(&mut self, row: &Row<'_>, members: &Members) -> Result<(), AllocError>
         ensures { OnOk result (CountsAlso (audited_additions (row_seen row.now)
             (map member_seen members.now.all.items)) self.old self.new) }

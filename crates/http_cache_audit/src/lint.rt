@@ -169,7 +169,7 @@ fn lint_of(
     })
 }
 
-/// Puts words behind others, where something holds.
+/// Adds words to a list, if something holds.
 pub(crate) fn push_hint(
     alloc: Global,
     all: &mut Vec<String>,

@@ -86,7 +86,7 @@ pub struct Lifetime {
 /// A stored response that answers a request, or that the origin is asked about.
 #[derive(Debug, Drop)]
 pub struct Used {
-    /// The index of the entry that it came from: the full response, or the one that showed it.
+    /// The index of the entry with its full response, or of the one that showed it.
     pub from: usize,
     /// How many bytes were sent for that full response, if it was sent in the recording.
     pub saved: Option<u64>,
@@ -143,6 +143,6 @@ pub enum Again {
     InFull,
     /// It is the same, and the request had no condition for it.
     Unasked,
-    /// Nothing tells whether it is the same.
+    /// Neither bodies nor validators show whether it is the same.
     Unknown,
 }

@@ -40,7 +40,7 @@ pub(crate) struct Stored {
     pub policy: CachePolicy,
     /// Names whose values in its request are unknown.
     pub unknown: Vec<HeaderName>,
-    /// The index of the entry that it came from.
+    /// The index of the entry with its full response, or of the one that showed it.
     pub from: usize,
     /// How many bytes were sent for the full response, if it was sent in the recording.
     pub sent: Option<u64>,
@@ -134,7 +134,7 @@ impl Stored {
         Ok(chosen_by(self.policy.explain(&asked, now).reason, place))
     }
 
-    /// Returns what is told of it where it answers a request.
+    /// Returns what is reported of it if it answers a request.
     pub(crate) fn used(&self, alloc: Global, now: Timestamp) -> Result<Used, AllocError>
         ensures { IfOk result (λ used. used_seen used ≡ used_of (stored_seen self.now) now.nanosecond) }
     {

@@ -14,8 +14,8 @@ ghost use Rattle.http_cache_audit.specs.Stored.{stored_seen, forbidden_by, put_f
 ghost use Rattle.http_cache_audit.specs.Walk.{walk_seen, received_apart, invalidates, verdict_with, asked_of, body_at};
 ghost use Rattle.http_cache_audit.specs.Walk.{receipt_of, used_fresh, asked_about, missed, judged, seed_of, judged_cached};
 ghost use Rattle.http_cache_audit.specs.Walk.{confirmed_own, judged_own, shows, judged_all, key_of, key_in, walked_in};
-ghost use Rattle.http_cache_audit.specs.Walk.{asked_row, asked_row_on, apart_row, row_on, left_under, shelf_at, on_shelf, is_of_target, judgement_of, asks_store};
-ghost use Rattle.http_cache_audit.specs.Walk.{rows_of, skipped_rows, skipped_rows_at, AreRows, left_by_passed, left_by_asked, refused, invalidated_from};
+ghost use Rattle.http_cache_audit.specs.Walk.{asked_row, asked_row_on, passed_row, row_on, left_under, shelf_at, on_shelf, is_of_target, judgement_of, asks_store};
+ghost use Rattle.http_cache_audit.specs.Walk.{rows_of, skipped_rows, skipped_rows_at, AreRows, left_by_passed, left_by_asked, refused};
 
 use crate::again::{again_by_own, again_of};
 use crate::assume::Asked;
@@ -203,7 +203,7 @@ fn shows(response: &response::Parts) -> bool
     response.status.as_u16() != 304 && has_values(&response.headers)
 }
 
-// What is told of the newest, where it was confirmed.
+// What is reported of the newest stored response, which a 304 confirmed.
 fn confirmed(alloc: Global, stored: &[Stored], now: Timestamp) -> Result<Received, AllocError>
     ensures { IfOk result (λ received. IfSome (slice_get (map stored_seen stored.now) 0)
         (λ s. received_seen received ≡ updated (kept_of s.exchange now.nanosecond))) }
@@ -579,7 +579,7 @@ impl<'a> Walk<'a> {
     // The row of a request that is counted apart.
     fn pass(&self, shelves: &mut Shelves, sent: &Sent<'a>) -> Result<Row<'a>, AllocError>
         ensures row { IfOk result (λ row. row_seen row
-            ≡ apart_row (invalidated_from (shelf_at shelves.old) (sent_seen sent.now)) (sent_seen sent.now)) }
+            ≡ passed_row (shelf_at shelves.old) (sent_seen sent.now)) }
         ensures left { OnOk result ((key : List ℕ) → shelf_at shelves.new key
             ≡ left_by_passed key (sent_seen sent.now) (shelf_at shelves.old key)) }
     {
@@ -681,7 +681,10 @@ fn push_skipped<'a>(
 }
 
 /// Returns the rows of a recording: of its entries in the order of the walk, then of what isn't audited.
-/// It is refused only for want of memory.
+///
+/// # Errors
+///
+/// Returns an error only if there is no memory.
 pub(crate) fn rows_of<'a>(
     alloc: Global,
     recorded: &'a [Recorded],

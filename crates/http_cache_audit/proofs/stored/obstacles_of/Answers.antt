@@ -1,8 +1,8 @@
--- What is told to forbid is all that does.
+-- What is reported to forbid is all that does.
 use Rattle.std.proofs.Common.{◌≡◌, false, sym, ap, ◌∙◌, refl}
 use Rattle.http_cache_semantics.specs.Storing.{is_storable}
 use Rattle.http_cache_semantics.specs.Storability.{obstacles, is_allowed}
-use Rattle.http_cache_audit.proofs.StoredLemmas.{told}
+use Rattle.http_cache_audit.proofs.StoredLemmas.{reported}
 use Rattle.http_cache_audit.proofs.stored.obstacles_of.Goals as goal
 
 pub returns-in-Forbidden : goal.returns-in-Forbidden
@@ -11,5 +11,5 @@ returns-in-Forbidden c =
     let said = c.storability.ensures in
     let is = c.in-Forbidden.is in
     let not_allowed : is_storable e ≡ false = sym said.storable ∙ ap is_allowed is in
-    let whole : c.in-Forbidden.obstacles ≡ obstacles e = told e c.in-Forbidden.obstacles (sym said.value ∙ is) in
+    let whole : c.in-Forbidden.obstacles ≡ obstacles e = reported e c.in-Forbidden.obstacles (sym said.value ∙ is) in
     rw (not_allowed, whole) refl

@@ -39,8 +39,8 @@ loop-one-preserved c =
           (λ key. c.in_ok-row.ensures.left key
           ∙ ap (λ (w : WalkedSeen). left_under k key (shelf_at c.loop-one.shelves key) w) walked);
       holds = c.in_ok-add.ensures before c.loop-one.invariant.holds ∙ ap sources_of (sym next);
-      told = ap (λ (l : List RowSeen).
+      listed = ap (λ (l : List RowSeen).
           l ++ rows_after k (walked_after [] (take (i + 1) ss)) (walked_after (take (i + 1) ss) (drop (i + 1) ss))) pushed
           ∙ rows-next k ss i s (map row_seen rows) (rows_of k ss) (row_seen c.in_ok-row.field-0) at row
-          c.loop-one.invariant.told;
+          c.loop-one.invariant.listed;
     }

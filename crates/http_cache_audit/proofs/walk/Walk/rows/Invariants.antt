@@ -14,6 +14,6 @@ invariant-loop-one l =
     record {
       left : HaveLeft k (walked_after [] before) l.shelves;
       holds : HoldsSources before (sources_seen l.sources);
-      told : map row_seen l.rows.items ++ rows_after k (walked_after [] before) (walked_after before (drop l.one-index ss))
+      listed : map row_seen l.rows.items ++ rows_after k (walked_after [] before) (walked_after before (drop l.one-index ss))
           ≡ rows_of k ss;
     }
