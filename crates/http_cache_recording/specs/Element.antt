@@ -32,17 +32,21 @@ is_token text = nat_lt 0 (length text) && list_all is_token_byte text
 unfoldable pub method_in : Data → Option (List ℕ)
 method_in d = request_text (codes "method") d >>= (λ m. given (is_token m) m)
 
--- a service worker answered
-abbrev pub by_worker : Data → Option (List ℕ)
-by_worker d =
-    member_of (codes "response") (codes "_fetchedViaServiceWorker") d >>= as_bool
-    >>= (λ flag. given flag (codes "service worker"))
+-- what Chromium says of an answer of a service worker
+abbrev pub worker_flag : Data → Option Bool
+worker_flag d = member_of (codes "response") (codes "_fetchedViaServiceWorker") d >>= as_bool
+
+-- a service worker answered, by Chromium's word or by Safari's
+unfoldable pub is_by_worker : Data → Bool
+is_by_worker d =
+    unwrap_or (worker_flag d) false
+    || option_map_or (λ t. bytes_eq t (codes "Service Worker")) (text_in (codes "_fetchType") d) false
 
 -- why what is asked by http or https isn't audited, whatever its target
 unfoldable pub other_reason : List ℕ → Data → Option (List ℕ)
 other_reason method d =
     if bytes_eq method (codes "CONNECT") then Some (codes "connect")
-    else (if status_of d == 101 then Some (codes "upgrade") else by_worker d)
+    else (if status_of d == 101 then Some (codes "upgrade") else given (is_by_worker d) (codes "service worker"))
 
 -- why what is asked for at a url isn't audited
 abbrev pub url_reason : List ℕ → Data → List ℕ → Option (List ℕ)
@@ -150,7 +154,7 @@ entry_of ignores method started d = record {
 abbrev pub IsSkipped : Reader → Data → List ℕ → RecordedSeen → Type 0
 IsSkipped reader d reason r =
     (url : Option (List ℕ)) × IsSkippedUrl d url
-    × (r ≡ record { printed = printed_of reader.is_firefox url d; reading = skipped reason })
+    × (r ≡ record { printed = printed_of reader url d; reading = skipped reason })
 
 -- the row of an element with a method, and a target and a time, or without
 abbrev pub IsRecordedBy : Reader → Data → List ℕ → RecordedSeen → Type 0
@@ -158,7 +162,7 @@ IsRecordedBy reader d method r =
     MatchOption (reason_of method d)
     (MatchOption (started_of d) (IsSkipped reader d (codes "no moment") r)
     (λ started. r ≡ record {
-      printed = printed_of reader.is_firefox (target_in d) d;
+      printed = printed_of reader (target_in d) d;
       reading = entry (entry_of reader.ignores_no_cache method started d);
     }))
     (λ reason. IsSkipped reader d reason r)

@@ -25,6 +25,8 @@ pub record PrintedSeen : Type 0 where
   pub browser : Option (List ℕ)
   pub error : Option (List ℕ)
   pub sent : ℕ
+  pub head : ℕ
+  pub page : Option (List ℕ)
 
 abbrev pub printed_seen : Printed → PrintedSeen
 printed_seen p = record {
@@ -34,6 +36,8 @@ printed_seen p = record {
   browser = text_seen p.browser;
   error = text_seen p.error;
   sent = p.sent;
+  head = p.head;
+  page = text_seen p.page;
 }
 
 -- the response to a request: none, from the browser's own cache, or from the network

@@ -4,8 +4,9 @@ use Rattle.std.specs.Prelude.{Option, Some, None, option_map, option_and_then, i
 use Rattle.std.specs.Option.{option_or, option_map_or}
 use Rattle.std.specs.Str.{IsCharBoundary}
 use Rattle.serde_json.specs.Data.{Data}
-use Rattle.serde_json.specs.Find.{get, as_str, as_number, as_u64}
+use Rattle.serde_json.specs.Find.{get, as_str, as_number, as_object, as_u64}
 use Rattle.http_cache_stored.specs.Form.{◌>>=◌, given}
+use Rattle.http_cache_recording.specs.declared.element.Reader.{Reader}
 use Rattle.http_cache_recording.specs.Entry.{PrintedSeen}
 use Rattle.http_cache_recording.specs.Number.{whole}
 use Rattle.http_cache_recording.specs.Target.{user_len}
@@ -70,19 +71,42 @@ is_by_firefox d =
     nat_lt 0 (status_of d) && has_no_size (codes "request") d && has_no_size (codes "response") d
     && not (is_some (some_text_in (codes "serverIPAddress") d))
 
--- what the browser calls its own cache, if that answered
-unfoldable pub browser_of : Data → Option (List ℕ)
-browser_of d = option_or (some_text_in (codes "_fromCache") d) (given (is_by_firefox d) (codes "firefox"))
-
--- the browser's error
-unfoldable pub error_of : Data → Option (List ℕ)
-error_of d = get (codes "response") d >>= some_text_in (codes "_error")
-
--- ---- bytes
-
 -- a size of the response
 abbrev pub response_size : List ℕ → Data → Option ℕ
 response_size name d = whole (member_of (codes "response") name d)
+
+-- the name for one of Safari's own caches
+abbrev pub safari_name : List ℕ → Option (List ℕ)
+safari_name t =
+    if bytes_eq t (codes "Memory Cache") then Some (codes "memory")
+    else (if bytes_eq t (codes "Disk Cache") then Some (codes "disk") else None)
+
+-- what Safari says of its own caches
+unfoldable pub safari_cache : Data → Option (List ℕ)
+safari_cache d = text_in (codes "_fetchType") d >>= safari_name
+
+-- the response was stored before the request (`cache.beforeRequest`), and nothing was sent of its body
+unfoldable pub is_by_state : Data → Bool
+is_by_state d =
+    option_map_or (λ state. is_some (as_object state)) (member_of (codes "cache") (codes "beforeRequest") d) false
+    && nat_lt 0 (status_of d) && not (status_of d == 304)
+    && option_map_or (λ n. n == 0) (response_size (codes "bodySize") d) false
+    && (unwrap_or (response_size (codes "_transferSize") d) 0 == 0)
+
+-- what the browser calls its own cache, if that answered
+unfoldable pub browser_of : Data → Option (List ℕ)
+browser_of d =
+    option_or (some_text_in (codes "_fromCache") d) (option_or (safari_cache d)
+    (option_or (given (is_by_firefox d) (codes "firefox")) (given (is_by_state d) (codes "cache"))))
+
+-- the error of a response, by the browser or by Playwright
+abbrev pub error_in : Data → Option (List ℕ)
+error_in response = option_or (some_text_in (codes "_error") response) (some_text_in (codes "_failureText") response)
+
+unfoldable pub error_of : Data → Option (List ℕ)
+error_of d = get (codes "response") d >>= error_in
+
+-- ---- bytes
 
 -- a number of the content, or 0
 abbrev pub content_number : List ℕ → Data → ℕ
@@ -115,13 +139,19 @@ sent_of is_firefox d =
 
 -- ---- all of it
 
+-- the name of the page for which it was loaded, in a recording that lists pages
+unfoldable pub page_of : Bool → Data → Option (List ℕ)
+page_of has_pages d = if has_pages then some_text_in (codes "pageref") d else None
+
 -- what may be printed of an entry, with that url
-unfoldable pub printed_of : Bool → Option (List ℕ) → Data → PrintedSeen
-printed_of is_firefox url d = record {
+unfoldable pub printed_of : Reader → Option (List ℕ) → Data → PrintedSeen
+printed_of reader url d = record {
   method = method_of d;
   url = url;
   status = status_of d;
   browser = browser_of d;
   error = error_of d;
-  sent = sent_of is_firefox d;
+  sent = sent_of reader.is_firefox d;
+  head = unwrap_or (response_size (codes "headersSize") d) 0;
+  page = page_of reader.has_pages d;
 }

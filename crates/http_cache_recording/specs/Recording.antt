@@ -1,15 +1,16 @@
 -- What a recorded session is.
 use Rattle.std.specs.Prelude.{◌≡◌, ◌<◌, ◌+◌, ◌-◌, ⊤, ℕ, ◌==◌, ◌||◌, ◌&&◌, not, fold, take, Bool, nat_eq, List, [], ◌∷◌, length, Option, Some, None, IsSomeAnd, codes, bytes_eq}
-use Rattle.std.specs.Prelude.{false, if◌then◌else◌, unwrap_or}
+use Rattle.std.specs.Prelude.{true, false, if◌then◌else◌, unwrap_or}
 use Rattle.std.specs.Option.{option_or, option_map_or}
 use Rattle.std.specs.Str.{IsUtf8}
 use Rattle.std.specs.List.{AllZip, starts_with}
-use Rattle.serde_json.specs.Data.{Data, Items}
+use Rattle.serde_json.specs.Data.{Data, Items, no_items, item}
 use Rattle.serde_json.specs.Read.{read as read_text}
 use Rattle.serde_json.specs.Find.{get, as_array, as_str}
 use Rattle.http_cache_stored.specs.Form.{◌>>=◌}
 use Rattle.http_cache_stored.specs.Lists.{values_of}
 use Rattle.http_cache_recording.specs.declared.recording.Nesting.{Nesting}
+use Rattle.http_cache_recording.specs.declared.element.Reader.{Reader}
 use Rattle.http_cache_recording.specs.declared.error.ReadingError.{ReadingError}
 use Rattle.http_cache_recording.specs.declared.error.ReadingError.TheVariants.{Memory, Empty, Compressed, Utf16}
 use Rattle.http_cache_recording.specs.declared.error.ReadingError.TheVariants.{NotJson, TooDeep, NumberOutOfRange}
@@ -30,19 +31,39 @@ list_in_log d = get (codes "log") d >>= list_of_log
 unfoldable pub entries_of : Data → Option Items
 entries_of d = option_or (list_in_log d) (option_or (list_of_log d) (as_array d))
 
+-- the log of a recording, or all of it
+abbrev pub log_of : Data → Data
+log_of d = unwrap_or (get (codes "log") d) d
+
 -- the name of the program that wrote the recording
 unfoldable pub creator_of : Data → Option (List ℕ)
-creator_of d = get (codes "creator") (unwrap_or (get (codes "log") d) d) >>= get (codes "name") >>= as_str
+creator_of d = get (codes "creator") (log_of d) >>= get (codes "name") >>= as_str
+
+-- the pages that the recording lists
+abbrev pub pages_of : Data → Option Items
+pages_of d = get (codes "pages") (log_of d) >>= as_array
+
+abbrev pub is_item : Items → Bool
+is_item no_items = false
+is_item (item d ds) = true
+
+-- the recording lists pages
+abbrev pub has_pages : Data → Bool
+has_pages d = option_map_or is_item (pages_of d) false
 
 -- Firefox wrote it
 abbrev pub is_by_firefox : Data → Bool
 is_by_firefox d = option_map_or (λ t. bytes_eq t (codes "Firefox")) (creator_of d) false
 
+-- how the elements of a recording are read
+abbrev pub reader_of : Bool → Data → Reader
+reader_of ignores d = record { is_firefox = is_by_firefox d; ignores_no_cache = ignores; has_pages = has_pages d }
+
 -- the value's entries, each at its index
 abbrev pub AreEntries : Bool → Data → List RecordedSeen → Type 0
 AreEntries ignores d rs =
     IsSomeAnd (entries_of d)
-    (λ ds. AllZip (IsRecorded (record { is_firefox = is_by_firefox d; ignores_no_cache = ignores })) (values_of ds) rs)
+    (λ ds. AllZip (IsRecorded (reader_of ignores d)) (values_of ds) rs)
 
 -- the text of the bytes is that value
 pub record IsJson (bytes : List ℕ) (d : Data) : Type 0 where

@@ -1,7 +1,8 @@
 -- Targets of requests from urls.
 use Rattle.std.specs.Prelude.{ℕ, ◌+◌, ◌-◌, ◌^◌, ◌==◌, ◌&&◌, ◌||◌, not, Bool, List, [], ◌++◌, length, drop}
 use Rattle.std.specs.Prelude.{slice_index, codes, bytes_eq, nat_lt, Option, Some, if◌then◌else◌}
-use Rattle.std.specs.List.{position_or_len, before_first, after_first}
+use Rattle.std.specs.Char.{is_ascii_alphanumeric}
+use Rattle.std.specs.List.{position_or_len, prefix_len, before_first, after_first}
 use Rattle.percent_encoding.specs.declared.ascii_set.AsciiSet.{AsciiSet}
 use Rattle.percent_encoding.specs.Percent.{percent_encode}
 use Rattle.http_uri.specs.ByteClasses.{lowercase, index_after_last}
@@ -35,11 +36,21 @@ is_web scheme = bytes_eq (lowercase scheme) (codes "http") || bytes_eq (lowercas
 abbrev pub has_scheme : List ℕ → Bool
 has_scheme url = nat_lt (position_or_len (λ b. b == 58) url) (length url)
 
+-- a letter, a digit, `+`, `-` or `.`
+abbrev pub is_scheme_byte : ℕ → Bool
+is_scheme_byte b = is_ascii_alphanumeric b || b == 43 || b == 45 || b == 46
+
+-- a text that can be a scheme (RFC 3986, section 3.1), else `none`
+unfoldable pub scheme_shown : List ℕ → List ℕ
+scheme_shown text =
+    if nat_lt 0 (prefix_len is_scheme_byte text) && (prefix_len is_scheme_byte text == length text) then text
+    else codes "none"
+
 -- the scheme of a url, if it is neither http nor https; `none` if it has none
 unfoldable pub other_scheme : List ℕ → Option (List ℕ)
 other_scheme url =
     if has_scheme url
-    then given (not (is_web (before_first (λ b. b == 58) url))) (before_first (λ b. b == 58) url)
+    then given (not (is_web (before_first (λ b. b == 58) url))) (scheme_shown (before_first (λ b. b == 58) url))
     else Some (codes "none")
 
 -- controls, a blank, `"`, `<`, `>` and a backtick, which a target escapes beside the bytes outside ASCII

@@ -6,7 +6,7 @@ ghost use Rattle.http_cache_recording.specs.Entry.{text_seen, answer_seen, body_
 ghost use Rattle.http_cache_recording.specs.Element.{method_in, other_reason, reason_of, target_in, started_of};
 ghost use Rattle.http_cache_recording.specs.Element.{request_headers, answer_of, body_of, is_internal, is_preflight};
 ghost use Rattle.http_cache_recording.specs.Element.{is_answered_by_store, is_range, kind_of, entry_of, IsSkipped, IsRecordedBy};
-ghost use Rattle.http_cache_recording.specs.Element.{IsRecorded};
+ghost use Rattle.http_cache_recording.specs.Element.{IsRecorded, worker_flag, is_by_worker};
 
 use crate::entry::{Answer, Body, Entry, Kind, Reading, Recorded};
 use crate::fields::{headers_in, remove_no_cache};
@@ -32,6 +32,8 @@ pub(crate) struct Reader {
     pub is_firefox: bool,
     /// Requests are read without their `no-cache`.
     pub ignores_no_cache: bool,
+    /// The recording lists pages, so that an entry may be of one of them.
+    pub has_pages: bool,
 }
 
 // The method of the request, if it is a token (RFC 9110, section 9.1).
@@ -49,6 +51,21 @@ fn method_in(alloc: Global, value: &Value) -> Result<Option<Method>, AllocError>
     }
 }
 
+// What Chromium says of an answer of a service worker.
+fn worker_flag(value: &Value) -> Option<bool>
+    ensures { result ≡ worker_flag (view value.now) }
+{
+    member(value, "response", "_fetchedViaServiceWorker")?.as_bool()
+}
+
+// Whether a service worker answered, by Chromium's word or by Safari's.
+#[tactic(auto, unfolding(crate::specs::Element::is_by_worker))]
+fn is_by_worker(value: &Value) -> bool
+    ensures { result ≡ is_by_worker (view value.now) }
+{
+    worker_flag(value).unwrap_or(false) || text_in(value, "_fetchType") == Some("Service Worker")
+}
+
 // Why what is asked by http or https isn't audited, whatever its target.
 #[tactic(auto, unfolding(crate::specs::Element::other_reason))]
 fn other_reason(value: &Value, method: &str) -> Option<&'static str>
@@ -60,9 +77,10 @@ fn other_reason(value: &Value, method: &str) -> Option<&'static str>
     if status_of(value) == 101 {
         return Some("upgrade");
     }
-    match member(value, "response", "_fetchedViaServiceWorker")?.as_bool()? {
-        true => Some("service worker"),
-        false => None,
+    if is_by_worker(value) {
+        Some("service worker")
+    } else {
+        None
     }
 }
 
@@ -258,7 +276,7 @@ fn skipped(
 {
     let url = copied(alloc, skipped_url(value))?;
     Ok(Recorded {
-        printed: printed_of(alloc, value, url, reader.is_firefox)?,
+        printed: printed_of(alloc, value, url, reader)?,
         reading: Reading::Skipped(reason),
     })
 }
@@ -281,7 +299,7 @@ fn recorded_by(
     let target = target_in(alloc, value)?;
     let entry = entry_of(alloc, value, method, started, reader)?;
     Ok(Recorded {
-        printed: printed_of(alloc, value, target, reader.is_firefox)?,
+        printed: printed_of(alloc, value, target, reader)?,
         reading: Reading::Entry(entry),
     })
 }

@@ -27,6 +27,10 @@ pub struct Printed {
     pub error: Option<String>,
     /// How many bytes were sent over the network for the response.
     pub sent: u64,
+    /// How many bytes its status line and headers took, or 0 if that isn't recorded.
+    pub head: u64,
+    /// The page for which it was loaded, by the name that the recording has for it.
+    pub page: Option<String>,
 }
 
 /// What an entry holds, or why it isn't audited.

@@ -62,9 +62,9 @@ fn trimmed(line: &[u8]) -> &[u8]
     &rest[..len_without_blanks(rest)]
 }
 
-// What a line holds without the blanks at both ends, if it is a value.
+/// Returns what a line holds without the blanks at both ends, if it is a value (RFC 9110, section 5.5).
 #[tactic(auto, unfolding(crate::specs::Fields::value_of_line))]
-fn value_of_line(alloc: Global, line: &[u8]) -> Result<Option<HeaderValue>, AllocError>
+pub fn value_of_line(alloc: Global, line: &[u8]) -> Result<Option<HeaderValue>, AllocError>
     ensures { IfOk result (λ v. option_map (λ w. w.bytes) v ≡ value_of_line line.now) }
 {
     match HeaderValue::from_bytes(alloc, trimmed(line)) {

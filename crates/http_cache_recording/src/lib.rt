@@ -16,5 +16,5 @@ mod target;
 
 pub use entry::{Answer, Body, Entry, Kind, Printed, Reading, Recorded};
 pub use error::ReadingError;
-pub use fields::{field_name, has_room};
+pub use fields::{field_name, has_room, value_of_line};
 pub use recording::{LONGEST, recording_from_bytes};

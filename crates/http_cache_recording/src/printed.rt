@@ -6,8 +6,9 @@ ghost use Rattle.http_cache_recording.specs.Printed.{member_of, text_in, some_te
 ghost use Rattle.http_cache_recording.specs.Printed.{request_text, method_of, IsSkippedUrl, status_of, size_of_headers, has_no_size};
 ghost use Rattle.http_cache_recording.specs.Printed.{is_by_firefox, browser_of, error_of};
 ghost use Rattle.http_cache_recording.specs.Printed.{response_size, content_size, body_size, sent_by, sent_of};
-ghost use Rattle.http_cache_recording.specs.Printed.{printed_of};
+ghost use Rattle.http_cache_recording.specs.Printed.{printed_of, safari_cache, is_by_state, page_of};
 
+use crate::element::Reader;
 use crate::entry::Printed;
 use crate::number::whole;
 use crate::target::user_len;
@@ -118,6 +119,33 @@ fn is_by_firefox(value: &Value) -> bool
         && some_text_in(value, "serverIPAddress").is_none()
 }
 
+// What Safari says of its own caches.
+#[tactic(auto, unfolding(crate::specs::Printed::safari_cache))]
+fn safari_cache(value: &Value) -> Option<&'static str>
+    ensures { option_map (λ t. t.now) result ≡ safari_cache (view value.now) }
+{
+    match text_in(value, "_fetchType")? {
+        "Memory Cache" => Some("memory"),
+        "Disk Cache" => Some("disk"),
+        _ => None,
+    }
+}
+
+// The response was stored before the request (`cache.beforeRequest`), and nothing was sent of its body.
+#[tactic(auto, unfolding(crate::specs::Printed::is_by_state))]
+fn is_by_state(value: &Value) -> bool
+    ensures { result ≡ is_by_state (view value.now) }
+{
+    let Some(state) = member(value, "cache", "beforeRequest") else {
+        return false;
+    };
+    state.is_object()
+        && status_of(value) > 0
+        && status_of(value) != 304
+        && response_size(value, "bodySize") == Some(0)
+        && response_size(value, "_transferSize").unwrap_or(0) == 0
+}
+
 /// Returns what the browser calls its own cache, if that answered.
 #[tactic(auto, unfolding(crate::specs::Printed::browser_of))]
 pub(crate) fn browser_of(value: &Value) -> Option<&str>
@@ -126,19 +154,28 @@ pub(crate) fn browser_of(value: &Value) -> Option<&str>
     if let Some(name) = some_text_in(value, "_fromCache") {
         return Some(name);
     }
+    if let Some(name) = safari_cache(value) {
+        return Some(name);
+    }
     if is_by_firefox(value) {
         Some("firefox")
+    } else if is_by_state(value) {
+        Some("cache")
     } else {
         None
     }
 }
 
-/// Returns the browser's error, if it is a text that isn't empty.
+/// Returns the browser's error, or Playwright's, if it is a text that isn't empty.
 #[tactic(auto, unfolding(crate::specs::Printed::error_of))]
 pub(crate) fn error_of(value: &Value) -> Option<&str>
     ensures { option_map (λ t. t.now) result ≡ error_of (view value.now) }
 {
-    some_text_in(value.get("response")?, "_error")
+    let response = value.get("response")?;
+    match some_text_in(response, "_error") {
+        Some(error) => Some(error),
+        None => some_text_in(response, "_failureText"),
+    }
 }
 
 fn response_size(value: &Value, name: &str) -> Option<u64>
@@ -206,17 +243,30 @@ fn sent_of(value: &Value, is_firefox: bool) -> u64
     }
 }
 
+// The name of the page for which it was loaded, in a recording that lists pages.
+#[tactic(auto, unfolding(crate::specs::Printed::page_of))]
+fn page_of(value: &Value, has_pages: bool) -> Option<&str>
+    ensures { option_map (λ t. t.now) result ≡ page_of has_pages (view value.now) }
+{
+    if has_pages {
+        some_text_in(value, "pageref")
+    } else {
+        None
+    }
+}
+
 /// Returns what may be printed of an entry, with that url.
 #[tactic(auto, unfolding(crate::specs::Printed::printed_of))]
 pub(crate) fn printed_of(
     alloc: Global,
     value: &Value,
     url: Option<String>,
-    is_firefox: bool,
+    reader: Reader,
 ) -> Result<Printed, AllocError>
     ensures { IfOk result (λ printed. printed_seen printed
-        ≡ printed_of is_firefox (text_seen url) (view value.now)) }
+        ≡ printed_of reader (text_seen url) (view value.now)) }
 {
+    let page = copied(alloc, page_of(value, reader.has_pages))?;
     let method = copied(alloc, method_of(value))?;
     let browser = copied(alloc, browser_of(value))?;
     let error = copied(alloc, error_of(value))?;
@@ -226,6 +276,8 @@ pub(crate) fn printed_of(
         status: status_of(value),
         browser,
         error,
-        sent: sent_of(value, is_firefox),
+        sent: sent_of(value, reader.is_firefox),
+        head: response_size(value, "headersSize").unwrap_or(0),
+        page,
     })
 }

@@ -5,6 +5,7 @@ ghost use Rattle.serde_json.specs.View.{view, items_view};
 ghost use Rattle.http_cache_recording.specs.Entry.{recorded_seen};
 ghost use Rattle.http_cache_recording.specs.Element.{IsRecorded};
 ghost use Rattle.http_cache_recording.specs.Recording.{list_of_log, list_in_log, entries_of, creator_of};
+ghost use Rattle.http_cache_recording.specs.Recording.{log_of, pages_of, has_pages, reader_of};
 ghost use Rattle.http_cache_recording.specs.Recording.{is_by_firefox, IsJson, IsRecording, nesting_after, IsTooDeep};
 ghost use Rattle.http_cache_recording.specs.Recording.{is_compressed, is_utf16, other_form, IsFault, IsCause};
 
@@ -45,22 +46,51 @@ fn entries_of(value: &Value) -> Option<&Vec<Value>>
     }
 }
 
+// The log of a recording, or all of it.
+fn log_of(value: &Value) -> &Value
+    ensures { view result.now ≡ log_of (view value.now) }
+{
+    value.get("log").unwrap_or(value)
+}
+
 // The name of the program that wrote the recording.
 #[tactic(auto, unfolding(crate::specs::Recording::creator_of))]
 fn creator_of(value: &Value) -> Option<&str>
     ensures { option_map (λ t. t.now) result ≡ creator_of (view value.now) }
 {
-    let log = match value.get("log") {
-        Some(log) => log,
-        None => value,
-    };
-    log.get("creator")?.get("name")?.as_str()
+    log_of(value).get("creator")?.get("name")?.as_str()
+}
+
+fn pages_of(value: &Value) -> Option<&Vec<Value>>
+    ensures { option_map (λ vs. items_view vs.now.items) result ≡ pages_of (view value.now) }
+{
+    log_of(value).get("pages")?.as_array()
+}
+
+// Whether the recording lists pages.
+fn has_pages(value: &Value) -> bool
+    ensures { result ≡ has_pages (view value.now) }
+{
+    match pages_of(value) {
+        Some(pages) => !pages.as_slice().is_empty(),
+        None => false,
+    }
 }
 
 fn is_by_firefox(value: &Value) -> bool
     ensures { result ≡ is_by_firefox (view value.now) }
 {
     creator_of(value) == Some("Firefox")
+}
+
+fn reader_of(value: &Value, ignores_no_cache: bool) -> Reader
+    ensures { result ≡ reader_of ignores_no_cache (view value.now) }
+{
+    Reader {
+        is_firefox: is_by_firefox(value),
+        ignores_no_cache,
+        has_pages: has_pages(value),
+    }
 }
 
 fn recorded_all(
@@ -238,10 +268,7 @@ pub fn recording_from_bytes(
         return Err(form);
     }
     let value = value_of(alloc, bytes)?;
-    let reader = Reader {
-        is_firefox: is_by_firefox(&value),
-        ignores_no_cache,
-    };
+    let reader = reader_of(&value, ignores_no_cache);
     match entries_of(&value) {
         Some(values) => Ok(recorded_all(alloc, values.as_slice(), reader)?),
         None => Err(ReadingError::NoEntries),

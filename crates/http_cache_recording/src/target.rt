@@ -1,8 +1,8 @@
 //! Targets of requests from urls.
 ghost use Rattle.std.specs.Prelude.{◌≡◌, ◌<◌, ◌≤◌, ◌-◌, ◌++◌, length, slice_index, option_map, string_bytes, IfOk, OnOk};
-ghost use Rattle.std.specs.List.{position_or_len};
+ghost use Rattle.std.specs.List.{position_or_len, prefix_len};
 ghost use Rattle.http_cache_recording.specs.Target.{without_fragment, is_end, user_len, has_user, without_user, is_web};
-ghost use Rattle.http_cache_recording.specs.Target.{other_scheme, host_of, path_of, parts_after, url_parts, target_text};
+ghost use Rattle.http_cache_recording.specs.Target.{is_scheme_byte, scheme_shown, other_scheme, host_of, path_of, parts_after, url_parts, target_text};
 
 use percent_encoding::{AsciiSet, CONTROLS, ascii_set, percent_encode};
 use std::alloc::{AllocError, Global};
@@ -61,13 +61,44 @@ fn is_web(scheme: &str) -> bool
     scheme.eq_ignore_ascii_case("http") || scheme.eq_ignore_ascii_case("https")
 }
 
+fn is_scheme_byte(b: u8) -> bool
+    ensures { result ≡ is_scheme_byte b }
+{
+    b.is_ascii_alphanumeric() || b == b'+' || b == b'-' || b == b'.'
+}
+
+// How many bytes that a scheme may have come first.
+fn scheme_len(bytes: &[u8]) -> usize
+    ensures { result ≡ prefix_len is_scheme_byte bytes.now }
+{
+    bytes.iter().take_while(|b| is_scheme_byte(**b)).count()
+}
+
+// The text, if it can be a scheme (RFC 3986, section 3.1), else `none`: it is printed, and an address may hold
+// what is secret.
+#[tactic(auto, unfolding(crate::specs::Target::scheme_shown))]
+fn scheme_shown(text: &str) -> &str
+    ensures { result.now ≡ scheme_shown text.now }
+{
+    let len = scheme_len(text.as_bytes());
+    if len > 0 && len == text.len() {
+        text
+    } else {
+        "none"
+    }
+}
+
 /// Returns the scheme of a url, if it is neither http nor https; `none` if it has none.
 #[tactic(auto, unfolding(crate::specs::Target::other_scheme))]
 pub(crate) fn other_scheme(url: &str) -> Option<&str>
     ensures { option_map (λ s. s.now) result ≡ other_scheme url.now }
 {
     match url.split_once(':') {
-        Some((scheme, _)) => if is_web(scheme) { None } else { Some(scheme) },
+        Some((scheme, _)) => if is_web(scheme) {
+            None
+        } else {
+            Some(scheme_shown(scheme))
+        },
         None => Some("none"),
     }
 }

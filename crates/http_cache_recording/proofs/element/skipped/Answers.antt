@@ -10,5 +10,5 @@ pub returns : goal.returns
 returns c =
     let url = option_map (λ t. t.now) c.skipped_url.result in
     let d = view c.args.value.now in
-    let printed = c.in_ok-printed_of.ensures ∙ ap (λ u. printed_of c.args.reader.is_firefox u d) c.in_ok-url.ensures in
+    let printed = c.in_ok-printed_of.ensures ∙ ap (λ u. printed_of c.args.reader u d) c.in_ok-url.ensures in
     (url, c.skipped_url.ensures, λ i. record { printed = printed i; reading = skipped (string_bytes c.args.reason) })
