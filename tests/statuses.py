@@ -9,9 +9,13 @@ import zlib
 from pathlib import Path
 
 EXAMPLE = Path(__file__).resolve().parent.parent / "examples" / "session.har"
-OPTIONS = ["--private", "--shared", "--heuristic", "--json", "--no-query", "--ignore-request-no-cache"]
+OPTIONS = ["--private", "--shared", "--heuristic", "--lines", "--json", "--by-url", "--no-query", "--ignore-request-no-cache", "--with",
+           "--fail-under"]
 UNKNOWN = "cacheaudit: unknown argument; --help lists them\n"
 NOTHING = "cacheaudit: no entry was audited\n"
+CHANGE = "cacheaudit: --with: "
+RATE = "cacheaudit: --fail-under: not a whole number from 0 to 100\n"
+FEW = "cacheaudit: 4 of 13 repeated requests are hits, fewer than {} %\n"
 LIMIT = 48 << 20
 
 
@@ -47,6 +51,28 @@ def runs():
         (["--heuristic"], b"", 64, UNKNOWN),
         (["--heuristic", "1/0"], b"", 64, UNKNOWN),
         (["--heuristic", "1"], b"", 64, UNKNOWN),
+        (["--with"], b"", 64, UNKNOWN),
+        (["--with", "*: ETag"], b"", 64, CHANGE + "not `PATTERN: HEADER: VALUE`\n"),
+        (["--with", "*"], b"", 64, CHANGE + "not `PATTERN: HEADER: VALUE`\n"),
+        (["--with", "*: E Tag: x"], b"", 64, CHANGE + "not a header name\n"),
+        (["--with", "*: : x"], b"", 64, CHANGE + "not a header name\n"),
+        (["--with", "*: ETag: a\nb"], b"", 64, CHANGE + "not a header value\n"),
+        (["--with", "*: ETag:"], bytes_of, 0, ""),
+        (["--with", "*: ETag: : "], bytes_of, 0, ""),
+        (["--with", "*: ETag:", "--with", "a: b: c"], b"[]", 1, NOTHING),
+        (["--fail-under", "101"], b"", 64, RATE),
+        (["--fail-under", "-1"], b"", 64, RATE),
+        (["--fail-under", "60 "], b"", 64, RATE),
+        (["--fail-under"], b"", 64, UNKNOWN),
+        (["--fail-under", "1", "--with", "*: ETag:"], bytes_of, 64, UNKNOWN),
+        (["--fail-under", "30"], bytes_of, 0, ""),
+        (["--fail-under", "31"], bytes_of, 4, FEW.format(31)),
+        (["--private", "--fail-under", "31"], bytes_of, 0, ""),
+        (["--fail-under", "100"], b"[]", 1, NOTHING),
+        (["--by-url"], bytes_of, 0, ""),
+        (["--by-url"], b"[]", 1, NOTHING),
+        (["--by-url", "--fail-under", "1"], bytes_of, 64, UNKNOWN),
+        (["--by-url", "--with", "*: ETag:"], bytes_of, 64, UNKNOWN),
         ([str(EXAMPLE.parent / "nothing.har")], b"", 2, f"cacheaudit: {EXAMPLE.parent}/nothing.har: "),
         ([str(EXAMPLE.parent)], b"", 2, "cacheaudit: "),
     ]

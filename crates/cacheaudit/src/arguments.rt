@@ -1,8 +1,11 @@
 //! What a command line asks for.
+use http_cache_audit::change::{Change, ChangeError, change_from_text};
 use http_cache_audit::report::Settings;
 use http_cache_semantics::CacheOptions;
 use http_cache_semantics::policy::Fraction;
+use std::alloc::{AllocError, Global};
 use std::env::Args;
+use thiserror::Error;
 
 /// What a command line asks for.
 #[derive(Drop)]
@@ -11,8 +14,58 @@ pub enum Asked {
     Help,
     /// The version of the program.
     Version,
-    /// An audit of a file, or of standard input.
-    Audit(Settings, Option<String>),
+    /// An audit.
+    Audit(Order),
+}
+
+/// An audit that is asked for.
+#[derive(Drop)]
+pub struct Order {
+    /// How a recording is audited.
+    pub settings: Settings,
+    /// Headers that are changed, to see what that spares.
+    pub changes: Vec<Change>,
+    /// The rate of hits, in percent, below which the audit ends with a status of its own.
+    pub least_rate: Option<u64>,
+    /// The file of the recording; standard input if there is none.
+    pub file: Option<String>,
+}
+
+/// Why a command line isn't one.
+#[derive(Clone, Copy, Debug, PartialEq, Eq, Error)]
+pub enum Refusal {
+    /// A word isn't known, or lacks its value, or two name a file.
+    #[error("unknown argument; --help lists them")]
+    Unknown,
+    /// The value of `--with` is no change of a header.
+    #[error("--with: {0}")]
+    Change(ChangeError),
+    /// The value of `--fail-under` is no whole number up to 100.
+    #[error("--fail-under: not a whole number from 0 to 100")]
+    Rate,
+}
+
+impl From<AllocError> for Refusal {
+    fn from(_e: AllocError) -> Refusal {
+        Refusal::Change(ChangeError::Memory)
+    }
+}
+
+// An option of which the next word is the value.
+#[derive(Clone, Copy)]
+enum Valued {
+    Heuristic,
+    With,
+    FailUnder,
+}
+
+fn option_of(word: &str) -> Option<Valued> {
+    match word {
+        "--heuristic" => Some(Valued::Heuristic),
+        "--with" => Some(Valued::With),
+        "--fail-under" => Some(Valued::FailUnder),
+        _ => None,
+    }
 }
 
 // A fraction, as `1/10`.
@@ -21,12 +74,49 @@ fn fraction_of(text: &str) -> Option<Fraction> {
     Fraction::new(numerator.parse().ok()?, denominator.parse().ok()?)
 }
 
+fn rate_of(text: &str) -> Option<u64> {
+    let rate = text.parse().ok()?;
+    if rate <= 100 { Some(rate) } else { None }
+}
+
+// A change, of which the blank after the name of a header that is removed may lack.
+fn change_of(alloc: Global, text: &str) -> Result<Change, Refusal> {
+    let whole = if text.ends_with(':') {
+        format!(in alloc; "{text} ")?
+    } else {
+        String::from_str(alloc, text)?
+    };
+    change_from_text(alloc, whole.as_str()).map_err(Refusal::Change)
+}
+
+fn add(changes: &mut Vec<Change>, change: Change) -> Result<(), AllocError> {
+    Ok(changes.push(change)?)
+}
+
+// Applies an option with its value.
+fn set_value(alloc: Global, order: &mut Order, option: Valued, text: &str) -> Result<(), Refusal> {
+    match option {
+        Valued::Heuristic => match fraction_of(text) {
+            Some(fraction) => order.settings.options.cache_heuristic = fraction,
+            None => return Err(Refusal::Unknown),
+        },
+        Valued::With => add(&mut order.changes, change_of(alloc, text)?)?,
+        Valued::FailUnder => match rate_of(text) {
+            Some(rate) => order.least_rate = Some(rate),
+            None => return Err(Refusal::Rate),
+        },
+    }
+    Ok(())
+}
+
 // Applies an option without a value, and returns whether it is known.
 fn set_flag(settings: &mut Settings, word: &str) -> bool {
     match word {
         "--private" => settings.options.shared = false,
         "--shared" => settings.options.shared = true,
         "--json" => settings.json = true,
+        "--lines" => settings.json = false,
+        "--by-url" => settings.by_url = true,
         "--no-query" => settings.hides_queries = true,
         "--ignore-request-no-cache" => settings.ignores_no_cache = true,
         _ => return false,
@@ -34,38 +124,57 @@ fn set_flag(settings: &mut Settings, word: &str) -> bool {
     true
 }
 
-/// Returns what the words after the program's name ask for, or `None` if one isn't known, or if two name
-/// a file.
-pub fn asked_of(words: Args) -> Option<Asked> {
-    let mut settings = Settings {
-        options: CacheOptions::default(),
-        ignores_no_cache: false,
-        hides_queries: false,
-        json: false,
-    };
-    let mut file: Option<String> = None;
-    let mut wants_fraction = false;
+// An audit of standard input, by the defaults.
+fn plain_order(alloc: Global) -> Order {
+    Order {
+        settings: Settings {
+            options: CacheOptions::default(),
+            ignores_no_cache: false,
+            hides_queries: false,
+            json: false,
+            by_url: false,
+        },
+        changes: Vec::new(alloc),
+        least_rate: None,
+        file: None,
+    }
+}
+
+// A rate is of the requests as they were recorded, and a change is of all of them.
+fn checked(order: Order) -> Result<Asked, Refusal> {
+    let is_other = order.settings.by_url || !order.changes.is_empty();
+    if order.least_rate.is_some() && is_other
+        || order.settings.by_url && !order.changes.is_empty()
+    {
+        return Err(Refusal::Unknown);
+    }
+    Ok(Asked::Audit(order))
+}
+
+/// Returns what the words after the program's name ask for.
+pub fn asked_of(alloc: Global, words: Args) -> Result<Asked, Refusal> {
+    let mut order = plain_order(alloc);
+    let mut waiting = None;
     for word in words.skip(1) {
         let text = word.as_str();
-        if wants_fraction {
-            settings.options.cache_heuristic = fraction_of(text)?;
-            wants_fraction = false;
+        if let Some(option) = waiting {
+            set_value(alloc, &mut order, option, text)?;
+            waiting = None;
         } else if text == "--help" {
-            return Some(Asked::Help);
+            return Ok(Asked::Help);
         } else if text == "--version" {
-            return Some(Asked::Version);
-        } else if text == "--heuristic" {
-            wants_fraction = true;
-        } else if !set_flag(&mut settings, text) {
-            if text.starts_with('-') || file.is_some() {
-                return None;
+            return Ok(Asked::Version);
+        } else if let Some(option) = option_of(text) {
+            waiting = Some(option);
+        } else if !set_flag(&mut order.settings, text) {
+            if text.starts_with('-') || order.file.is_some() {
+                return Err(Refusal::Unknown);
             }
-            file = Some(word);
+            order.file = Some(word);
         }
     }
-    if wants_fraction {
-        None
-    } else {
-        Some(Asked::Audit(settings, file))
+    match waiting {
+        Some(_) => Err(Refusal::Unknown),
+        None => checked(order),
     }
 }

@@ -5,10 +5,10 @@
 mod arguments;
 mod progress;
 
-use arguments::{Asked, asked_of};
+use arguments::{Asked, Order, Refusal, asked_of};
+use http_cache_audit::change::ChangeError;
 use http_cache_audit::error::AuditError;
-use http_cache_audit::report::Settings;
-use http_cache_audit::run::run;
+use http_cache_audit::run::{Ended, run};
 use progress::Watched;
 use std::fs::File;
 use std::io::{IsTerminal, Read};
@@ -16,32 +16,47 @@ use std::process::ExitCode;
 use std::{env, io};
 
 const USAGE: &str =
-    "usage: cacheaudit [--private | --shared] [--heuristic N/D] [--json] [--no-query]
-                  [--ignore-request-no-cache] [FILE]
+    "usage: cacheaudit [--private | --shared] [--heuristic N/D] [--lines | --json | --by-url] [--no-query]
+                  [--ignore-request-no-cache] [--with 'PATTERN: HEADER: VALUE'].. [--fail-under N] [FILE]
 reports for each request of a recorded session (HAR 1.2) what a cache would have answered, and why
     --private, --shared        a cache of one user, as a browser's, or of many, as a CDN's (the default)
     --heuristic N/D            the part of the time since Last-Modified that is a lifetime; 1/10 if not said
-    --json                     an object a line
+    --lines, --json, --by-url  a line a request (the default), an object a request, or an object a url
     --no-query                 leaves the queries of urls out
-    --ignore-request-no-cache  reads requests without their no-cache, as of a hard reload";
+    --ignore-request-no-cache  reads requests without their no-cache, as of a hard reload
+    --with P: H: V             reports instead what is sent if responses of urls as P (`*` is any text) have the
+                               header H as V, or lack it if V is empty
+    --fail-under N             ends with 4 if a stored response answers fewer than N % of repeated requests";
 
 const VERSION: &str = "cacheaudit 0.12.0";
 
 // The status if nothing was audited.
 const NOTHING: u8 = 1;
 
+// The status if fewer repeated requests are hits than were asked for.
+const FEW_HITS: u8 = 4;
+
 // The status of a command line that isn't one.
 const NO_COMMAND: u8 = 64;
 
 // The exit status, with the reason on standard error. By itself, since main is proved faster so.
-fn status(rt: &HostRuntime, ended: Result<bool, AuditError>) -> ExitCode {
+fn status(rt: &HostRuntime, ended: Result<Ended, AuditError>, least_rate: Option<u64>) -> ExitCode {
+    // If a text can't be written, the status still says it.
     match ended {
-        Ok(true) => ExitCode::SUCCESS,
-        Ok(false) => {
-            // If the text can't be written, the status still says it.
+        Ok(ended) if !ended.audited => {
             let _ = eprintln!(rt; "cacheaudit: no entry was audited");
             ExitCode::from(NOTHING)
         }
+        Ok(ended) => match least_rate {
+            Some(rate) if ended.hits.are_under(rate) => {
+                let (fresh, repeated) = (ended.hits.fresh, ended.hits.repeated);
+                let _ = eprintln!(rt;
+                    "cacheaudit: {fresh} of {repeated} repeated requests are hits, fewer than {rate} %"
+                );
+                ExitCode::from(FEW_HITS)
+            }
+            _ => ExitCode::SUCCESS,
+        },
         Err(e) => {
             let _ = eprintln!(rt; "cacheaudit: {e}");
             ExitCode::from(e.status())
@@ -49,19 +64,20 @@ fn status(rt: &HostRuntime, ended: Result<bool, AuditError>) -> ExitCode {
     }
 }
 
-fn audit<R: Read + Drop>(rt: &HostRuntime, reader: R, settings: Settings) -> ExitCode {
+fn audit<R: Read + Drop>(rt: &HostRuntime, reader: R, order: &Order) -> ExitCode {
     let ended = run(
         rt.alloc(),
         &mut Watched::new(rt, reader),
         &mut rt.stdout(),
-        settings,
+        order.changes.as_slice(),
+        order.settings,
     );
-    status(rt, ended)
+    status(rt, ended, order.least_rate)
 }
 
-fn audit_file(rt: &HostRuntime, path: &str, settings: Settings) -> ExitCode {
+fn audit_file(rt: &HostRuntime, path: &str, order: &Order) -> ExitCode {
     match File::open(rt, path) {
-        Ok(file) => audit(rt, file, settings),
+        Ok(file) => audit(rt, file, order),
         Err(e) => {
             let _ = eprintln!(rt; "cacheaudit: {path}: {e}");
             ExitCode::from(AuditError::NotReadable.status())
@@ -69,14 +85,22 @@ fn audit_file(rt: &HostRuntime, path: &str, settings: Settings) -> ExitCode {
     }
 }
 
-fn audit_input(rt: &HostRuntime, settings: Settings) -> ExitCode {
+fn audit_input(rt: &HostRuntime, order: &Order) -> ExitCode {
     let stdin = rt.stdin();
     if stdin.is_terminal() {
         let _ = eprintln!(rt;
             "cacheaudit: reads a recording from the terminal; --help says what else it reads"
         );
     }
-    audit(rt, stdin, settings)
+    audit(rt, stdin, order)
+}
+
+fn refuse(rt: &HostRuntime, refusal: Refusal) -> ExitCode {
+    let _ = eprintln!(rt; "cacheaudit: {refusal}");
+    ExitCode::from(match refusal {
+        Refusal::Change(ChangeError::Memory) => AuditError::Memory.status(),
+        _ => NO_COMMAND,
+    })
 }
 
 // Writes a text, and returns the status.
@@ -89,19 +113,16 @@ fn say(rt: &HostRuntime, text: &str) -> ExitCode {
 
 fn main(rt: HostRuntime) -> ExitCode {
     let asked = match env::args(&rt) {
-        Ok(words) => asked_of(words),
-        Err(_) => None,
+        Ok(words) => asked_of(rt.alloc(), words),
+        Err(_) => Err(Refusal::Unknown),
     };
     match asked {
-        Some(Asked::Help) => say(&rt, USAGE),
-        Some(Asked::Version) => say(&rt, VERSION),
-        Some(Asked::Audit(settings, file)) => match file {
-            Some(path) => audit_file(&rt, path.as_str(), settings),
-            None => audit_input(&rt, settings),
+        Ok(Asked::Help) => say(&rt, USAGE),
+        Ok(Asked::Version) => say(&rt, VERSION),
+        Ok(Asked::Audit(order)) => match &order.file {
+            Some(path) => audit_file(&rt, path.as_str(), &order),
+            None => audit_input(&rt, &order),
         },
-        None => {
-            let _ = eprintln!(&rt; "cacheaudit: unknown argument; --help lists them");
-            ExitCode::from(NO_COMMAND)
-        }
+        Err(refusal) => refuse(&rt, refusal),
     }
 }

@@ -3,13 +3,13 @@ use Rattle.std.proofs.Common.{arith, ◌≡◌, ◌∙◌, sym, ap, refl, ℕ, �
 use Rattle.std.proofs.Common.{Option, Some, unwrap_or, bytes_eq}
 use Rattle.std.proofs.Common.{add-one, subst}
 use Rattle.std.specs.Prelude.{sum_by}
-use Rattle.std.specs.List.{flat_map}
+use Rattle.std.specs.List.{flat_map, enumerate_from}
 use Rattle.std.specs.BTreeMap.{get_by_text}
-use Rattle.std.proofs.lemmas.List.{append-nil, append_assoc}
+use Rattle.std.proofs.lemmas.List.{append-nil, append_assoc, map-id}
 use Rattle.std.proofs.lemmas.List.Sums.{sum_by_push}
 use Rattle.std.proofs.lemmas.Slice.Eq.{bytes_eq-Decides}
 use Rattle.http_cache_audit.specs.declared.counts.Counts.{Counts}
-use Rattle.http_cache_audit.specs.Counts.{Addition, CountsAlso, total_of, total_in, amount_under}
+use Rattle.http_cache_audit.specs.Counts.{Addition, CountsAlso, HoldsCounts, total_of, total_in, amount_under}
 
 pub also_none : (c : Counts) → CountsAlso [] c c
 unfolding CountsAlso
@@ -68,3 +68,41 @@ written_next seen f xs k x start now new at so_far more =
     let next = ap (λ (n : ℕ). flat_map f (map seen (take n xs))) (add-one k) ∙ all-next seen f xs k x at in
     more ∙ (ap (λ l. l ++ f (seen x)) so_far
     ∙ (append_assoc start (flat_map f (map seen (take k xs))) (f (seen x)) ∙ ap (λ l. start ++ l) (sym next)))
+
+-- the counts of a list hold when one more of it is counted
+pub holds_next : {X Y : Type 0} (seen : X → Y) (f : Y → List Addition) (xs : List X) (k : ℕ) (x : X) (a b : Counts)
+    → slice_get xs k ≡ Some x → HoldsCounts (flat_map f (map seen (take k xs))) a → CountsAlso (f (seen x)) a b
+    → HoldsCounts (flat_map f (map seen (take (k + 1) xs))) b
+unfolding CountsAlso
+holds_next seen f xs k x a b at so_far more =
+    let next = ap (λ (n : ℕ). flat_map f (map seen (take n xs))) (add-one k) ∙ all-next seen f xs k x at in
+    subst (λ adds. HoldsCounts adds b) (sym next) (more (flat_map f (map seen (take k xs))) so_far)
+
+enumerated : {X : Type 0} (n k : ℕ) (xs : List X) (x : X) → slice_get xs k ≡ Some x
+    → slice_get (enumerate_from n xs) k ≡ Some (n + k, x)
+enumerated n k [] x at = cc
+enumerated n zero (y ∷ ys) x at =
+    let same : y ≡ x = cc in rw same (ap (λ (m : ℕ). Some (m, x)) (omega arith))
+enumerated n (suc k) (y ∷ ys) x at = enumerated (n + 1) k ys x at ∙ ap (λ (m : ℕ). Some (m, x)) (omega arith)
+
+-- the same of a list with its indices
+pub holds_at : {X : Type 0} (f : ℕ × X → List Addition) (xs : List X) (k : ℕ) (x : X) (a b : Counts)
+    → slice_get xs k ≡ Some x → HoldsCounts (flat_map f (take k (enumerate_from 0 xs))) a → CountsAlso (f (k, x)) a b
+    → HoldsCounts (flat_map f (take (k + 1) (enumerate_from 0 xs))) b
+holds_at f xs k x a b at so_far more =
+    let all = enumerate_from 0 xs in
+    let same = λ (n : ℕ). map-id (take n all) in
+    subst (λ l. HoldsCounts (flat_map f l) b) (same (k + 1))
+    (holds_next (λ p. p) f all k (k, x) a b
+    (enumerated 0 k xs x at ∙ ap (λ (m : ℕ). Some (m, x)) (omega arith))
+    (subst (λ l. HoldsCounts (flat_map f l) a) (sym (same k)) so_far) more)
+
+-- what is made of one more of a list with its indices
+pub made_at : {X Y : Type 0} (f : ℕ × X → List Y) (xs : List X) (k : ℕ) (x : X) → slice_get xs k ≡ Some x
+    → flat_map f (take (k + 1) (enumerate_from 0 xs)) ≡ flat_map f (take k (enumerate_from 0 xs)) ++ f (k, x)
+made_at f xs k x at =
+    let all = enumerate_from 0 xs in
+    let here = enumerated 0 k xs x at ∙ ap (λ (m : ℕ). Some (m, x)) (omega arith) in
+    ap (λ (n : ℕ). flat_map f (take n all)) (add-one k)
+    ∙ (ap (λ l. flat_map f l) (sym (map-id (take (suc k) all)))
+    ∙ (all-next (λ p. p) f all k (k, x) here ∙ ap (λ l. flat_map f l ++ f (k, x)) (map-id (take k all))))

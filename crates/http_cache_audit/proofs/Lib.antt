@@ -1,4 +1,5 @@
 -- The lemmas about an audit.
+pub mod ChangeLemmas
 pub mod CountsLemmas
 pub mod JsonLemmas
 pub mod ListLemmas

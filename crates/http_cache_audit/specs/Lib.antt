@@ -3,6 +3,7 @@ pub mod Order
 pub mod Sources
 pub mod Assume
 pub mod Lint
+pub mod Others
 pub mod Lifetime
 pub mod Own
 pub mod Again
@@ -11,5 +12,9 @@ pub mod Walk
 pub mod Members
 pub mod Counts
 pub mod Report
+pub mod Change
+pub mod Cost
+pub mod WhatIf
+pub mod ByUrl
 pub mod Output
 pub mod Status

@@ -1,18 +1,21 @@
 -- What looks wrong in a response, though the rules of caching give it a meaning.
-use Rattle.std.specs.Prelude.{ℕ, ℤ, ◌-ℤ◌, ◌==◌, pos, int_lt, Bool, true, false, not, ◌&&◌, ◌||◌, List, [], ◌∷◌, ◌++◌}
-use Rattle.std.specs.Prelude.{Option, codes, bytes_eq, nat_eq}
-use Rattle.std.specs.List.{find, list_any, before_first}
+use Rattle.std.specs.Prelude.{ℕ, ℤ, ◌-ℤ◌, ◌+ℤ◌, ◌*ℤ◌, ◌==◌, pos, int_lt, nat_lt, length, Bool, true, false, not, ◌&&◌, ◌||◌, List, [], ◌∷◌}
+use Rattle.std.specs.Prelude.{Option, option_and_then, codes, bytes_eq, nat_eq}
+use Rattle.std.specs.List.{find, list_any, flat_map, starts_with, ends_with}
 use Rattle.std.specs.Option.{option_map_or}
-use Rattle.std.specs.Char.{is_ascii_uppercase}
-use Rattle.http_cache_fields.specs.Text.{is_equals}
-use Rattle.http_cache_fields.specs.Headers.{Headers, contains_key}
+use Rattle.http_header.specs.Token.{lowercase}
+use Rattle.http_cache_fields.specs.Text.{unquote}
+use Rattle.http_cache_fields.specs.Number.{number}
+use Rattle.http_cache_fields.specs.Pragma.{pragma_forbids}
+use Rattle.http_cache_fields.specs.Headers.{Headers, contains_key, first_text}
 use Rattle.http_cache_fields.specs.Pieces.{pieces_under}
-use Rattle.http_cache_fields.specs.Directives.{name_of, raw_value_of, same_value}
+use Rattle.http_cache_fields.specs.Directives.{name_of, raw_value_of, same_value, cache_control, has}
 use Rattle.http_cache_recording.specs.Entry.{EntrySeen, AnswerSeen, failed, cached}
 use Rattle.http_cache_recording.specs.Entry.{received as from_network}
-use Rattle.http_cache_audit.specs.declared.lint.Lint.{Lint}
-use Rattle.http_cache_audit.specs.declared.lint.Flaw.{Flaw}
-use Rattle.http_cache_audit.specs.declared.lint.Flaw.TheVariants.{Semicolon, Quoted, UpperCase}
+use Rattle.http_cache_audit.specs.declared.lint.Finding.{Finding}
+use Rattle.http_cache_audit.specs.declared.lint.Finding.TheVariants as finding
+use Rattle.http_cache_rules.specs.Dates.{first_date}
+use Rattle.http_cache_audit.specs.Again.{opaque}
 use Rattle.http_cache_audit.specs.Own.{date_in}
 
 -- the pieces of the Cache-Control lines
@@ -51,50 +54,141 @@ is_quoted piece =
     (is_named (codes "max-age") piece || is_named (codes "s-maxage") piece)
     && option_map_or begins_quoted (raw_value_of piece) false
 
--- the name of a directive has a letter in upper case
-abbrev pub is_upper_case : List ℕ → Bool
-is_upper_case piece = list_any is_ascii_uppercase (before_first is_equals piece)
+-- a blank is in a directive without quotes and `;`
+abbrev pub lacks_comma : List ℕ → Bool
+lacks_comma piece =
+    list_any (λ b. nat_eq b 32) piece && not (list_any (λ b. nat_eq b 34) piece) && not (has_semicolon piece)
 
 -- what looks wrong in a directive
-abbrev pub has_flaw : Flaw → List ℕ → Bool
-has_flaw Semicolon piece = has_semicolon piece
-has_flaw Quoted piece = is_quoted piece
-has_flaw UpperCase piece = is_upper_case piece
+abbrev pub has_flaw : Finding → List ℕ → Bool
+has_flaw finding.Conflict piece = false
+has_flaw finding.Semicolon piece = has_semicolon piece
+has_flaw finding.NoComma piece = lacks_comma piece
+has_flaw finding.Quoted piece = is_quoted piece
+has_flaw finding.NoStoreBeside piece = false
+has_flaw finding.PublicPrivate piece = false
+has_flaw finding.PragmaAlone piece = false
+has_flaw finding.ExpiresAlone piece = false
+has_flaw finding.ExpiresAgainst piece = false
+has_flaw finding.BareTag piece = false
+has_flaw finding.FutureDate piece = false
+has_flaw finding.OldDate piece = false
+has_flaw finding.VaryAny piece = false
+has_flaw finding.VaryCookie piece = false
+has_flaw finding.VaryUserAgent piece = false
 
 -- Date is more than a minute before a time
 abbrev pub is_dated_before : ℤ → Headers → Bool
 is_dated_before received h =
     option_map_or (λ date. int_lt (pos 60_000_000_000) (received -ℤ date)) (date_in h) false
 
--- what looks wrong in a response that is received at a time
-abbrev pub lint_in : ℤ → Headers → Lint
-lint_in received h = record {
-  conflicting = is_in_conflict (codes "max-age") h || is_in_conflict (codes "s-maxage") h;
-  semicolon = list_any has_semicolon (cache_pieces h);
-  quoted = list_any is_quoted (cache_pieces h);
-  upper_case = list_any is_upper_case (cache_pieces h);
-  old_date = is_dated_before received h && not (contains_key h (codes "age"));
-}
+-- Date is more than a minute after a time
+abbrev pub is_dated_after : ℤ → Headers → Bool
+is_dated_after received h =
+    option_map_or (λ date. int_lt (pos 60_000_000_000) (date -ℤ received)) (date_in h) false
+
+-- the seconds of `max-age`
+abbrev pub seconds_of : Headers → Option ℕ
+seconds_of h =
+    option_and_then (λ piece. option_and_then (λ v. number (unquote v)) (raw_value_of piece)) (first_named h (codes "max-age"))
+
+-- the nanosecond so many seconds after a time
+abbrev pub after : ℤ → ℕ → ℤ
+after time seconds = time +ℤ (pos seconds *ℤ pos 1_000_000_000)
+
+-- two times differ from so many seconds by more than a minute
+abbrev pub differ : ℤ → ℤ → ℕ → Bool
+differ from to seconds =
+    int_lt (after from seconds) (to -ℤ pos 60_000_000_000) || int_lt (to +ℤ pos 60_000_000_000) (after from seconds)
+
+abbrev pub differ_by : ℕ → ℤ → Option ℤ → Bool
+differ_by seconds expires date = option_map_or (λ from. differ from expires seconds) date false
+
+-- Expires and `max-age` say different times
+abbrev pub is_against : Headers → Bool
+is_against h =
+    option_map_or
+    (λ seconds. option_map_or (λ expires. differ_by seconds expires (date_in h)) (first_date h (codes "expires")) false)
+    (seconds_of h) false
+
+-- an entity tag isn't in quotes
+abbrev pub is_bare_tag : List ℕ → Bool
+is_bare_tag tag =
+    nat_lt (length (opaque tag)) 2 || not (starts_with nat_eq (opaque tag) (codes "\""))
+    || not (ends_with nat_eq (opaque tag) (codes "\""))
+
+abbrev pub is_bare : Headers → Bool
+is_bare h = option_map_or is_bare_tag (first_text h (codes "etag")) false
+
+-- Vary has a name
+abbrev pub varies_by : List ℕ → Headers → Bool
+varies_by name h = list_any (λ piece. bytes_eq (lowercase piece) name) (pieces_under h (codes "vary"))
+
+abbrev pub lacks_cache_control : Headers → Bool
+lacks_cache_control h = not (contains_key h (codes "cache-control"))
+
+-- a directive is in Cache-Control
+abbrev pub says : Headers → List ℕ → Bool
+says h name = has (cache_control h) name
+
+-- something looks wrong in a response that is received at a time
+unfoldable pub holds : Finding → ℤ → Headers → Bool
+holds finding.Conflict received h = is_in_conflict (codes "max-age") h || is_in_conflict (codes "s-maxage") h
+holds finding.Semicolon received h = list_any (has_flaw finding.Semicolon) (cache_pieces h)
+holds finding.NoComma received h = list_any (has_flaw finding.NoComma) (cache_pieces h)
+holds finding.Quoted received h = list_any (has_flaw finding.Quoted) (cache_pieces h)
+holds finding.NoStoreBeside received h =
+    says h (codes "no-store") && (says h (codes "max-age") || says h (codes "s-maxage"))
+holds finding.PublicPrivate received h = says h (codes "public") && says h (codes "private")
+holds finding.PragmaAlone received h = pragma_forbids h && lacks_cache_control h
+holds finding.ExpiresAlone received h = contains_key h (codes "expires") && lacks_cache_control h
+holds finding.ExpiresAgainst received h = is_against h
+holds finding.BareTag received h = is_bare h
+holds finding.FutureDate received h = is_dated_after received h
+holds finding.OldDate received h = is_dated_before received h && not (contains_key h (codes "age"))
+holds finding.VaryAny received h = varies_by (codes "*") h
+holds finding.VaryCookie received h = varies_by (codes "cookie") h
+holds finding.VaryUserAgent received h = varies_by (codes "user-agent") h
+
+-- the words for it
+unfoldable pub words_of : Finding → List ℕ
+words_of finding.Conflict = codes "conflicting directives"
+words_of finding.Semicolon = codes "; in Cache-Control"
+words_of finding.NoComma = codes "no comma between directives"
+words_of finding.Quoted = codes "seconds in quotes"
+words_of finding.NoStoreBeside = codes "no-store beside max-age"
+words_of finding.PublicPrivate = codes "public beside private"
+words_of finding.PragmaAlone = codes "Pragma without Cache-Control"
+words_of finding.ExpiresAlone = codes "Expires without Cache-Control"
+words_of finding.ExpiresAgainst = codes "Expires against max-age"
+words_of finding.BareTag = codes "an ETag without quotes"
+words_of finding.FutureDate = codes "a Date in the future"
+words_of finding.OldDate = codes "an old Date without Age"
+words_of finding.VaryAny = codes "Vary: *"
+words_of finding.VaryCookie = codes "Vary: Cookie"
+words_of finding.VaryUserAgent = codes "Vary: User-Agent"
+
+-- all that may look wrong, in the order in which it is printed
+abbrev pub findings : List Finding
+findings =
+    finding.Conflict ∷ finding.Semicolon ∷ finding.NoComma ∷ finding.Quoted ∷ finding.NoStoreBeside
+    ∷ finding.PublicPrivate ∷ finding.PragmaAlone ∷ finding.ExpiresAlone ∷ finding.ExpiresAgainst ∷ finding.BareTag
+    ∷ finding.FutureDate ∷ finding.OldDate ∷ finding.VaryAny ∷ finding.VaryCookie ∷ finding.VaryUserAgent ∷ []
 
 -- the words of a hint, if it holds
 abbrev pub hint : Bool → List ℕ → List (List ℕ)
 hint true words = words ∷ []
 hint false words = []
 
--- the words for what looks wrong
-abbrev pub words_of : Lint → List (List ℕ)
-words_of l =
-    ((((hint l.conflicting (codes "conflicting directives")
-    ++ hint l.semicolon (codes "; in Cache-Control"))
-    ++ hint l.quoted (codes "seconds in quotes"))
-    ++ hint l.upper_case (codes "a directive in upper case"))
-    ++ hint l.old_date (codes "an old Date without Age"))
+-- its words, if it holds in a response that is received at a time
+abbrev pub hint_of : ℤ → Headers → Finding → List (List ℕ)
+hint_of received h f = hint (holds f received h) (words_of f)
 
 -- the words for what looks wrong in the response of an entry, if it is from the network
 abbrev pub hints_in : ℤ → AnswerSeen → List (List ℕ)
 hints_in received failed = []
 hints_in received (cached r) = []
-hints_in received (from_network r) = words_of (lint_in received r.headers)
+hints_in received (from_network r) = flat_map (hint_of received r.headers) findings
 
 abbrev pub hints_of : EntrySeen → List (List ℕ)
 hints_of e = hints_in e.received e.answer

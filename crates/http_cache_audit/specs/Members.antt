@@ -5,7 +5,7 @@ use Rattle.std.specs.Prelude.{decimal, string_bytes, unwrap_or, option_map, Opti
 use Rattle.std.specs.List.{before_first}
 use Rattle.std.specs.Option.{option_map_or}
 use Rattle.http_cache_semantics.specs.declared.explain.Obstacles.{Obstacles}
-use Rattle.http_cache_recording.specs.Entry.{PrintedSeen, ReadingSeen, entry, skipped}
+use Rattle.http_cache_recording.specs.Entry.{PrintedSeen, ReadingSeen, EntrySeen, entry, skipped}
 use Rattle.http_cache_recording.specs.declared.entry.Kind.{Kind}
 use Rattle.http_cache_recording.specs.declared.entry.Kind.TheVariants as kind
 use Rattle.http_cache_audit.specs.declared.members.Shown.{Shown}
@@ -20,6 +20,7 @@ use Rattle.http_cache_audit.specs.Row.{LifetimeSeen, UsedSeen, KeptSeen, Receive
 use Rattle.http_cache_audit.specs.Row.{updated_other, not_storable, browser, failed, nothing_stored, not_selected, passed}
 use Rattle.http_cache_audit.specs.Row.{VerdictSeen, RowSeen}
 use Rattle.http_cache_audit.specs.Lint.{hint, hints_of}
+use Rattle.http_cache_audit.specs.Others.{others_of}
 
 -- the value of a member
 pub data ShownSeen : Type 0 where
@@ -230,9 +231,13 @@ with_verdict r v ms =
     (with_received r.recorded.printed v.received (with_texts (codes "missed_by") v.missed_by
     (with_some_text (codes "validator") v.validator (with_used v ms)))))))))
 
--- what looks wrong in the response, or why the entry isn't audited
+-- what looks wrong in the response, and what other caches say of it
+abbrev pub with_entry : EntrySeen → List Member → List Member
+with_entry e ms = with_texts (codes "others") (others_of e) (with_texts (codes "hints") (hints_of e) ms)
+
+-- the same, or why the entry isn't audited
 unfoldable pub with_reading : ReadingSeen → List Member → List Member
-with_reading (entry e) ms = with_texts (codes "hints") (hints_of e) ms
+with_reading (entry e) ms = with_entry e ms
 with_reading (skipped reason) ms = with_text (codes "reason") reason ms
 
 -- a url up to its query, if that isn't printed

@@ -11,21 +11,23 @@ use Rattle.http_cache_fields.specs.Headers.{contains_key}
 use Rattle.http_cache_semantics.specs.Options.{Options, options_of}
 use Rattle.http_cache_recording.specs.Entry.{RecordedSeen, ReadingSeen, entry, skipped, AnswerSeen, failed, cached, received}
 use Rattle.http_cache_audit.specs.declared.report.Settings.{Settings}
+use Rattle.http_cache_audit.specs.declared.report.Hits.{Hits}
 use Rattle.http_cache_audit.specs.declared.report.Notes.{Notes}
 use Rattle.http_cache_audit.specs.declared.counts.Counts.{Counts}
 use Rattle.http_cache_audit.specs.Row.{RowSeen}
 use Rattle.http_cache_audit.specs.Walk.{AreRows}
 use Rattle.http_cache_audit.specs.Members.{ShownSeen, text, count, texts, yes, Member, members_of}
-use Rattle.http_cache_audit.specs.Counts.{Addition, HoldsCounts, additions_of, is_noticed}
+use Rattle.http_cache_audit.specs.Counts.{Addition, HoldsCounts, additions_of, is_noticed, total_in}
 
 -- how a recording is audited
 pub record SettingsSeen : Type 0 where
   pub options : Options
   pub hides_queries : Bool
   pub json : Bool
+  pub by_url : Bool
 
 abbrev pub settings_seen : Settings → SettingsSeen
-settings_seen s = record { options = options_of s.options; hides_queries = s.hides_queries; json = s.json }
+settings_seen s = record { options = options_of s.options; hides_queries = s.hides_queries; json = s.json; by_url = s.by_url }
 
 -- ---- a row
 
@@ -37,10 +39,10 @@ printed_byte b = if nat_le 32 b && nat_le b 126 then b else 63
 unfoldable pub named_text : List ℕ → List ℕ → List ℕ
 named_text name t = codes ", " ++ (name ++ (codes " " ++ t))
 
--- a member in a plain line: verdict, method and url have no name before them
+-- a member in a plain line: verdict, load, method and url have no name before them
 unfoldable pub word_text : List ℕ → List ℕ → List ℕ
 word_text name t =
-    if bytes_eq name (codes "verdict") then t
+    if bytes_eq name (codes "verdict") || bytes_eq name (codes "load") then t
     else (if bytes_eq name (codes "method") || bytes_eq name (codes "url") then codes " " ++ t else named_text name t)
 
 abbrev pub shown_text : List ℕ → ShownSeen → List ℕ
@@ -146,12 +148,16 @@ rows_text s rows = flat_map (row_line s) rows
 
 -- the text of the audit of a recording: the rows of its walk, then the sums of what they count, in the order of their
 -- labels
-pub record IsAudit (s : SettingsSeen) (rs : List RecordedSeen) (text : List ℕ) : Type 0 where
+pub record IsAudit (s : SettingsSeen) (rs : List RecordedSeen) (hits : Hits) (text : List ℕ) : Type 0 where
   pub target : Uri
   pub rows : List RowSeen
   pub counts : Counts
   pub are_rows : AreRows (record { recorded = rs; options = s.options; target = target }) rows
   pub are_counts : HoldsCounts (all_additions s.hides_queries rows) counts
+  pub are_hits : hits ≡ record {
+    fresh = total_in counts (codes "verdicts/fresh");
+    repeated = total_in counts (codes "counts/repeated");
+  }
   pub is_text : text ≡ rows_text s rows ++ end_text s.json (record {
     cache_off = is_noticed counts;
     no_credentials = not (any_credentials rs);

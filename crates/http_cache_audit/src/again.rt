@@ -16,8 +16,8 @@ use http_cache_recording::{Body, Entry};
 use http_cache_rules::conditions::has_stored_already;
 use http_cache_semantics::CachePolicy;
 
-// An entity tag without its mark of weakness (RFC 9110, section 8.8.3.2).
-fn opaque(tag: &str) -> &[u8]
+/// Returns an entity tag without its mark of weakness (RFC 9110, section 8.8.3.2).
+pub(crate) fn opaque(tag: &str) -> &[u8]
     ensures { result.now ≡ opaque tag.now }
 {
     let bytes = tag.as_bytes();
@@ -39,8 +39,9 @@ fn is_same_body(a: &Body, b: &Body) -> Option<bool>
     }
 }
 
+/// Returns whether two bodies are the same, if both were recorded in one encoding.
 #[tactic(auto, unfolding(crate::specs::Again::are_same_bodies))]
-fn are_same_bodies(a: Option<&Body>, b: Option<&Body>) -> Option<bool>
+pub(crate) fn are_same_bodies(a: Option<&Body>, b: Option<&Body>) -> Option<bool>
     ensures { result ≡ are_same_bodies (option_map (λ x. body_seen x.now) a.entry)
         (option_map (λ x. body_seen x.now) b.entry) }
 {
@@ -64,8 +65,8 @@ fn is_same_date(a: &HeaderMap, b: &HeaderMap) -> Option<bool>
     Some(first_text(a, LAST_MODIFIED)? == first_text(b, LAST_MODIFIED)?)
 }
 
-// Whether they have the same validators, if that can be known.
-fn is_same_validator(a: &HeaderMap, b: &HeaderMap) -> Option<bool>
+/// Returns whether they have the same validators, if that can be known.
+pub(crate) fn is_same_validator(a: &HeaderMap, b: &HeaderMap) -> Option<bool>
     ensures { result ≡ is_same_validator (headers_of a.now) (headers_of b.now) }
 {
     match is_same_tag(a, b) {

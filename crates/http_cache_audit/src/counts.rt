@@ -53,7 +53,7 @@ fn is_fresh(outcome: Outcome) -> bool
     matches!(outcome, Outcome::Fresh)
 }
 
-fn is_in_full(again: Option<Again>) -> bool
+pub(crate) fn is_in_full(again: Option<Again>) -> bool
     ensures { result ≡ is_in_full again }
 {
     matches!(again, Some(Again::InFull))
@@ -65,7 +65,7 @@ fn is_unasked(again: Option<Again>) -> bool
     matches!(again, Some(Again::Unasked))
 }
 
-fn is_asked(kind: Kind) -> bool
+pub(crate) fn is_asked(kind: Kind) -> bool
     ensures { result ≡ is_asked kind }
 {
     matches!(kind, Kind::Asked)
@@ -96,6 +96,14 @@ impl Counts {
         self.by_label.get(label).copied().unwrap_or(0)
     }
 
+    /// Returns the count of a name in a group.
+    pub(crate) fn total_of(&self, group: &str, name: &str) -> Result<u64, AllocError>
+        ensures { IfOk result (λ n. n ≡ total_in self.now (label_of group.now name.now)) }
+    {
+        let label = label_of(self.alloc, group, name)?;
+        Ok(self.total(label.as_str()))
+    }
+
     // The count under a label and an amount, as far as a count goes.
     fn with_more(&self, label: &str, amount: u64) -> u64
         ensures { result ≡ min (total_in self.now label.now + amount) (2 ^ 64 - 1) }
@@ -103,7 +111,8 @@ impl Counts {
         self.total(label).saturating_add(amount)
     }
 
-    fn add(&mut self, group: &str, name: &str, amount: u64) -> Result<(), AllocError>
+    /// Adds an amount to the count of a name in a group.
+    pub(crate) fn add(&mut self, group: &str, name: &str, amount: u64) -> Result<(), AllocError>
         ensures { OnOk result (CountsAlso ((label_of group.now name.now, amount) ∷ [])
             self.old self.new) }
     {
@@ -113,8 +122,9 @@ impl Counts {
         Ok(())
     }
 
+    /// Adds an amount, if something holds.
     #[tactic(auto, using(crate::proofs::CountsLemmas::also_none))]
-    fn add_if(
+    pub(crate) fn add_if(
         &mut self,
         holds: bool,
         group: &str,

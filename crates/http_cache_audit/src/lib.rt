@@ -4,12 +4,16 @@
 
 mod again;
 mod assume;
+pub mod by_url;
+pub mod change;
+mod cost;
 mod counts;
 pub mod error;
 mod lifetime;
 pub mod lint;
 mod members;
 mod order;
+mod others;
 mod own;
 pub mod report;
 mod row;
@@ -18,3 +22,4 @@ mod sources;
 mod stored;
 mod texts;
 mod walk;
+pub mod whatif;

@@ -1,40 +1,114 @@
 //! What looks wrong in a response, though the rules of caching give it a meaning.
-ghost use Rattle.std.specs.Prelude.{◌≡◌, ◌++◌, pos, int_lt, ◌-ℤ◌, option_copied};
+ghost use Rattle.std.specs.Prelude.{◌≡◌, ◌++◌, pos, int_lt, ◌+ℤ◌, ◌-ℤ◌, option_copied};
 ghost use Rattle.std.specs.Prelude.{map, string_bytes, IfOk, OnOk};
-ghost use Rattle.std.specs.List.{list_any};
+ghost use Rattle.std.specs.List.{list_any, flat_map};
 ghost use Rattle.http_header.specs.Token.{lowercase};
 ghost use Rattle.http_cache_fields.specs.Headers.{headers_of};
-ghost use Rattle.http_cache_audit.specs.Lint.{cache_pieces, is_named, first_named, says_other};
-ghost use Rattle.http_cache_audit.specs.Lint.{is_in_conflict, has_semicolon, begins_quoted, is_quoted};
-ghost use Rattle.http_cache_audit.specs.Lint.{is_upper_case, has_flaw, is_dated_before, lint_in, hint};
-ghost use Rattle.http_cache_audit.specs.Lint.{words_of, hints_of};
+ghost use Rattle.http_cache_audit.specs.Lint.{cache_pieces, is_named, first_named, says_other, is_in_conflict};
+ghost use Rattle.http_cache_audit.specs.Lint.{has_semicolon, begins_quoted, is_quoted, lacks_comma, has_flaw};
+ghost use Rattle.http_cache_audit.specs.Lint.{is_dated_before, is_dated_after, seconds_of, after, differ, is_against};
+ghost use Rattle.http_cache_audit.specs.Lint.{is_bare, varies_by, lacks_cache_control, holds, words_of, findings, hint, hint_of};
+ghost use Rattle.http_cache_audit.specs.Lint.{hints_of};
 ghost use Rattle.http_cache_recording.specs.Entry.{entry_seen};
 
+use crate::again::opaque;
 use crate::own::date_of;
-use http::header::{AGE, CACHE_CONTROL};
-use http::{HeaderMap, response};
+use http::HeaderMap;
+use http::header::{AGE, CACHE_CONTROL, ETAG, EXPIRES, VARY};
 use http_cache_fields::directives::split_piece;
-use http_cache_fields::headers::contains_key;
+use http_cache_fields::headers::{contains_key, first_text};
 use http_cache_fields::names::is_same_name;
 use http_cache_fields::pieces::pieces_under;
+use http_cache_fields::pragma::pragma_forbids;
+use http_cache_fields::reading::says;
+use http_cache_fields::text::{number, unquote};
 use http_cache_recording::{Answer, Entry};
+use http_cache_rules::dates::read_date;
 use jiff::Timestamp;
 use std::alloc::{AllocError, Global};
 
-/// What looks wrong in a response. Each flag is a hint: the rules give the response a meaning, but
-/// it may not be the one that was meant.
+/// What looks wrong in a response: the rules give it a meaning, but it may not be the one that was meant.
 #[derive(Clone, Copy, Debug, PartialEq, Eq)]
-pub struct Lint {
+pub enum Finding {
     /// Two `max-age` say different things, or two `s-maxage` (RFC 9111, section 4.2.1).
-    pub conflicting: bool,
-    /// A `;` stands in a Cache-Control line, where directives stand between commas.
-    pub semicolon: bool,
+    Conflict,
+    /// A `;` is in a Cache-Control line, where directives are separated by commas.
+    Semicolon,
+    /// A blank is in a directive without quotes and `;`, as if a comma was left out.
+    NoComma,
     /// The seconds of `max-age` or `s-maxage` are in quotes (RFC 9111, section 5.2).
-    pub quoted: bool,
-    /// The name of a directive has a letter in upper case.
-    pub upper_case: bool,
-    /// Date is more than 60 s before the response came, and no Age tells where it was.
-    pub old_date: bool,
+    Quoted,
+    /// `no-store` is beside `max-age` or `s-maxage`, which then say nothing.
+    NoStoreBeside,
+    /// `public` is beside `private`.
+    PublicPrivate,
+    /// Pragma says `no-cache`, and there is no Cache-Control.
+    PragmaAlone,
+    /// There is Expires, and no Cache-Control.
+    ExpiresAlone,
+    /// Expires and `max-age` differ by more than 60 s.
+    ExpiresAgainst,
+    /// The ETag isn't in quotes (RFC 9110, section 8.8.3).
+    BareTag,
+    /// Date is more than 60 s after the receipt.
+    FutureDate,
+    /// Date is more than 60 s before the receipt, and no Age says where the response was.
+    OldDate,
+    /// Vary has `*`.
+    VaryAny,
+    /// Vary has Cookie.
+    VaryCookie,
+    /// Vary has User-Agent.
+    VaryUserAgent,
+}
+
+// All of them, in the order in which they are printed.
+fn findings() -> [Finding; 15]
+    ensures { result ≡ findings }
+{
+    [
+        Finding::Conflict,
+        Finding::Semicolon,
+        Finding::NoComma,
+        Finding::Quoted,
+        Finding::NoStoreBeside,
+        Finding::PublicPrivate,
+        Finding::PragmaAlone,
+        Finding::ExpiresAlone,
+        Finding::ExpiresAgainst,
+        Finding::BareTag,
+        Finding::FutureDate,
+        Finding::OldDate,
+        Finding::VaryAny,
+        Finding::VaryCookie,
+        Finding::VaryUserAgent,
+    ]
+}
+
+impl Finding {
+    // The words for it.
+    #[tactic(auto, unfolding(crate::specs::Lint::words_of))]
+    fn words(self) -> &'static str
+        ensures { result.now ≡ words_of self }
+    {
+        match self {
+            Finding::Conflict => "conflicting directives",
+            Finding::Semicolon => "; in Cache-Control",
+            Finding::NoComma => "no comma between directives",
+            Finding::Quoted => "seconds in quotes",
+            Finding::NoStoreBeside => "no-store beside max-age",
+            Finding::PublicPrivate => "public beside private",
+            Finding::PragmaAlone => "Pragma without Cache-Control",
+            Finding::ExpiresAlone => "Expires without Cache-Control",
+            Finding::ExpiresAgainst => "Expires against max-age",
+            Finding::BareTag => "an ETag without quotes",
+            Finding::FutureDate => "a Date in the future",
+            Finding::OldDate => "an old Date without Age",
+            Finding::VaryAny => "Vary: *",
+            Finding::VaryCookie => "Vary: Cookie",
+            Finding::VaryUserAgent => "Vary: User-Agent",
+        }
+    }
 }
 
 // The directive of a piece has the name, which is in lower case.
@@ -93,33 +167,27 @@ fn is_quoted(piece: &str) -> bool
         }
 }
 
-// The name of a directive has a letter in upper case.
-fn is_upper_case(piece: &str) -> bool
-    ensures { result ≡ is_upper_case piece.now }
+// A blank is in a directive without quotes and `;`.
+fn lacks_comma(piece: &str) -> bool
+    ensures { result ≡ lacks_comma piece.now }
 {
-    let mut name = piece.as_bytes().iter().take_while(|b| **b != b'=');
-    name.any(|b| b.is_ascii_uppercase())
+    let bytes = piece.as_bytes();
+    bytes.contains(&b' ') && !bytes.contains(&b'"') && !bytes.contains(&b';')
 }
 
 // What looks wrong in a directive.
-#[derive(Clone, Copy)]
-enum Flaw {
-    Semicolon,
-    Quoted,
-    UpperCase,
-}
-
-fn has_flaw(flaw: Flaw, piece: &str) -> bool
+fn has_flaw(flaw: Finding, piece: &str) -> bool
     ensures { result ≡ has_flaw flaw piece.now }
 {
     match flaw {
-        Flaw::Semicolon => has_semicolon(piece),
-        Flaw::Quoted => is_quoted(piece),
-        Flaw::UpperCase => is_upper_case(piece),
+        Finding::Semicolon => has_semicolon(piece),
+        Finding::NoComma => lacks_comma(piece),
+        Finding::Quoted => is_quoted(piece),
+        _ => false,
     }
 }
 
-fn any_flaw(headers: &HeaderMap, flaw: Flaw) -> bool
+fn any_flaw(headers: &HeaderMap, flaw: Finding) -> bool
     ensures { result ≡ list_any (has_flaw flaw) (cache_pieces (headers_of headers.now)) }
 {
     pieces_under(headers, CACHE_CONTROL).any(|piece| has_flaw(flaw, piece))
@@ -147,25 +215,127 @@ fn is_dated_before(
     })
 }
 
-// What looks wrong in a response, by when it was received.
-fn lint_of(
+// Whether the Date is more than a minute after a time.
+fn is_dated_after(
     alloc: Global,
-    response: &response::Parts,
     received: Timestamp,
-) -> Result<Lint, AllocError>
-    ensures { IfOk result (λ lint. lint
-        ≡ lint_in received.nanosecond (headers_of response.now.headers)) }
+    headers: &HeaderMap,
+) -> Result<bool, AllocError>
+    ensures { IfOk result (λ holds. holds
+        ≡ is_dated_after received.nanosecond (headers_of headers.now)) }
 {
-    let headers = &response.headers;
-    let is_old = is_dated_before(alloc, received, headers)?;
-    let max_age = is_in_conflict(headers, "max-age");
-    let s_maxage = is_in_conflict(headers, "s-maxage");
-    Ok(Lint {
-        conflicting: max_age || s_maxage,
-        semicolon: any_flaw(headers, Flaw::Semicolon),
-        quoted: any_flaw(headers, Flaw::Quoted),
-        upper_case: any_flaw(headers, Flaw::UpperCase),
-        old_date: is_old && !contains_key(headers, AGE),
+    Ok(match date_of(alloc, headers)? {
+        Some(date) => is_minute_before(received, date),
+        None => false,
+    })
+}
+
+// The seconds of `max-age`.
+fn seconds_of(headers: &HeaderMap) -> Option<u64>
+    ensures { result ≡ seconds_of (headers_of headers.now) }
+{
+    let piece = first_named(headers, "max-age")?;
+    number(unquote(split_piece(piece).1?))
+}
+
+// The nanosecond so many seconds after a time.
+fn after(time: Timestamp, seconds: u64) -> i128
+    ensures { result ≡ after time.nanosecond seconds }
+{
+    time.as_nanosecond() + seconds as i128 * 1_000_000_000
+}
+
+// Whether a time is more than a minute after a nanosecond.
+fn is_later(time: Timestamp, due: i128) -> bool
+    ensures { result ≡ int_lt due (time.nanosecond -ℤ pos 60_000_000_000) }
+{
+    due < time.as_nanosecond() - 60_000_000_000
+}
+
+// Whether a time is more than a minute before a nanosecond.
+fn is_earlier(time: Timestamp, due: i128) -> bool
+    ensures { result ≡ int_lt (time.nanosecond +ℤ pos 60_000_000_000) due }
+{
+    time.as_nanosecond() + 60_000_000_000 < due
+}
+
+// Whether two times differ from so many seconds by more than a minute.
+fn differ(from: Timestamp, to: Timestamp, seconds: u64) -> bool
+    ensures { result ≡ differ from.nanosecond to.nanosecond seconds }
+{
+    let due = after(from, seconds);
+    is_later(to, due) || is_earlier(to, due)
+}
+
+// Whether Expires and `max-age` say different times.
+fn is_against(alloc: Global, headers: &HeaderMap) -> Result<bool, AllocError>
+    ensures { IfOk result (λ holds. holds ≡ is_against (headers_of headers.now)) }
+{
+    let (Some(seconds), Some(text)) = (seconds_of(headers), first_text(headers, EXPIRES)) else {
+        return Ok(false);
+    };
+    let (Some(date), Some(expires)) = (date_of(alloc, headers)?, read_date(alloc, text)?) else {
+        return Ok(false);
+    };
+    Ok(differ(date, expires, seconds))
+}
+
+// Whether the ETag isn't in quotes.
+fn is_bare(headers: &HeaderMap) -> bool
+    ensures { result ≡ is_bare (headers_of headers.now) }
+{
+    match first_text(headers, ETAG) {
+        Some(tag) => {
+            let bytes = opaque(tag);
+            bytes.len() < 2 || !bytes.starts_with(b"\"") || !bytes.ends_with(b"\"")
+        }
+        None => false,
+    }
+}
+
+fn varies_by(headers: &HeaderMap, name: &str) -> bool
+    ensures { lowercase name.now ≡ name.now → result ≡ varies_by name.now (headers_of headers.now) }
+{
+    pieces_under(headers, VARY).any(|piece| is_same_name(piece, name))
+}
+
+// Whether there is no Cache-Control.
+fn lacks_cache_control(headers: &HeaderMap) -> bool
+    ensures { result ≡ lacks_cache_control (headers_of headers.now) }
+{
+    !contains_key(headers, CACHE_CONTROL)
+}
+
+// Whether something looks wrong in a response that was received at a time.
+#[tactic(auto, unfolding(crate::specs::Lint::holds))]
+fn holds(
+    alloc: Global,
+    finding: Finding,
+    headers: &HeaderMap,
+    received: Timestamp,
+) -> Result<bool, AllocError>
+    ensures { IfOk result (λ b. b ≡ holds finding received.nanosecond (headers_of headers.now)) }
+{
+    Ok(match finding {
+        Finding::Conflict => {
+            is_in_conflict(headers, "max-age") || is_in_conflict(headers, "s-maxage")
+        }
+        Finding::Semicolon | Finding::NoComma | Finding::Quoted => any_flaw(headers, finding),
+        Finding::NoStoreBeside => {
+            says(headers, "no-store") && (says(headers, "max-age") || says(headers, "s-maxage"))
+        }
+        Finding::PublicPrivate => says(headers, "public") && says(headers, "private"),
+        Finding::PragmaAlone => pragma_forbids(headers) && lacks_cache_control(headers),
+        Finding::ExpiresAlone => contains_key(headers, EXPIRES) && lacks_cache_control(headers),
+        Finding::ExpiresAgainst => is_against(alloc, headers)?,
+        Finding::BareTag => is_bare(headers),
+        Finding::FutureDate => is_dated_after(alloc, received, headers)?,
+        Finding::OldDate => {
+            is_dated_before(alloc, received, headers)? && !contains_key(headers, AGE)
+        }
+        Finding::VaryAny => varies_by(headers, "*"),
+        Finding::VaryCookie => varies_by(headers, "cookie"),
+        Finding::VaryUserAgent => varies_by(headers, "user-agent"),
     })
 }
 
@@ -185,21 +355,21 @@ pub(crate) fn push_hint(
     Ok(())
 }
 
-// The words for what looks wrong.
-fn words_of(alloc: Global, lint: Lint) -> Result<Vec<String>, AllocError>
-    ensures { IfOk result (λ all. map string_bytes all.items ≡ words_of lint) }
+// The words for what looks wrong in a response that was received at a time, among some findings.
+fn hints_in(
+    alloc: Global,
+    headers: &HeaderMap,
+    received: Timestamp,
+    findings: &[Finding],
+) -> Result<Vec<String>, AllocError>
+    ensures { IfOk result (λ all. map string_bytes all.items
+        ≡ flat_map (hint_of received.nanosecond (headers_of headers.now)) findings.now) }
 {
     let mut all = Vec::new(alloc);
-    push_hint(alloc, &mut all, lint.conflicting, "conflicting directives")?;
-    push_hint(alloc, &mut all, lint.semicolon, "; in Cache-Control")?;
-    push_hint(alloc, &mut all, lint.quoted, "seconds in quotes")?;
-    push_hint(
-        alloc,
-        &mut all,
-        lint.upper_case,
-        "a directive in upper case",
-    )?;
-    push_hint(alloc, &mut all, lint.old_date, "an old Date without Age")?;
+    for finding in findings {
+        let is_so = holds(alloc, *finding, headers, received)?;
+        push_hint(alloc, &mut all, is_so, finding.words())?;
+    }
     Ok(all)
 }
 
@@ -210,6 +380,13 @@ pub fn hints_of(alloc: Global, entry: &Entry) -> Result<Vec<String>, AllocError>
 {
     match &entry.answer {
         Answer::Failed | Answer::Cached(_) => Ok(Vec::new(alloc)),
-        Answer::Received(response) => { words_of(alloc, lint_of(alloc, response, entry.received)?) }
+        Answer::Received(response) => {
+            hints_in(
+                alloc,
+                &response.headers,
+                entry.received,
+                findings().as_slice(),
+            )
+        }
     }
 }

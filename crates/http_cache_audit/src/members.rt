@@ -1,18 +1,19 @@
 //! What is printed of a row: named members, which are an object of JSON, the words of a line, and what is
 //! counted. Each thing has one word.
 ghost use Rattle.std.specs.Prelude.{◌≡◌, ◌++◌, ◌∷◌, [], map, option_map, string_bytes, IfOk, OnOk};
-ghost use Rattle.http_cache_recording.specs.Entry.{reading_seen, printed_seen};
+ghost use Rattle.http_cache_recording.specs.Entry.{entry_seen, reading_seen, printed_seen};
 ghost use Rattle.http_cache_audit.specs.Row.{lifetime_seen, used_seen, kept_seen, received_seen, verdict_seen, row_seen};
 ghost use Rattle.http_cache_audit.specs.Members.{shown_seen, member_seen, with_text, with_count, with_some_text};
 ghost use Rattle.http_cache_audit.specs.Members.{with_texts, with_yes, kind_word, verdict_word, received_word, end_word};
 ghost use Rattle.http_cache_audit.specs.Members.{demand_word, reasons, with_lifetime, with_fresh, with_asked_about};
 ghost use Rattle.http_cache_audit.specs.Members.{with_used, kept_in, with_received, with_verdict, members_of, shown_url};
 ghost use Rattle.http_cache_audit.specs.Members.{with_some_count, lacks_lifetime, reasons_by, with_reasons, with_zero, with_kept};
-ghost use Rattle.http_cache_audit.specs.Members.{with_audited, with_reading, printed_members};
+ghost use Rattle.http_cache_audit.specs.Members.{with_audited, with_entry, with_reading, printed_members};
 
 use crate::lint::{hints_of, push_hint};
+use crate::others::others_of;
 use crate::row::{Again, Demand, Kept, Lifetime, Outcome, Received, Row, Used, Verdict};
-use http_cache_recording::{Kind, Printed, Reading};
+use http_cache_recording::{Entry, Kind, Printed, Reading};
 use http_cache_semantics::explain::Obstacles;
 use std::alloc::{AllocError, Global};
 
@@ -38,6 +39,16 @@ pub struct Members {
 }
 
 impl Members {
+    /// Returns no members.
+    pub(crate) fn new(alloc: Global) -> Members
+        ensures { map member_seen result.all.items ≡ [] }
+    {
+        Members {
+            alloc,
+            all: Vec::new(alloc),
+        }
+    }
+
     fn add(&mut self, name: &'static str, shown: Shown) -> Result<(), AllocError>
         ensures { OnOk result (map member_seen self.new.all.items ≡ map member_seen self.old.all.items
             ++ (name.now, shown_seen shown) ∷ []) }
@@ -45,7 +56,8 @@ impl Members {
         Ok(self.all.push((name, shown))?)
     }
 
-    fn text(&mut self, name: &'static str, text: &str) -> Result<(), AllocError>
+    /// Adds a text.
+    pub(crate) fn text(&mut self, name: &'static str, text: &str) -> Result<(), AllocError>
         ensures { OnOk result (map member_seen self.new.all.items
             ≡ with_text name.now text.now (map member_seen self.old.all.items)) }
     {
@@ -64,15 +76,17 @@ impl Members {
         }
     }
 
-    fn count(&mut self, name: &'static str, count: u64) -> Result<(), AllocError>
+    /// Adds a number.
+    pub(crate) fn count(&mut self, name: &'static str, count: u64) -> Result<(), AllocError>
         ensures { OnOk result (map member_seen self.new.all.items
             ≡ with_count name.now count (map member_seen self.old.all.items)) }
     {
         self.add(name, Shown::Count(count))
     }
 
+    /// Adds a number that isn't 0.
     #[tactic(auto, unfolding(crate::specs::Members::with_some_count))]
-    fn some_count(&mut self, name: &'static str, count: u64) -> Result<(), AllocError>
+    pub(crate) fn some_count(&mut self, name: &'static str, count: u64) -> Result<(), AllocError>
         ensures { OnOk result (map member_seen self.new.all.items
             ≡ with_some_count name.now count (map member_seen self.old.all.items)) }
     {
@@ -367,8 +381,13 @@ fn add_kept(to: &mut Members, kept: &Kept) -> Result<(), AllocError>
     add_lifetime(to, &kept.lifetime)
 }
 
+/// Adds what became of a response.
 #[tactic(auto, unfolding(crate::specs::Members::with_received))]
-fn add_received(to: &mut Members, printed: &Printed, received: &Received) -> Result<(), AllocError>
+pub(crate) fn add_received(
+    to: &mut Members,
+    printed: &Printed,
+    received: &Received,
+) -> Result<(), AllocError>
     ensures { OnOk result (map member_seen to.new.all.items ≡ with_received (printed_seen printed.now)
         (received_seen received.now) (map member_seen to.old.all.items)) }
 {
@@ -398,8 +417,8 @@ fn add_verdict(to: &mut Members, row: &Row<'_>, verdict: &Verdict) -> Result<(),
     to.count("sent", row.recorded.printed.sent)
 }
 
-// The url up to its query, if that isn't printed.
-fn shown_url(url: &str, hides_query: bool) -> &str
+/// Returns the url up to its query, if that isn't printed.
+pub(crate) fn shown_url(url: &str, hides_query: bool) -> &str
     ensures { result.now ≡ shown_url hides_query url.now }
 {
     match url.split_once('?') {
@@ -419,14 +438,23 @@ fn add_audited(to: &mut Members, row: &Row<'_>) -> Result<(), AllocError>
     }
 }
 
-// What looks wrong in the response, or why the entry isn't audited.
+// What looks wrong in the response, and what other caches say of it.
+fn add_entry(to: &mut Members, entry: &Entry) -> Result<(), AllocError>
+    ensures { OnOk result (map member_seen to.new.all.items
+        ≡ with_entry (entry_seen entry.now) (map member_seen to.old.all.items)) }
+{
+    to.texts("hints", hints_of(to.alloc, entry)?)?;
+    to.texts("others", others_of(to.alloc, entry)?)
+}
+
+/// Adds what looks wrong in the response and what other caches say of it, or why the entry isn't audited.
 #[tactic(auto, unfolding(crate::specs::Members::with_reading))]
-fn add_reading(to: &mut Members, reading: &Reading) -> Result<(), AllocError>
+pub(crate) fn add_reading(to: &mut Members, reading: &Reading) -> Result<(), AllocError>
     ensures { OnOk result (map member_seen to.new.all.items
         ≡ with_reading (reading_seen reading.now) (map member_seen to.old.all.items)) }
 {
     match reading {
-        Reading::Entry(entry) => to.texts("hints", hints_of(to.alloc, entry)?),
+        Reading::Entry(entry) => add_entry(to, entry),
         Reading::Skipped(reason) => to.text("reason", reason.as_str()),
     }
 }
@@ -437,10 +465,7 @@ fn printed_members(alloc: Global, row: &Row<'_>, hides_query: bool) -> Result<Me
     ensures { IfOk result (λ to. map member_seen to.all.items
         ≡ printed_members hides_query (row_seen row.now)) }
 {
-    let mut to = Members {
-        alloc,
-        all: Vec::new(alloc),
-    };
+    let mut to = Members::new(alloc);
     let printed = &row.recorded.printed;
     let url = printed
         .url

@@ -19,15 +19,22 @@ pub(crate) struct Sent<'a> {
     pub entry: &'a Entry,
 }
 
+/// Returns the target of what was recorded, by which it is compared to others.
+pub(crate) fn target_of(recorded: &Recorded) -> &str
+    ensures { result.now ≡ target_of (recorded_seen recorded.now) }
+{
+    match &recorded.printed.url {
+        Some(url) => url.as_str(),
+        None => "",
+    }
+}
+
 impl<'a> Sent<'a> {
-    /// Returns its target, by which it is compared to others.
+    /// Returns its target.
     pub(crate) fn target(&self) -> &'a str
         ensures { result.now ≡ target_of (sent_seen self.now).recorded }
     {
-        match &self.recorded.printed.url {
-            Some(url) => url.as_str(),
-            None => "",
-        }
+        target_of(self.recorded)
     }
 }
 

@@ -1,6 +1,6 @@
 //! All that an audit writes: a line or an object for each row, then the counts, and what to do where the
 //! recording itself misleads.
-ghost use Rattle.std.specs.Prelude.{◌≡◌, ◌<◌, ◌++◌, false, map, fold, codes, string_bytes, IfOk, OnOk};
+ghost use Rattle.std.specs.Prelude.{◌≡◌, ◌<◌, ◌*◌, ◌++◌, nat_lt, false, map, fold, codes, string_bytes, IfOk, OnOk};
 ghost use Rattle.std.specs.List.{flat_map};
 ghost use Rattle.serde_json.specs.Data.{object, string};
 ghost use Rattle.serde_json.specs.View.{view, members_view};
@@ -39,6 +39,26 @@ pub struct Settings {
     pub hides_queries: bool,
     /// An object a line, in place of plain lines.
     pub json: bool,
+    /// An object a url, in place of the lines.
+    pub by_url: bool,
+}
+
+/// How many repeated requests there are, and how many of them a stored response answers.
+#[derive(Clone, Copy, Debug, PartialEq, Eq)]
+pub struct Hits {
+    /// Those that a stored response answers.
+    pub fresh: u64,
+    /// All of them.
+    pub repeated: u64,
+}
+
+impl Hits {
+    /// Returns whether a stored response answers fewer than so many in a hundred.
+    pub fn are_under(self, percent: u64) -> bool
+        ensures { result ≡ nat_lt (self.fresh * 100) (percent * self.repeated) }
+    {
+        self.fresh as u128 * 100 < percent as u128 * self.repeated as u128
+    }
 }
 
 const CACHE_OFF: &str =
@@ -81,7 +101,7 @@ fn push_word(out: &mut String, name: &str, text: &str) -> Result<(), AllocError>
         ++ word_text name.now text.now) }
 {
     match name {
-        "verdict" => out.push_str(text),
+        "verdict" | "load" => out.push_str(text),
         "method" | "url" => write!(out, " {text}"),
         _ => push_named(out, name, text),
     }
@@ -173,8 +193,9 @@ fn push_object(
     out.push_str("\n")
 }
 
+/// Writes members as a line, or as an object.
 #[tactic(auto, unfolding(crate::specs::Report::row_text))]
-fn push_members(
+pub(crate) fn push_members(
     alloc: Global,
     out: &mut String,
     members: &Members,
@@ -371,8 +392,8 @@ fn any_credentials(recorded: &[Recorded]) -> bool
     recorded.iter().any(|one| has_credentials(one))
 }
 
-// A target where there is no entry.
-fn no_target(alloc: Global) -> Result<Uri, AllocError> {
+/// Returns a target where there is no entry.
+pub(crate) fn no_target(alloc: Global) -> Result<Uri, AllocError> {
     match Uri::from_str(alloc, "/") {
         Ok(target) => Ok(target),
         Err(_) => Err(AllocError),
@@ -381,14 +402,19 @@ fn no_target(alloc: Global) -> Result<Uri, AllocError> {
 
 /// Returns the text of the audit of a recording: a line for each entry in the order of the walk, one for
 /// each that isn't audited, then the counts by `group/name`, without those that are 0, and lines that
-/// begin with `noticed` where the recording itself misleads.
+/// begin with `noticed` where the recording itself misleads. With it comes how many repeated requests a stored
+/// response answers.
 ///
 /// # Errors
 ///
 /// Returns an error only if there is no memory.
-pub fn audit(alloc: Global, recorded: &[Recorded], settings: Settings) -> Result<String, AllocError>
-    ensures audit { IfOk result (λ text. IsAudit (settings_seen settings)
-        (map recorded_seen recorded.now) (string_bytes text)) }
+pub fn audit(
+    alloc: Global,
+    recorded: &[Recorded],
+    settings: Settings,
+) -> Result<(String, Hits), AllocError>
+    ensures audit { IfOk result (λ made. IsAudit (settings_seen settings)
+        (map recorded_seen recorded.now) made.1 (string_bytes made.0)) }
 {
     let target = no_target(alloc)?;
     let rows = rows_of(alloc, recorded, &target, settings.options)?;
@@ -400,5 +426,9 @@ pub fn audit(alloc: Global, recorded: &[Recorded], settings: Settings) -> Result
         no_credentials: !any_credentials(recorded),
     };
     push_end(alloc, &mut out, &counts, notes, settings.json)?;
-    Ok(out)
+    let hits = Hits {
+        fresh: counts.total("verdicts/fresh"),
+        repeated: counts.total("counts/repeated"),
+    };
+    Ok((out, hits))
 }

@@ -4,13 +4,17 @@ ghost use Rattle.std.specs.Io.KnownBytes.{Appends};
 ghost use Rattle.http_cache_recording.specs.Entry.{recorded_seen};
 ghost use Rattle.http_cache_recording.specs.Recording.{IsRecording};
 ghost use Rattle.http_cache_audit.specs.Report.{settings_seen};
-ghost use Rattle.http_cache_audit.specs.Output.{front_of, any_audited, IsAudited, IsRefusal};
+ghost use Rattle.http_cache_audit.specs.Output.{front_of, any_audited, no_hits, IsOfAll, IsPrinted, IsAudited, IsRefusal};
+ghost use Rattle.http_cache_audit.specs.Change.{change_seen};
 
+use crate::by_url::by_url;
+use crate::change::Change;
 use crate::error::AuditError;
-use crate::report::{Settings, audit};
+use crate::report::{Hits, Settings, audit};
+use crate::whatif::what_if;
 use http_cache_recording::recording::{LONGEST, recording_from_bytes};
 use http_cache_recording::{Reading, Recorded};
-use std::alloc::Global;
+use std::alloc::{AllocError, Global};
 use std::io::{ErrorKind, Read, Write};
 
 // What a reader has left, as far as one byte past the longest recording.
@@ -71,27 +75,82 @@ fn any_audited(recorded: &[Recorded]) -> bool
         .any(|one| matches!(&one.reading, Reading::Entry(_)))
 }
 
-// The text of the audit of what a reader has left, and whether an entry was audited.
+/// How an audit ended whose text was written.
+#[derive(Clone, Copy, Debug, PartialEq, Eq)]
+pub struct Ended {
+    /// An entry was audited.
+    pub audited: bool,
+    /// How many repeated requests a stored response answers; none if headers were changed, or by url.
+    pub hits: Hits,
+}
+
+// No hits are reported.
+fn no_hits() -> Hits
+    ensures { result ≡ no_hits }
+{
+    Hits {
+        fresh: 0,
+        repeated: 0,
+    }
+}
+
+// The text of the urls of a recording, or of its audit.
+fn of_all(
+    alloc: Global,
+    recorded: &[Recorded],
+    settings: Settings,
+) -> Result<(String, Hits), AllocError>
+    ensures { IfOk result (λ made. IsOfAll settings.by_url (settings_seen settings)
+        (map recorded_seen recorded.now) made.1 (string_bytes made.0)) }
+{
+    if settings.by_url {
+        let text = by_url(alloc, recorded, settings)?;
+        Ok((text, no_hits()))
+    } else {
+        audit(alloc, recorded, settings)
+    }
+}
+
+// The text of a recording, or of what changes spare.
+fn printed(
+    alloc: Global,
+    recorded: Vec<Recorded>,
+    changes: &[Change],
+    settings: Settings,
+) -> Result<(String, Hits), AllocError>
+    ensures { IfOk result (λ made. IsPrinted (settings_seen settings) (map change_seen changes.now)
+        (map recorded_seen recorded.items) made.1 (string_bytes made.0)) }
+{
+    if changes.is_empty() {
+        return of_all(alloc, recorded.as_slice(), settings);
+    }
+    let text = what_if(alloc, recorded, changes, settings)?;
+    Ok((text, no_hits()))
+}
+
+// The text for what a reader has left, and how the audit ended.
 fn text_of<R: Read>(
     alloc: Global,
     reader: &mut R,
+    changes: &[Change],
     settings: Settings,
-) -> Result<(String, bool), AuditError>
+) -> Result<(String, Ended), AuditError>
     ensures audited { IfOk result (λ made. IfSome (R.remaining reader.old)
-        (λ bytes. IsAudited (settings_seen settings) settings.ignores_no_cache bytes made.1
-        (string_bytes made.0))) }
+        (λ bytes. IsAudited (settings_seen settings) (map change_seen changes.now)
+        settings.ignores_no_cache bytes made.1 (string_bytes made.0))) }
     ensures refused { IfErr result (IsRefusal (R.remaining reader.old)) }
     ensures no_writer { result ≢ Err AuditError.NotWritten }
 {
     let recorded = recording_of(alloc, reader, settings.ignores_no_cache)?;
-    match audit(alloc, recorded.as_slice(), settings) {
-        Ok(text) => Ok((text, any_audited(recorded.as_slice()))),
+    let audited = any_audited(recorded.as_slice());
+    match printed(alloc, recorded, changes, settings) {
+        Ok((text, hits)) => Ok((text, Ended { audited, hits })),
         Err(_) => Err(AuditError::Memory),
     }
 }
 
-/// Reads a recording to its end, writes the text of its audit and nothing else, and returns whether an entry
-/// was audited.
+/// Reads a recording to its end, writes the text of its audit and nothing else, and returns how it ended. With
+/// changes of headers the text is of what these spare.
 ///
 /// # Errors
 ///
@@ -102,17 +161,19 @@ pub fn run<R: Read, W: Write>(
     alloc: Global,
     reader: &mut R,
     writer: &mut W,
+    changes: &[Change],
     settings: Settings,
-) -> Result<bool, AuditError>
-    ensures done { IfOk result (λ audited. IfSome (R.remaining reader.old) (λ bytes.
-        (text : List ℕ) × IsAudited (settings_seen settings) settings.ignores_no_cache bytes
-        audited text × Appends (W.contents writer.old) (W.contents writer.new) text)) }
+) -> Result<Ended, AuditError>
+    ensures done { IfOk result (λ ended. IfSome (R.remaining reader.old) (λ bytes.
+        (text : List ℕ) × IsAudited (settings_seen settings) (map change_seen changes.now)
+        settings.ignores_no_cache bytes ended text
+        × Appends (W.contents writer.old) (W.contents writer.new) text)) }
     ensures refused { IfErr result (IsRefusal (R.remaining reader.old)) }
     ensures nothing { result ≢ Err AuditError.NotWritten → OnErr result (writer.new ≡ writer.old) }
 {
-    let (text, is_audited) = text_of(alloc, reader, settings)?;
+    let (text, ended) = text_of(alloc, reader, changes, settings)?;
     match writer.write_all(text.as_bytes()) {
-        Ok(()) => Ok(is_audited),
+        Ok(()) => Ok(ended),
         Err(_) => Err(AuditError::NotWritten),
     }
 }

@@ -11,7 +11,7 @@ ghost use Rattle.http_cache_audit.specs.Order.{sent_seen, target_of};
 ghost use Rattle.http_cache_audit.specs.Sources.{sources_seen, is_asked};
 ghost use Rattle.http_cache_audit.specs.Assume.{asked_seen};
 ghost use Rattle.http_cache_audit.specs.Stored.{stored_seen, forbidden_by, put_first};
-ghost use Rattle.http_cache_audit.specs.Walk.{walk_seen, received_apart, invalidates, verdict_with, asked_of, body_at};
+ghost use Rattle.http_cache_audit.specs.Walk.{walk_seen, received_apart, invalidates, verdict_with, assumed_by_own, asked_of, body_at};
 ghost use Rattle.http_cache_audit.specs.Walk.{receipt_of, used_fresh, asked_about, missed, judged, seed_of, judged_cached};
 ghost use Rattle.http_cache_audit.specs.Walk.{confirmed_own, judged_own, shows, judged_all, key_of, key_in, walked_in};
 ghost use Rattle.http_cache_audit.specs.Walk.{asked_row, asked_row_on, passed_row, row_on, left_under, shelf_at, on_shelf, is_of_target, judgement_of, asks_store};
@@ -215,6 +215,26 @@ fn confirmed(alloc: Global, stored: &[Stored], now: Timestamp) -> Result<Receive
 }
 
 impl<'a> Walk<'a> {
+    // Assumes what the answer of the browser varies by, if nothing is stored.
+    fn assume_own(
+        &self,
+        asked: &mut Asked<'a>,
+        stored: &[Stored],
+        sent: &Sent<'a>,
+        sources: &Sources<'a>,
+    ) -> Result<(), AllocError>
+        ensures { OnOk result (asked_seen asked.new ≡ assumed_by_own
+            (walked_in (sources_seen sources.now) (sent_seen sent.now)) (asked_seen asked.old)
+            (map stored_seen stored.now) (answer_seen sent.now.entry.now.answer)) }
+    {
+        match &sent.entry.answer {
+            Answer::Cached(response) if stored.is_empty() => {
+                asked.assume(self.alloc, sources, sent.target(), &response.headers)
+            }
+            _ => Ok(()),
+        }
+    }
+
     // The request as it is asked, with what is assumed of it if a recording may lack its headers.
     #[tactic(auto, unfolding(crate::specs::Walk::asked_of))]
     fn asked(
@@ -234,9 +254,7 @@ impl<'a> Walk<'a> {
         for one in stored {
             asked.assume(alloc, sources, sent.target(), one.policy.stored_headers())?;
         }
-        if let (true, Answer::Cached(response)) = (stored.is_empty(), &entry.answer) {
-            asked.assume(alloc, sources, sent.target(), &response.headers)?;
-        }
+        self.assume_own(&mut asked, stored, sent, sources)?;
         Ok(asked)
     }
 

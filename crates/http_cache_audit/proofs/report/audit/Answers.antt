@@ -14,6 +14,7 @@ returns c =
         counts = c.push_rows.new.counts;
         are_rows = c.in_ok-rows.ensures;
         are_counts = rw c.as_slice.ensures.value at (c.in_ok-push_rows.ensures.counted [] c.new-counts.ensures);
+        are_hits = search rules;
         is_text = search rules;
       };
     }

@@ -1,0 +1,11 @@
+-- What was changed so far with what is left is all.
+use Rattle.std.proofs.Common.{◌≡◌, ◌++◌, map}
+use Rattle.http_cache_recording.specs.Entry.{recorded_seen}
+use Rattle.http_cache_audit.specs.Change.{change_seen, changed}
+use Rattle.http_cache_audit.proofs.change.changed_all.Given as goal
+
+abbrev pub invariant-loop-one : goal.invariant-loop-one
+invariant-loop-one l =
+    let change = changed (map change_seen l.changes) in
+    map recorded_seen l.all.items ++ map change (map recorded_seen l.one-iterator.rest.items)
+    ≡ map change (map recorded_seen l.initial.one-iterator.rest.items)

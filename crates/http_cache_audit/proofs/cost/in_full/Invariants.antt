@@ -1,0 +1,10 @@
+-- The rows so far are counted.
+use Rattle.std.proofs.Common.{map, take}
+use Rattle.std.specs.List.{flat_map}
+use Rattle.http_cache_audit.specs.Row.{row_seen}
+use Rattle.http_cache_audit.specs.Counts.{HoldsCounts}
+use Rattle.http_cache_audit.specs.Cost.{full_additions}
+use Rattle.http_cache_audit.proofs.cost.in_full.Given as goal
+
+abbrev pub invariant-loop-row : goal.invariant-loop-row
+invariant-loop-row l = HoldsCounts (flat_map full_additions (map row_seen (take l.row-index l.rows))) l.counts
