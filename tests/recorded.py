@@ -137,7 +137,7 @@ def are_plain(text, entries, summary):
 
 
 def faults_of(program, case):
-    ended, plain = told_by(program, case, ["--json"]), told_by(program, case, [])
+    ended, plain = told_by(program, case, ["--json"]), told_by(program, case, ["--lines"])
     if (ended.returncode, plain.returncode) != (0, 0):
         return [(case["title"], ended.returncode, ended.stderr, plain.stderr)]
     *rows, summary = [json.loads(line) for line in ended.stdout.decode().splitlines()]
@@ -149,7 +149,10 @@ def faults_of(program, case):
         different = {name: shown(told.get(name)) for name, value in wanted.items() if shown(told.get(name)) != value}
         if different:
             faults.append((case["title"], told.get("i", "summary"), different, wanted))
-    if PASSWORD in ended.stdout + plain.stdout:
+    report = told_by(program, case, [])
+    if report.returncode != 0:
+        faults.append((case["title"], "no report", report.returncode, report.stderr))
+    if PASSWORD in ended.stdout + plain.stdout + report.stdout:
         faults.append((case["title"], "prints a password"))
     if not are_plain(plain.stdout.decode(), len(case["entries"]), summary):
         faults.append((case["title"], "prints other counts as lines"))

@@ -65,8 +65,8 @@ def runs():
         (["--fail-under", "60 "], b"", 64, RATE),
         (["--fail-under"], b"", 64, UNKNOWN),
         (["--fail-under", "1", "--with", "*: ETag:"], bytes_of, 64, UNKNOWN),
-        (["--fail-under", "30"], bytes_of, 0, ""),
-        (["--fail-under", "31"], bytes_of, 4, FEW.format(31)),
+        (["--lines", "--fail-under", "30"], bytes_of, 0, ""),
+        (["--shared", "--fail-under", "31"], bytes_of, 4, FEW.format(31)),
         (["--private", "--fail-under", "31"], bytes_of, 0, ""),
         (["--fail-under", "100"], b"[]", 1, NOTHING),
         (["--by-url"], bytes_of, 0, ""),
@@ -96,15 +96,19 @@ def said(program):
     forms = [b"\xef\xbb\xbf" + EXAMPLE.read_bytes(), json.dumps(log).encode(), json.dumps(log["entries"]).encode()]
     usage = ended(program, ["--help", "--nothing"], b"")
     version = ended(program, ["--version"], b"")
-    example = ended(program, [], EXAMPLE.read_bytes())
+    example = ended(program, ["--lines"], EXAMPLE.read_bytes())
+    report = ended(program, [], EXAMPLE.read_bytes())
     checks = [
         ("help", usage.returncode == 0 and not usage.stderr and all(word.encode() in usage.stdout for word in OPTIONS)),
         ("version", version.returncode == 0 and re.fullmatch(rb"cacheaudit \d+\.\d+\.\d+\n", version.stdout)),
-        ("forms", all(ended(program, [], form).stdout == example.stdout for form in forms)),
-        ("file", ended(program, [str(EXAMPLE)], b"").stdout == example.stdout != b""),
-        ("shared", ended(program, ["--shared"], EXAMPLE.read_bytes()).stdout == example.stdout),
-        ("private", ended(program, ["--private"], EXAMPLE.read_bytes()).stdout != example.stdout),
-        ("the last of two", ended(program, ["--private", "--shared"], EXAMPLE.read_bytes()).stdout == example.stdout),
+        ("forms", all(ended(program, ["--lines"], form).stdout == example.stdout for form in forms)),
+        ("file", ended(program, ["--lines", str(EXAMPLE)], b"").stdout == example.stdout != b""),
+        ("shared", ended(program, ["--lines", "--shared"], EXAMPLE.read_bytes()).stdout == example.stdout),
+        ("private", ended(program, ["--lines", "--private"], EXAMPLE.read_bytes()).stdout != example.stdout),
+        ("the last of two", ended(program, ["--lines", "--private", "--shared"], EXAMPLE.read_bytes()).stdout == example.stdout),
+        ("a report", report.stdout and report.stdout != example.stdout),
+        ("a report of a browser's", ended(program, ["--private"], EXAMPLE.read_bytes()).stdout == report.stdout),
+        ("a report of a CDN's", ended(program, ["--shared"], EXAMPLE.read_bytes()).stdout != report.stdout),
     ]
     return len(checks), [("said", name) for name, holds in checks if not holds]
 

@@ -1,6 +1,7 @@
 //! What a command line asks for.
 use http_cache_audit::change::{Change, ChangeError, change_from_text};
 use http_cache_audit::report::Settings;
+use http_cache_report::run::Form;
 use http_cache_semantics::CacheOptions;
 use http_cache_semantics::policy::Fraction;
 use std::alloc::{AllocError, Global};
@@ -21,6 +22,10 @@ pub enum Asked {
 /// An audit that is asked for.
 #[derive(Drop)]
 pub struct Order {
+    /// What is written of it.
+    pub form: Form,
+    /// Whether the cache serves many users, if that is said.
+    pub is_shared: Option<bool>,
     /// How a recording is audited.
     pub settings: Settings,
     /// Headers that are changed, to see what that spares.
@@ -109,16 +114,25 @@ fn set_value(alloc: Global, order: &mut Order, option: Valued, text: &str) -> Re
     Ok(())
 }
 
+// All requests, as lines or objects.
+fn set_all(order: &mut Order, json: bool) {
+    order.form = Form::All;
+    order.settings.json = json;
+}
+
 // Applies an option without a value, and returns whether it is known.
-fn set_flag(settings: &mut Settings, word: &str) -> bool {
+fn set_flag(order: &mut Order, word: &str) -> bool {
     match word {
-        "--private" => settings.options.shared = false,
-        "--shared" => settings.options.shared = true,
-        "--json" => settings.json = true,
-        "--lines" => settings.json = false,
-        "--by-url" => settings.by_url = true,
-        "--no-query" => settings.hides_queries = true,
-        "--ignore-request-no-cache" => settings.ignores_no_cache = true,
+        "--private" => order.is_shared = Some(false),
+        "--shared" => order.is_shared = Some(true),
+        "--json" => set_all(order, true),
+        "--lines" => set_all(order, false),
+        "--by-url" => {
+            order.form = Form::All;
+            order.settings.by_url = true;
+        }
+        "--no-query" => order.settings.hides_queries = true,
+        "--ignore-request-no-cache" => order.settings.ignores_no_cache = true,
         _ => return false,
     }
     true
@@ -127,6 +141,8 @@ fn set_flag(settings: &mut Settings, word: &str) -> bool {
 // An audit of standard input, by the defaults.
 fn plain_order(alloc: Global) -> Order {
     Order {
+        form: Form::Report,
+        is_shared: None,
         settings: Settings {
             options: CacheOptions::default(),
             ignores_no_cache: false,
@@ -140,14 +156,23 @@ fn plain_order(alloc: Global) -> Order {
     }
 }
 
+// A report is of a browser's cache, if nothing else is said, and all else of a CDN's.
+fn is_shared(order: &Order) -> bool {
+    match order.is_shared {
+        Some(is_shared) => is_shared,
+        None => !matches!(order.form, Form::Report) || !order.changes.is_empty(),
+    }
+}
+
 // A rate is of the requests as they were recorded, and a change is of all of them.
 fn checked(order: Order) -> Result<Asked, Refusal> {
-    let is_other = order.settings.by_url || !order.changes.is_empty();
-    if order.least_rate.is_some() && is_other
-        || order.settings.by_url && !order.changes.is_empty()
-    {
+    let is_by_url = order.settings.by_url;
+    let is_changed = !order.changes.is_empty();
+    if order.least_rate.is_some() && (is_by_url || is_changed) || is_by_url && is_changed {
         return Err(Refusal::Unknown);
     }
+    let mut order = order;
+    order.settings.options.shared = is_shared(&order);
     Ok(Asked::Audit(order))
 }
 
@@ -166,7 +191,7 @@ pub fn asked_of(alloc: Global, words: Args) -> Result<Asked, Refusal> {
             return Ok(Asked::Version);
         } else if let Some(option) = option_of(text) {
             waiting = Some(option);
-        } else if !set_flag(&mut order.settings, text) {
+        } else if !set_flag(&mut order, text) {
             if text.starts_with('-') || order.file.is_some() {
                 return Err(Refusal::Unknown);
             }

@@ -1,5 +1,5 @@
-//! Reads a recorded session (HAR 1.2), and writes what a cache would have answered to each of its
-//! requests, and why.
+//! Reads a recorded session (HAR 1.2), and reports what to change first, or what a cache would have answered
+//! to each of its requests, and why.
 #![tactic(auto)]
 
 mod arguments;
@@ -7,8 +7,8 @@ mod progress;
 
 use arguments::{Asked, Order, Refusal, asked_of};
 use http_cache_audit::change::ChangeError;
-use http_cache_audit::error::AuditError;
-use http_cache_audit::run::{Ended, run};
+use http_cache_report::error::AuditError;
+use http_cache_report::run::{Ended, run};
 use progress::Watched;
 use std::fs::File;
 use std::io::{IsTerminal, Read};
@@ -18,14 +18,16 @@ use std::{env, io};
 const USAGE: &str =
     "usage: cacheaudit [--private | --shared] [--heuristic N/D] [--lines | --json | --by-url] [--no-query]
                   [--ignore-request-no-cache] [--with 'PATTERN: HEADER: VALUE'].. [--fail-under N] [FILE]
-reports for each request of a recorded session (HAR 1.2) what a cache would have answered, and why
-    --private, --shared        a cache of one user, as a browser's, or of many, as a CDN's (the default)
+reports of a recorded session (HAR 1.2) what to change first, what later visits cost, and what looks wrong
+    --lines, --json            a line or an object for each request: what a cache would have answered, and why
+    --by-url                   an object for each url
+    --private, --shared        a cache of one user, as a browser's (the report's default), or of many, as a
+                               CDN's (the default of all else)
     --heuristic N/D            the part of the time since Last-Modified that is a lifetime; 1/10 if not said
-    --lines, --json, --by-url  a line a request (the default), an object a request, or an object a url
     --no-query                 leaves the queries of urls out
     --ignore-request-no-cache  reads requests without their no-cache, as of a hard reload
-    --with P: H: V             reports instead what is sent if responses of urls as P (`*` is any text) have the
-                               header H as V, or lack it if V is empty
+    --with P: H: V             reports instead what is sent if responses of urls as P (`*` is any text) have
+                               the header H as V, or lack it if V is empty
     --fail-under N             ends with 4 if a stored response answers fewer than N % of repeated requests";
 
 const VERSION: &str = "cacheaudit 0.12.0";
@@ -69,6 +71,7 @@ fn audit<R: Read + Drop>(rt: &HostRuntime, reader: R, order: &Order) -> ExitCode
         rt.alloc(),
         &mut Watched::new(rt, reader),
         &mut rt.stdout(),
+        order.form,
         order.changes.as_slice(),
         order.settings,
     );

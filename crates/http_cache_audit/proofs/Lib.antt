@@ -3,7 +3,6 @@ pub mod ChangeLemmas
 pub mod CountsLemmas
 pub mod JsonLemmas
 pub mod ListLemmas
-pub mod ReadLemmas
 pub mod SourcesLemmas
 pub mod StoredLemmas
 pub mod WalkLemmas

@@ -16,5 +16,3 @@ pub mod Change
 pub mod Cost
 pub mod WhatIf
 pub mod ByUrl
-pub mod Output
-pub mod Status

@@ -17,7 +17,7 @@ use http_cache_rules::conditions::has_stored_already;
 use http_cache_semantics::CachePolicy;
 
 /// Returns an entity tag without its mark of weakness (RFC 9110, section 8.8.3.2).
-pub(crate) fn opaque(tag: &str) -> &[u8]
+pub fn opaque(tag: &str) -> &[u8]
     ensures { result.now ≡ opaque tag.now }
 {
     let bytes = tag.as_bytes();
@@ -41,7 +41,7 @@ fn is_same_body(a: &Body, b: &Body) -> Option<bool>
 
 /// Returns whether two bodies are the same, if both were recorded in one encoding.
 #[tactic(auto, unfolding(crate::specs::Again::are_same_bodies))]
-pub(crate) fn are_same_bodies(a: Option<&Body>, b: Option<&Body>) -> Option<bool>
+pub fn are_same_bodies(a: Option<&Body>, b: Option<&Body>) -> Option<bool>
     ensures { result ≡ are_same_bodies (option_map (λ x. body_seen x.now) a.entry)
         (option_map (λ x. body_seen x.now) b.entry) }
 {
@@ -66,7 +66,7 @@ fn is_same_date(a: &HeaderMap, b: &HeaderMap) -> Option<bool>
 }
 
 /// Returns whether they have the same validators, if that can be known.
-pub(crate) fn is_same_validator(a: &HeaderMap, b: &HeaderMap) -> Option<bool>
+pub fn is_same_validator(a: &HeaderMap, b: &HeaderMap) -> Option<bool>
     ensures { result ≡ is_same_validator (headers_of a.now) (headers_of b.now) }
 {
     match is_same_tag(a, b) {

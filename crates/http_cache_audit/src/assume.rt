@@ -57,14 +57,14 @@ impl RequestLike for Asked<'_> {
 }
 
 /// Returns the first value under a name.
-pub(crate) fn first_value<'a>(headers: &'a HeaderMap, name: &HeaderName) -> Option<&'a HeaderValue>
+pub fn first_value<'a>(headers: &'a HeaderMap, name: &HeaderName) -> Option<&'a HeaderValue>
     ensures { option_map (λ v. v.now.bytes) result ≡ first (headers_of headers.now) name.now }
 {
     headers.get(name)
 }
 
 /// Puts a value under a name, in place of what is there, if there is room for it.
-pub(crate) fn put_value(
+pub fn put_value(
     to: &mut HeaderMap,
     name: &HeaderName,
     value: &HeaderValue,

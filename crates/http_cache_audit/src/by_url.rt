@@ -1,4 +1,5 @@
-//! What is printed of each url that a store could have answered for: an object, with the sums of its requests.
+//! What is printed of each url that a store could have answered for: an object, with the sums of its
+//! requests.
 ghost use Rattle.std.specs.Prelude.{◌≡◌, ◌++◌, map, string_bytes, IfOk, OnOk};
 ghost use Rattle.std.specs.List.{flat_map};
 ghost use Rattle.http_cache_recording.specs.Entry.{recorded_seen};
@@ -20,13 +21,15 @@ use crate::walk::rows_of;
 use http_cache_recording::Recorded;
 use std::alloc::{AllocError, Global};
 
-fn is_asked_row(row: &Row<'_>) -> bool
+/// Returns whether a store could have answered the request of a row.
+pub fn is_asked_row(row: &Row<'_>) -> bool
     ensures { result ≡ is_asked_row (row_seen row.now) }
 {
     is_asked_reading(&row.recorded.reading)
 }
 
-fn is_hit(row: &Row<'_>) -> bool
+/// Returns whether a stored response answers the request of a row.
+pub fn is_hit(row: &Row<'_>) -> bool
     ensures { result ≡ is_hit (row_seen row.now) }
 {
     match &row.verdict {
@@ -73,8 +76,8 @@ fn push_first(
     Ok(())
 }
 
-// The sums of each url, and the index of the first row of each.
-fn urls_of(alloc: Global, rows: &[Row<'_>]) -> Result<(Counts, Vec<usize>), AllocError>
+/// Returns the sums of each url, and the index of the first row of each.
+pub fn urls_of(alloc: Global, rows: &[Row<'_>]) -> Result<(Counts, Vec<usize>), AllocError>
     ensures sums { IfOk result (λ urls.
         HoldsCounts (flat_map url_additions (map row_seen rows.now)) urls.0) }
     ensures firsts { IfOk result (λ urls. urls.1.items ≡ firsts (map row_seen rows.now)) }

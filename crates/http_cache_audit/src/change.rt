@@ -17,7 +17,7 @@ use std::alloc::{AllocError, Global};
 use thiserror::Error;
 
 /// A header of each recorded response whose url is of a pattern.
-#[derive(Debug, Drop)]
+#[derive(Drop)]
 pub struct Change {
     /// Which urls: `*` stands for any text.
     pub pattern: String,
@@ -160,7 +160,8 @@ fn changed_answer(answer: Answer, change: &Change) -> Result<Answer, AllocError>
     })
 }
 
-fn changed_reading(reading: Reading, change: &Change) -> Result<Reading, AllocError>
+/// Returns an entry with the change made in its response.
+pub fn changed_reading(reading: Reading, change: &Change) -> Result<Reading, AllocError>
     ensures { IfOk result (λ r. reading_seen r
         ≡ changed_reading (change_seen change.now) (reading_seen reading)) }
 {

@@ -26,8 +26,8 @@ use jiff::Timestamp;
 use std::alloc::{AllocError, Global};
 
 /// What a full response took, in bytes.
-#[derive(Clone, Copy, Debug, PartialEq, Eq)]
-pub(crate) struct Size {
+#[derive(Clone, Copy)]
+pub struct Size {
     /// All of it.
     pub bytes: u64,
     /// Its status line and headers.
@@ -35,8 +35,8 @@ pub(crate) struct Size {
 }
 
 /// What the recording as it is shows of the full response to a request.
-#[derive(Clone, Copy, Debug, PartialEq, Eq)]
-pub(crate) struct Known {
+#[derive(Clone, Copy)]
+pub struct Known {
     /// What it took, if it was sent in the recording.
     pub size: Option<Size>,
     /// The request is of the first load.
@@ -46,8 +46,8 @@ pub(crate) struct Known {
 }
 
 /// What a request costs over the network.
-#[derive(Clone, Copy, Debug, PartialEq, Eq)]
-pub(crate) struct Cost {
+#[derive(Clone, Copy)]
+pub struct Cost {
     /// In bytes, as far as they are known.
     pub bytes: u64,
     /// 1 if a 304 answers it.
@@ -58,7 +58,7 @@ pub(crate) struct Cost {
 
 /// The first load of a recording.
 #[derive(Clone, Copy)]
-pub(crate) struct FirstLoad<'a> {
+pub struct FirstLoad<'a> {
     /// Its page, if the recording lists pages.
     pub page: Option<&'a str>,
     /// When the first request of another page was sent.
@@ -137,8 +137,9 @@ fn other_sent_at(rows: &[Row<'_>], page: Option<&str>) -> Option<Timestamp>
     }
 }
 
+/// Returns the first load: the page of the first row that has one, and when another began.
 #[tactic(auto, unfolding(crate::specs::Cost::first_load))]
-fn first_load<'a>(rows: &'a [Row<'_>]) -> FirstLoad<'a>
+pub fn first_load<'a>(rows: &'a [Row<'_>]) -> FirstLoad<'a>
     ensures { first_seen result ≡ first_load (map row_seen rows.now) }
 {
     let page = first_page(rows);
@@ -159,9 +160,9 @@ fn is_before(at: Option<Timestamp>, ended: Option<Timestamp>) -> bool
     }
 }
 
-// Whether a request is of the first load: by its page, else by when it was sent.
+/// Returns whether a request is of the first load: by its page, else by when it was sent.
 #[tactic(auto, unfolding(crate::specs::Cost::is_of_first))]
-fn is_of_first(first: &FirstLoad<'_>, row: &Row<'_>) -> bool
+pub fn is_of_first(first: &FirstLoad<'_>, row: &Row<'_>) -> bool
     ensures { result ≡ is_of_first (first_seen first.now) (row_seen row.now) }
 {
     if has_page(row) {
@@ -171,8 +172,8 @@ fn is_of_first(first: &FirstLoad<'_>, row: &Row<'_>) -> bool
     }
 }
 
-// Whether an entry has a full response from the network.
-fn is_full(recorded: &Recorded) -> bool
+/// Returns whether an entry has a full response from the network.
+pub fn is_full(recorded: &Recorded) -> bool
     ensures { result ≡ is_full_reading (reading_seen recorded.now.reading) }
 {
     let Reading::Entry(entry) = &recorded.reading else {
@@ -193,7 +194,8 @@ fn size_of_used(recorded: &[Recorded], used: &Used) -> Option<Size>
     Some(Size { bytes, head })
 }
 
-fn used_in<'a>(row: &'a Row<'_>) -> Option<&'a Used>
+/// Returns the stored response that answers a request, or that the origin is asked about.
+pub fn used_in<'a>(row: &'a Row<'_>) -> Option<&'a Used>
     ensures { option_map (λ u. used_seen u.now) result ≡ used_in (row_seen row.now) }
 {
     row.verdict.as_ref()?.used.as_ref()
@@ -213,8 +215,8 @@ fn size_of(recorded: &[Recorded], row: &Row<'_>) -> Option<Size>
     size_of_used(recorded, used_in(row)?)
 }
 
-// Whether the origin sent a full response to a condition that it meets.
-fn ends_in_full(row: &Row<'_>) -> bool
+/// Returns whether the origin sent a full response to a condition that it meets.
+pub fn ends_in_full(row: &Row<'_>) -> bool
     ensures { result ≡ ends_in_full (row_seen row.now) }
 {
     match &row.verdict {
@@ -253,7 +255,7 @@ fn known_by(
 }
 
 /// Returns what the recording as it is shows of the full response to each request, by its rows.
-pub(crate) fn known_of(
+pub fn known_of(
     alloc: Global,
     recorded: &[Recorded],
     rows: &[Row<'_>],
@@ -270,7 +272,8 @@ pub(crate) fn known_of(
     Ok(all)
 }
 
-fn response_of(recorded: &Recorded) -> Option<&response::Parts>
+/// Returns the response of an entry, if it has one.
+pub fn response_of(recorded: &Recorded) -> Option<&response::Parts>
     ensures { option_map (λ r. response_seen r.now) result
         ≡ response_of (reading_seen recorded.now.reading) }
 {
@@ -386,10 +389,10 @@ fn cost_by(outcome: Outcome, is_confirmed: bool, size: Option<Size>) -> Cost
     }
 }
 
-// What a request costs: nothing where a stored response answers, a head where one is confirmed, else all
-// of the full response.
+/// Returns what a request costs: nothing where a stored response answers, a head where one is confirmed,
+/// else all of the full response.
 #[tactic(auto, unfolding(crate::specs::Cost::cost_of))]
-fn cost_of(recorded: &[Recorded], known: &Known, row: &Row<'_>) -> Cost
+pub fn cost_of(recorded: &[Recorded], known: &Known, row: &Row<'_>) -> Cost
     ensures { result ≡ cost_of (map recorded_seen recorded.now) known.now (row_seen row.now) }
 {
     let outcome = match &row.verdict {
@@ -410,7 +413,7 @@ fn load_name(is_first: bool) -> &'static str
 }
 
 /// Returns whether a store could have answered the request.
-pub(crate) fn is_asked_reading(reading: &Reading) -> bool
+pub fn is_asked_reading(reading: &Reading) -> bool
     ensures { result ≡ is_asked_reading (reading_seen reading.now) }
 {
     match reading {
@@ -445,7 +448,8 @@ fn add_cost(
     add_sums(counts, load_name(known.is_first), cost)
 }
 
-fn known_at(known: &[Known], index: usize) -> Option<Known>
+/// Returns what is known of the full response to the request of the row at an index.
+pub fn known_at(known: &[Known], index: usize) -> Option<Known>
     ensures { result ≡ slice_get known.now index }
 {
     known.get(index).copied()
@@ -468,7 +472,7 @@ fn add_cost_at(
 }
 
 /// Returns what the rows of a walk cost, by what is known of each.
-pub(crate) fn all_costs(
+pub fn all_costs(
     alloc: Global,
     recorded: &[Recorded],
     known: &[Known],

@@ -19,7 +19,7 @@ use std::collections::BTreeMap;
 
 /// The counts of an audit, by `group/name`.
 #[derive(Drop)]
-pub(crate) struct Counts {
+pub struct Counts {
     alloc: Global,
     pub by_label: BTreeMap<String, u64>,
 }
@@ -65,7 +65,8 @@ fn is_unasked(again: Option<Again>) -> bool
     matches!(again, Some(Again::Unasked))
 }
 
-pub(crate) fn is_asked(kind: Kind) -> bool
+/// Returns whether a store could have answered a request of a kind.
+pub fn is_asked(kind: Kind) -> bool
     ensures { result ≡ is_asked kind }
 {
     matches!(kind, Kind::Asked)
@@ -80,7 +81,7 @@ fn is_forced(row: &Row<'_>) -> bool
 
 impl Counts {
     /// Returns counts of nothing.
-    pub(crate) fn new(alloc: Global) -> Counts
+    pub fn new(alloc: Global) -> Counts
         ensures { HoldsCounts [] result }
     {
         Counts {
@@ -90,14 +91,14 @@ impl Counts {
     }
 
     /// Returns the count under a label.
-    pub(crate) fn total(&self, label: &str) -> u64
+    pub fn total(&self, label: &str) -> u64
         ensures { result ≡ total_in self.now label.now }
     {
         self.by_label.get(label).copied().unwrap_or(0)
     }
 
     /// Returns the count of a name in a group.
-    pub(crate) fn total_of(&self, group: &str, name: &str) -> Result<u64, AllocError>
+    pub fn total_of(&self, group: &str, name: &str) -> Result<u64, AllocError>
         ensures { IfOk result (λ n. n ≡ total_in self.now (label_of group.now name.now)) }
     {
         let label = label_of(self.alloc, group, name)?;
@@ -112,7 +113,7 @@ impl Counts {
     }
 
     /// Adds an amount to the count of a name in a group.
-    pub(crate) fn add(&mut self, group: &str, name: &str, amount: u64) -> Result<(), AllocError>
+    pub fn add(&mut self, group: &str, name: &str, amount: u64) -> Result<(), AllocError>
         ensures { OnOk result (CountsAlso ((label_of group.now name.now, amount) ∷ [])
             self.old self.new) }
     {
@@ -124,7 +125,7 @@ impl Counts {
 
     /// Adds an amount, if something holds.
     #[tactic(auto, using(crate::proofs::CountsLemmas::also_none))]
-    pub(crate) fn add_if(
+    pub fn add_if(
         &mut self,
         holds: bool,
         group: &str,
@@ -302,7 +303,7 @@ impl Counts {
 
     /// Returns whether the recording seems to be made with the browser's cache off, or by a hard reload: at
     /// least half of what a store could have answered says `no-cache`, or half of what is repeated.
-    pub(crate) fn is_noticed(&self) -> bool
+    pub fn is_noticed(&self) -> bool
         ensures { result ≡ is_noticed self.now }
     {
         let of_all = self.total("counts/no_cache");

@@ -2,24 +2,22 @@
 //! counts.
 #![tactic(auto)]
 
-mod again;
-mod assume;
+pub mod again;
+pub mod assume;
 pub mod by_url;
 pub mod change;
-mod cost;
-mod counts;
-pub mod error;
-mod lifetime;
+pub mod cost;
+pub mod counts;
+pub mod lifetime;
 pub mod lint;
-mod members;
-mod order;
+pub mod members;
+pub mod order;
 mod others;
-mod own;
+pub mod own;
 pub mod report;
-mod row;
-pub mod run;
+pub mod row;
 mod sources;
-mod stored;
-mod texts;
-mod walk;
+pub mod stored;
+pub mod texts;
+pub mod walk;
 pub mod whatif;

@@ -62,8 +62,8 @@ pub enum Finding {
     VaryUserAgent,
 }
 
-// All of them, in the order in which they are printed.
-fn findings() -> [Finding; 15]
+/// Returns all of them, in the order in which they are printed.
+pub fn findings() -> [Finding; 15]
     ensures { result ≡ findings }
 {
     [
@@ -86,9 +86,9 @@ fn findings() -> [Finding; 15]
 }
 
 impl Finding {
-    // The words for it.
+    /// Returns the words for it.
     #[tactic(auto, unfolding(crate::specs::Lint::words_of))]
-    fn words(self) -> &'static str
+    pub fn words(self) -> &'static str
         ensures { result.now ≡ words_of self }
     {
         match self {
@@ -111,8 +111,8 @@ impl Finding {
     }
 }
 
-// The directive of a piece has the name, which is in lower case.
-fn is_named(name: &str, piece: &str) -> bool
+/// Returns whether the directive of a piece has a name, which is in lower case.
+pub fn is_named(name: &str, piece: &str) -> bool
     ensures { lowercase name.now ≡ name.now → result ≡ is_named name.now piece.now }
 {
     is_same_name(split_piece(piece).0, name)
@@ -124,8 +124,8 @@ fn says_other(name: &str, one: &str, piece: &str) -> bool
     is_named(name, piece) && split_piece(one).1 != split_piece(piece).1
 }
 
-// The first piece of the Cache-Control lines whose directive has the name.
-pub(crate) fn first_named<'a>(headers: &'a HeaderMap, name: &str) -> Option<&'a str>
+/// Returns the first piece of the Cache-Control lines whose directive has a name, which is in lower case.
+pub fn first_named<'a>(headers: &'a HeaderMap, name: &str) -> Option<&'a str>
     ensures { lowercase name.now ≡ name.now
         → option_copied result ≡ first_named (headers_of headers.now) name.now }
 {
@@ -293,7 +293,8 @@ fn is_bare(headers: &HeaderMap) -> bool
     }
 }
 
-fn varies_by(headers: &HeaderMap, name: &str) -> bool
+/// Returns whether Vary has a name, which is in lower case.
+pub fn varies_by(headers: &HeaderMap, name: &str) -> bool
     ensures { lowercase name.now ≡ name.now → result ≡ varies_by name.now (headers_of headers.now) }
 {
     pieces_under(headers, VARY).any(|piece| is_same_name(piece, name))
@@ -306,9 +307,9 @@ fn lacks_cache_control(headers: &HeaderMap) -> bool
     !contains_key(headers, CACHE_CONTROL)
 }
 
-// Whether something looks wrong in a response that was received at a time.
+/// Returns whether something looks wrong in a response that was received at a time.
 #[tactic(auto, unfolding(crate::specs::Lint::holds))]
-fn holds(
+pub fn holds(
     alloc: Global,
     finding: Finding,
     headers: &HeaderMap,

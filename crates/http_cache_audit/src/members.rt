@@ -18,7 +18,7 @@ use http_cache_semantics::explain::Obstacles;
 use std::alloc::{AllocError, Global};
 
 /// The value of a member.
-#[derive(Debug, Drop)]
+#[derive(Drop)]
 pub enum Shown {
     /// A text.
     Text(String),
@@ -40,7 +40,7 @@ pub struct Members {
 
 impl Members {
     /// Returns no members.
-    pub(crate) fn new(alloc: Global) -> Members
+    pub fn new(alloc: Global) -> Members
         ensures { map member_seen result.all.items ≡ [] }
     {
         Members {
@@ -57,7 +57,7 @@ impl Members {
     }
 
     /// Adds a text.
-    pub(crate) fn text(&mut self, name: &'static str, text: &str) -> Result<(), AllocError>
+    pub fn text(&mut self, name: &'static str, text: &str) -> Result<(), AllocError>
         ensures { OnOk result (map member_seen self.new.all.items
             ≡ with_text name.now text.now (map member_seen self.old.all.items)) }
     {
@@ -77,7 +77,7 @@ impl Members {
     }
 
     /// Adds a number.
-    pub(crate) fn count(&mut self, name: &'static str, count: u64) -> Result<(), AllocError>
+    pub fn count(&mut self, name: &'static str, count: u64) -> Result<(), AllocError>
         ensures { OnOk result (map member_seen self.new.all.items
             ≡ with_count name.now count (map member_seen self.old.all.items)) }
     {
@@ -86,7 +86,7 @@ impl Members {
 
     /// Adds a number that isn't 0.
     #[tactic(auto, unfolding(crate::specs::Members::with_some_count))]
-    pub(crate) fn some_count(&mut self, name: &'static str, count: u64) -> Result<(), AllocError>
+    pub fn some_count(&mut self, name: &'static str, count: u64) -> Result<(), AllocError>
         ensures { OnOk result (map member_seen self.new.all.items
             ≡ with_some_count name.now count (map member_seen self.old.all.items)) }
     {
@@ -134,7 +134,7 @@ impl Members {
 
 /// Returns the word for what an entry is counted as.
 #[tactic(auto, unfolding(crate::specs::Members::kind_word))]
-pub(crate) fn kind_word(reading: &Reading) -> &'static str
+pub fn kind_word(reading: &Reading) -> &'static str
     ensures { result.now ≡ kind_word (reading_seen reading.now) }
 {
     let Reading::Entry(entry) = reading else {
@@ -152,7 +152,7 @@ pub(crate) fn kind_word(reading: &Reading) -> &'static str
 
 /// Returns the word for what a cache would have answered, or for the kind of what is counted apart.
 #[tactic(auto, unfolding(crate::specs::Members::verdict_word))]
-pub(crate) fn verdict_word(row: &Row<'_>) -> &'static str
+pub fn verdict_word(row: &Row<'_>) -> &'static str
     ensures { result.now ≡ verdict_word (row_seen row.now) }
 {
     let outcome = match &row.verdict {
@@ -253,8 +253,9 @@ fn reasons_by(
     Ok(all)
 }
 
+/// Returns why a response may not be stored, in words.
 #[tactic(auto, unfolding(crate::specs::Members::reasons))]
-fn reasons(
+pub fn reasons(
     alloc: Global,
     method: &str,
     status: u64,
@@ -383,7 +384,7 @@ fn add_kept(to: &mut Members, kept: &Kept) -> Result<(), AllocError>
 
 /// Adds what became of a response.
 #[tactic(auto, unfolding(crate::specs::Members::with_received))]
-pub(crate) fn add_received(
+pub fn add_received(
     to: &mut Members,
     printed: &Printed,
     received: &Received,
@@ -418,7 +419,7 @@ fn add_verdict(to: &mut Members, row: &Row<'_>, verdict: &Verdict) -> Result<(),
 }
 
 /// Returns the url up to its query, if that isn't printed.
-pub(crate) fn shown_url(url: &str, hides_query: bool) -> &str
+pub fn shown_url(url: &str, hides_query: bool) -> &str
     ensures { result.now ≡ shown_url hides_query url.now }
 {
     match url.split_once('?') {
@@ -449,7 +450,7 @@ fn add_entry(to: &mut Members, entry: &Entry) -> Result<(), AllocError>
 
 /// Adds what looks wrong in the response and what other caches say of it, or why the entry isn't audited.
 #[tactic(auto, unfolding(crate::specs::Members::with_reading))]
-pub(crate) fn add_reading(to: &mut Members, reading: &Reading) -> Result<(), AllocError>
+pub fn add_reading(to: &mut Members, reading: &Reading) -> Result<(), AllocError>
     ensures { OnOk result (map member_seen to.new.all.items
         ≡ with_reading (reading_seen reading.now) (map member_seen to.old.all.items)) }
 {
@@ -481,11 +482,7 @@ fn printed_members(alloc: Global, row: &Row<'_>, hides_query: bool) -> Result<Me
 
 /// Returns the members of a row, in the order of a line.
 #[tactic(auto, unfolding(crate::specs::Members::members_of))]
-pub(crate) fn members_of(
-    alloc: Global,
-    row: &Row<'_>,
-    hides_query: bool,
-) -> Result<Members, AllocError>
+pub fn members_of(alloc: Global, row: &Row<'_>, hides_query: bool) -> Result<Members, AllocError>
     ensures { IfOk result (λ to. map member_seen to.all.items
         ≡ members_of hides_query (row_seen row.now)) }
 {

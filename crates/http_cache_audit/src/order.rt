@@ -20,7 +20,7 @@ pub(crate) struct Sent<'a> {
 }
 
 /// Returns the target of what was recorded, by which it is compared to others.
-pub(crate) fn target_of(recorded: &Recorded) -> &str
+pub fn target_of(recorded: &Recorded) -> &str
     ensures { result.now ≡ target_of (recorded_seen recorded.now) }
 {
     match &recorded.printed.url {

@@ -20,7 +20,7 @@ use jiff::Timestamp;
 use std::alloc::{AllocError, Global};
 
 /// Returns the time that a Date header says, if it says one (RFC 7231, section 7.1.1.2).
-pub(crate) fn date_of(alloc: Global, headers: &HeaderMap) -> Result<Option<Timestamp>, AllocError>
+pub fn date_of(alloc: Global, headers: &HeaderMap) -> Result<Option<Timestamp>, AllocError>
     ensures { IfOk result (λ date. option_map (λ d. d.nanosecond) date
         ≡ date_in (headers_of headers.now)) }
 {

@@ -132,16 +132,24 @@ fn line_of(alloc: Global, members: &Members) -> Result<String, AllocError>
     Ok(line)
 }
 
-fn push_line(alloc: Global, out: &mut String, members: &Members) -> Result<(), AllocError>
+/// Adds a line of text, with `?` for each byte that isn't a blank or from `!` to `~`.
+pub fn push_printed(out: &mut String, line: &str) -> Result<(), AllocError>
     ensures { OnOk result (string_bytes out.new ≡ string_bytes out.old
-        ++ map printed_byte (line_text (map member_seen members.now.all.items)) ++ codes "\n") }
+        ++ map printed_byte line.now ++ codes "\n") }
 {
-    let line = line_of(alloc, members)?;
     let bytes = line.as_bytes();
     for b in bytes {
         out.push(char::from(printed_byte(*b)))?;
     }
     out.push_str("\n")
+}
+
+fn push_line(alloc: Global, out: &mut String, members: &Members) -> Result<(), AllocError>
+    ensures { OnOk result (string_bytes out.new ≡ string_bytes out.old
+        ++ map printed_byte (line_text (map member_seen members.now.all.items)) ++ codes "\n") }
+{
+    let line = line_of(alloc, members)?;
+    push_printed(out, line.as_str())
 }
 
 fn values_of(alloc: Global, texts: &[String]) -> Result<Vec<Value>, AllocError>
@@ -195,7 +203,7 @@ fn push_object(
 
 /// Writes members as a line, or as an object.
 #[tactic(auto, unfolding(crate::specs::Report::row_text))]
-pub(crate) fn push_members(
+pub fn push_members(
     alloc: Global,
     out: &mut String,
     members: &Members,
@@ -324,8 +332,9 @@ fn summary_of(
     Ok(all)
 }
 
+/// Adds what to do about a recording that seems to be made with the cache off, if it is one.
 #[tactic(auto, unfolding(crate::specs::Report::cache_off))]
-fn push_cache_off(out: &mut String, holds: bool) -> Result<(), AllocError>
+pub fn push_cache_off(out: &mut String, holds: bool) -> Result<(), AllocError>
     ensures { OnOk result (string_bytes out.new ≡ string_bytes out.old ++ given holds cache_off) }
 {
     if holds {
@@ -335,8 +344,9 @@ fn push_cache_off(out: &mut String, holds: bool) -> Result<(), AllocError>
     }
 }
 
+/// Adds what to do about a recording that shows no credentials, if it is one.
 #[tactic(auto, unfolding(crate::specs::Report::no_credentials))]
-fn push_no_credentials(out: &mut String, holds: bool) -> Result<(), AllocError>
+pub fn push_no_credentials(out: &mut String, holds: bool) -> Result<(), AllocError>
     ensures { OnOk result (string_bytes out.new ≡ string_bytes out.old
         ++ given holds no_credentials) }
 {
@@ -386,14 +396,15 @@ fn push_rows<'a>(
     Ok(())
 }
 
-fn any_credentials(recorded: &[Recorded]) -> bool
+/// Returns whether an entry has a header that an export leaves out if it is sanitized.
+pub fn any_credentials(recorded: &[Recorded]) -> bool
     ensures { result ≡ any_credentials (map recorded_seen recorded.now) }
 {
     recorded.iter().any(|one| has_credentials(one))
 }
 
 /// Returns a target where there is no entry.
-pub(crate) fn no_target(alloc: Global) -> Result<Uri, AllocError> {
+pub fn no_target(alloc: Global) -> Result<Uri, AllocError> {
     match Uri::from_str(alloc, "/") {
         Ok(target) => Ok(target),
         Err(_) => Err(AllocError),
@@ -402,8 +413,8 @@ pub(crate) fn no_target(alloc: Global) -> Result<Uri, AllocError> {
 
 /// Returns the text of the audit of a recording: a line for each entry in the order of the walk, one for
 /// each that isn't audited, then the counts by `group/name`, without those that are 0, and lines that
-/// begin with `noticed` where the recording itself misleads. With it comes how many repeated requests a stored
-/// response answers.
+/// begin with `noticed` where the recording itself misleads. With it comes how many repeated requests a
+/// stored response answers.
 ///
 /// # Errors
 ///

@@ -5,7 +5,7 @@ use http_cache_recording::Recorded;
 use http_cache_semantics::explain::Obstacles;
 
 /// One entry of a recording, with what a cache would have done.
-#[derive(Debug, Drop)]
+#[derive(Drop)]
 pub struct Row<'a> {
     /// Its index in the recording, from 0.
     pub index: usize,
@@ -24,7 +24,7 @@ pub struct Row<'a> {
 }
 
 /// What a cache would have done with a request and its response.
-#[derive(Debug, Drop)]
+#[derive(Drop)]
 pub struct Verdict {
     /// What it would have answered.
     pub outcome: Outcome,
@@ -45,7 +45,7 @@ pub struct Verdict {
 }
 
 /// What a cache would have answered.
-#[derive(Clone, Copy, Debug, PartialEq, Eq)]
+#[derive(Clone, Copy, PartialEq, Eq)]
 pub enum Outcome {
     /// No cache would have been asked: the entry is counted apart, by its kind.
     Apart,
@@ -62,7 +62,7 @@ pub enum Outcome {
 }
 
 /// What a request asks for beside its target.
-#[derive(Clone, Copy, Debug, PartialEq, Eq)]
+#[derive(Clone, Copy, PartialEq, Eq)]
 pub enum Demand {
     /// `no-cache` (RFC 7234, sections 5.2.1.4 and 5.4).
     NoCache,
@@ -73,7 +73,7 @@ pub enum Demand {
 }
 
 /// How long a stored response stays fresh.
-#[derive(Debug, Drop)]
+#[derive(Drop)]
 pub struct Lifetime {
     /// In whole seconds.
     pub seconds: u64,
@@ -84,7 +84,7 @@ pub struct Lifetime {
 }
 
 /// A stored response that answers a request, or that the origin is asked about.
-#[derive(Debug, Drop)]
+#[derive(Drop)]
 pub struct Used {
     /// The index of the entry with its full response, or of the one that showed it.
     pub from: usize,
@@ -101,7 +101,7 @@ pub struct Used {
 }
 
 /// A response that was stored, or by which a stored one was updated.
-#[derive(Debug, Drop)]
+#[derive(Drop)]
 pub struct Kept {
     /// Its lifetime.
     pub lifetime: Lifetime,
@@ -110,7 +110,7 @@ pub struct Kept {
 }
 
 /// What became of the response.
-#[derive(Debug, Drop)]
+#[derive(Drop)]
 pub enum Received {
     /// There was none: a stored response answered.
     Nothing,
@@ -135,7 +135,7 @@ pub enum Received {
 }
 
 /// What a full response to a question about a stored one means.
-#[derive(Clone, Copy, Debug, PartialEq, Eq)]
+#[derive(Clone, Copy, PartialEq, Eq)]
 pub enum Again {
     /// It is another one.
     Changed,

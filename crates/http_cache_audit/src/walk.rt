@@ -703,7 +703,7 @@ fn push_skipped<'a>(
 /// # Errors
 ///
 /// Returns an error only if there is no memory.
-pub(crate) fn rows_of<'a>(
+pub fn rows_of<'a>(
     alloc: Global,
     recorded: &'a [Recorded],
     target: &'a Uri,

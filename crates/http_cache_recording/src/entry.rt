@@ -3,7 +3,7 @@ use http::{HeaderMap, Method, response};
 use jiff::Timestamp;
 
 /// An entry of a recording: what may be printed of it, and what it holds or why it isn't audited.
-#[derive(Debug, Drop)]
+#[derive(Drop)]
 pub struct Recorded {
     /// What may be printed of it. Nothing in it is a credential.
     pub printed: Printed,
@@ -12,7 +12,7 @@ pub struct Recorded {
 }
 
 /// What may be printed of an entry.
-#[derive(Debug, Drop)]
+#[derive(Drop)]
 pub struct Printed {
     /// The method, if it is a text that isn't empty.
     pub method: Option<String>,
@@ -34,7 +34,7 @@ pub struct Printed {
 }
 
 /// What an entry holds, or why it isn't audited.
-#[derive(Debug, Drop)]
+#[derive(Drop)]
 pub enum Reading {
     /// A request, and the response to it.
     Entry(Entry),
@@ -43,7 +43,7 @@ pub enum Reading {
 }
 
 /// A request, and the response to it.
-#[derive(Debug, Drop)]
+#[derive(Drop)]
 pub struct Entry {
     /// What the request is counted as.
     pub kind: Kind,
@@ -62,7 +62,7 @@ pub struct Entry {
 }
 
 /// What a request is counted as: the first of these that applies.
-#[derive(Clone, Copy, Debug, PartialEq, Eq)]
+#[derive(Clone, Copy, PartialEq, Eq)]
 pub enum Kind {
     /// The browser redirected it by itself: the response has `Non-Authoritative-Reason`.
     Internal,
@@ -79,7 +79,7 @@ pub enum Kind {
 }
 
 /// The response to a request, and where it is from.
-#[derive(Debug, Drop)]
+#[derive(Drop)]
 pub enum Answer {
     /// No response, or a part of one.
     Failed,
@@ -90,7 +90,7 @@ pub enum Answer {
 }
 
 /// The body of a response, as it is recorded.
-#[derive(Debug, Drop)]
+#[derive(Drop)]
 pub struct Body {
     /// Its text, which isn't empty.
     pub text: String,

@@ -1,0 +1,4 @@
+-- The lemmas about a report.
+pub mod ReadLemmas
+pub mod ReportLemmas
+pub mod VisitLemmas

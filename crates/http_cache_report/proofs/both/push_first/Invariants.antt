@@ -1,0 +1,16 @@
+-- The lines of the keys so far are written.
+use Rattle.std.proofs.Common.{◌≡◌, ◌++◌, map, take, string_bytes}
+use Rattle.std.specs.List.{flat_map}
+use Rattle.http_cache_recording.specs.Entry.{recorded_seen}
+use Rattle.http_cache_audit.specs.Row.{row_seen}
+use Rattle.http_cache_report.specs.Words.{style_seen}
+use Rattle.http_cache_report.specs.Both.{both_at}
+use Rattle.http_cache_report.proofs.both.push_first.Given as goal
+
+abbrev pub invariant-loop-key : goal.invariant-loop-key
+invariant-loop-key l =
+    string_bytes l.out
+    ≡ string_bytes l.initial.out
+    ++ flat_map
+    (both_at (style_seen l.short) (map recorded_seen l.recorded) (map row_seen l.own) (map row_seen l.other) l.urls)
+    (take l.key-index l.order)

@@ -1,0 +1,12 @@
+-- What is known of the rows so far is listed.
+use Rattle.std.proofs.Common.{◌≡◌, map, take}
+use Rattle.std.specs.List.{flat_map, enumerate_from}
+use Rattle.http_cache_audit.specs.Row.{row_seen}
+use Rattle.http_cache_report.specs.Remedy.{remedy_seen}
+use Rattle.http_cache_report.specs.Picks.{known_at}
+use Rattle.http_cache_report.proofs.picks.known_after.Given as goal
+
+abbrev pub invariant-loop-index : goal.invariant-loop-index
+invariant-loop-index l =
+    l.all.items
+    ≡ flat_map (known_at (map remedy_seen l.remedies) l.known) (take l.index (enumerate_from 0 (map row_seen l.rows)))

@@ -1,0 +1,14 @@
+-- What the rows so far cost is counted.
+use Rattle.std.proofs.Common.{map, take}
+use Rattle.std.specs.List.{flat_map, enumerate_from}
+use Rattle.http_cache_recording.specs.Entry.{recorded_seen}
+use Rattle.http_cache_audit.specs.Row.{row_seen}
+use Rattle.http_cache_audit.specs.Counts.{HoldsCounts}
+use Rattle.http_cache_report.specs.Picks.{url_costs_at}
+use Rattle.http_cache_report.proofs.picks.url_costs.Given as goal
+
+abbrev pub invariant-loop-index : goal.invariant-loop-index
+invariant-loop-index l =
+    HoldsCounts
+    (flat_map (url_costs_at (map recorded_seen l.recorded) l.known) (take l.index (enumerate_from 0 (map row_seen l.rows))))
+    l.counts

@@ -1,0 +1,11 @@
+-- What is summed of the rows so far is counted.
+use Rattle.std.proofs.Common.{map, take}
+use Rattle.std.specs.List.{flat_map, enumerate_from}
+use Rattle.http_cache_audit.specs.Row.{row_seen}
+use Rattle.http_cache_audit.specs.Counts.{HoldsCounts}
+use Rattle.http_cache_report.specs.Urls.{sums_at}
+use Rattle.http_cache_report.proofs.urls.sums_of.Given as goal
+
+abbrev pub invariant-loop-index : goal.invariant-loop-index
+invariant-loop-index l =
+    HoldsCounts (flat_map (sums_at l.known) (take l.index (enumerate_from 0 (map row_seen l.rows)))) l.counts

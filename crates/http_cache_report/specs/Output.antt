@@ -1,0 +1,66 @@
+-- What is written for the bytes of a recording, and why nothing is.
+use Rattle.std.specs.Prelude.{◌≡◌, ◌<◌, ◌+◌, ℕ, List, [], ◌∷◌, Bool, true, false, length, take, ⊤, Option, option_map, IfSome}
+use Rattle.std.specs.List.{list_any}
+use Rattle.http_cache_recording.specs.Entry.{RecordedSeen, ReadingSeen, entry, skipped}
+use Rattle.http_cache_recording.specs.Recording.{IsRecording, IsCause}
+use Rattle.http_cache_report.specs.declared.error.AuditError.{AuditError}
+use Rattle.http_cache_report.specs.declared.error.AuditError.TheVariants.{NotReadable, TooLong, Recording, Memory, NotWritten}
+use Rattle.http_cache_audit.specs.declared.report.Hits.{Hits}
+use Rattle.http_cache_report.specs.declared.run.Ended.{Ended}
+use Rattle.http_cache_report.specs.declared.run.Form.{Form}
+use Rattle.http_cache_report.specs.declared.run.Form.TheVariants.{Report, All}
+use Rattle.http_cache_report.specs.Screen.{IsScreen}
+use Rattle.http_cache_audit.specs.Change.{ChangeSeen}
+use Rattle.http_cache_audit.specs.Report.{SettingsSeen, IsAudit}
+use Rattle.http_cache_audit.specs.WhatIf.{IsWhatIf}
+use Rattle.http_cache_audit.specs.ByUrl.{IsByUrl}
+
+-- how many bytes the longest recording has
+abbrev pub longest_recording : ℕ
+longest_recording = 1_073_741_824
+
+-- the front of what a reader has left that is read, one byte more than that
+abbrev pub front_of : Option (List ℕ) → Option (List ℕ)
+front_of known = option_map (take (longest_recording + 1)) known
+
+abbrev pub is_audited : ReadingSeen → Bool
+is_audited (entry e) = true
+is_audited (skipped reason) = false
+
+abbrev pub any_audited : List RecordedSeen → Bool
+any_audited rs = list_any (λ (r : RecordedSeen). is_audited r.reading) rs
+
+-- no hits are reported
+abbrev pub no_hits : Hits
+no_hits = record { fresh = 0; repeated = 0 }
+
+-- the text is of the urls of a recording, or of its audit
+abbrev pub IsOfAll : Bool → SettingsSeen → List RecordedSeen → Hits → List ℕ → Type 0
+IsOfAll true s rs hits text = IsByUrl s rs text × (hits ≡ no_hits)
+IsOfAll false s rs hits text = IsAudit s rs hits text
+
+-- the text is a report of a recording, or of all of it
+abbrev pub IsOfForm : Form → SettingsSeen → List RecordedSeen → Hits → List ℕ → Type 0
+IsOfForm Report s rs hits text = IsScreen s rs hits text
+IsOfForm All s rs hits text = IsOfAll s.by_url s rs hits text
+
+-- the text is of a recording, or of what changes spare
+abbrev pub IsPrinted : Form → SettingsSeen → List ChangeSeen → List RecordedSeen → Hits → List ℕ → Type 0
+IsPrinted form s [] rs hits text = IsOfForm form s rs hits text
+IsPrinted form s (c ∷ cs) rs hits text = IsWhatIf s (c ∷ cs) rs text × (hits ≡ no_hits)
+
+-- the bytes are a recording, the text is of that, and an entry was audited, or none was
+pub record IsAudited (form : Form) (s : SettingsSeen) (cs : List ChangeSeen) (ignores_no_cache : Bool)
+    (bytes : List ℕ) (ended : Ended) (text : List ℕ) : Type 0 where
+  pub recorded : List RecordedSeen
+  pub is_recording : IsRecording ignores_no_cache bytes recorded
+  pub is_printed : IsPrinted form s cs recorded ended.hits text
+  pub any : ended.audited ≡ any_audited recorded
+
+-- what an error says of what a reader has left, where that is known
+abbrev pub IsRefusal : Option (List ℕ) → AuditError → Type 0
+IsRefusal known NotReadable = ⊤
+IsRefusal known TooLong = IfSome known (λ bytes. longest_recording < length bytes)
+IsRefusal known (Recording cause) = IfSome known (λ bytes. IsCause bytes cause)
+IsRefusal known Memory = ⊤
+IsRefusal known NotWritten = ⊤

@@ -1,0 +1,293 @@
+//! What a browser's cache and a CDN's do with a url, where they differ.
+ghost use Rattle.std.specs.Prelude.{◌≡◌, ◌++◌, [], map, fold, IfOk, OnOk, string_bytes};
+ghost use Rattle.std.specs.List.{flat_map};
+ghost use Rattle.http_cache_semantics.specs.Options.{options_of};
+ghost use Rattle.http_cache_recording.specs.Entry.{recorded_seen, printed_seen};
+ghost use Rattle.http_cache_audit.specs.Row.{row_seen, kept_seen, received_seen};
+ghost use Rattle.http_cache_report.specs.Words.{style_seen, with_piece};
+ghost use Rattle.http_cache_report.specs.BySize.{IsOrder};
+ghost use Rattle.http_cache_report.specs.Both.{kept_text, obstacle_text, received_text, row_text, text_of, do_differ, differs};
+ghost use Rattle.http_cache_report.specs.Both.{differing, both_line, both_at, both_head, both_section, other_cache, IsBoth};
+
+use crate::by_size::{MOST, order_of, push_rest};
+use crate::numbers::duration;
+use crate::urls::Url;
+use crate::words::{UrlStyle, push_piece};
+use http::Uri;
+use http_cache_audit::members::reasons;
+use http_cache_audit::row::{Kept, Received, Row};
+use http_cache_audit::walk::rows_of;
+use http_cache_recording::{Printed, Recorded};
+use http_cache_semantics::CacheOptions;
+use http_cache_semantics::explain::Obstacles;
+use std::alloc::{AllocError, Global};
+
+// A lifetime, and what gives it.
+fn kept_text(alloc: Global, kept: &Kept) -> Result<String, AllocError>
+    ensures { IfOk result (λ text. string_bytes text ≡ kept_text (kept_seen kept.now)) }
+{
+    let (life, by) = (duration(alloc, kept.lifetime.seconds)?, kept.lifetime.by);
+    format!(in alloc; "{life} by {by}")
+}
+
+// Texts with a comma between them.
+fn joined(alloc: Global, texts: &[String]) -> Result<String, AllocError>
+    ensures { IfOk result (λ text. string_bytes text
+        ≡ fold with_piece [] (map string_bytes texts.now)) }
+{
+    let mut out = String::new(alloc);
+    for text in texts {
+        push_piece(&mut out, text.as_str())?;
+    }
+    Ok(out)
+}
+
+// Why a response isn't stored.
+fn obstacle_text(
+    alloc: Global,
+    printed: &Printed,
+    obstacles: &Obstacles,
+) -> Result<String, AllocError>
+    ensures { IfOk result (λ text. string_bytes text
+        ≡ obstacle_text (printed_seen printed.now) obstacles.now) }
+{
+    let method = printed.method.as_deref().unwrap_or("");
+    let reasons = reasons(alloc, method, printed.status, obstacles)?;
+    let words = joined(alloc, reasons.as_slice())?;
+    format!(in alloc; "not stored: {words}")
+}
+
+fn received_text(
+    alloc: Global,
+    printed: &Printed,
+    received: &Received,
+) -> Result<String, AllocError>
+    ensures { IfOk result (λ text. string_bytes text
+        ≡ received_text (printed_seen printed.now) (received_seen received.now)) }
+{
+    match received {
+        Received::Stored(kept) | Received::Updated(kept) | Received::UpdatedOther(kept) => {
+            kept_text(alloc, kept)
+        }
+        Received::NotStorable(obstacles) => obstacle_text(alloc, printed, obstacles),
+        _ => Ok(String::new(alloc)),
+    }
+}
+
+// What a cache does with the response of a row, or nothing if it received none.
+fn row_text(alloc: Global, row: &Row<'_>) -> Result<String, AllocError>
+    ensures { IfOk result (λ text. string_bytes text ≡ row_text (row_seen row.now)) }
+{
+    match &row.verdict {
+        Some(verdict) => received_text(alloc, &row.recorded.printed, &verdict.received),
+        None => Ok(String::new(alloc)),
+    }
+}
+
+fn text_of(alloc: Global, rows: &[Row<'_>], index: usize) -> Result<String, AllocError>
+    ensures { IfOk result (λ text. string_bytes text ≡ text_of (map row_seen rows.now) index) }
+{
+    match rows.get(index) {
+        Some(row) => row_text(alloc, row),
+        None => Ok(String::new(alloc)),
+    }
+}
+
+// Whether both say something, and not the same.
+fn do_differ(x: &str, y: &str) -> bool
+    ensures { result ≡ do_differ x.now y.now }
+{
+    !x.is_empty() && !y.is_empty() && x != y
+}
+
+fn differs(alloc: Global, own: &[Row<'_>], other: &[Row<'_>], url: &Url) -> Result<bool, AllocError>
+    ensures { IfOk result (λ holds. holds
+        ≡ differs (map row_seen own.now) (map row_seen other.now) url.now) }
+{
+    let (x, y) = (
+        text_of(alloc, own, url.row)?,
+        text_of(alloc, other, url.row)?,
+    );
+    Ok(do_differ(x.as_str(), y.as_str()))
+}
+
+// For each url, whether the caches differ.
+fn differing(
+    alloc: Global,
+    own: &[Row<'_>],
+    other: &[Row<'_>],
+    urls: &[Url],
+) -> Result<Vec<bool>, AllocError>
+    ensures { IfOk result (λ all. all.items
+        ≡ differing (map row_seen own.now) (map row_seen other.now) urls.now) }
+{
+    let mut all = Vec::with_capacity(alloc, urls.len())?;
+    for url in urls {
+        all.push(differs(alloc, own, other, url)?)?;
+    }
+    Ok(all)
+}
+
+fn both_line(
+    alloc: Global,
+    short: &UrlStyle<'_>,
+    recorded: &[Recorded],
+    own: &[Row<'_>],
+    other: &[Row<'_>],
+    url: &Url,
+) -> Result<String, AllocError>
+    ensures { IfOk result (λ text. string_bytes text ≡ both_line (style_seen short.now)
+        (map recorded_seen recorded.now) (map row_seen own.now) (map row_seen other.now) url.now) }
+{
+    let text = short.url_text(recorded, url.entry);
+    let (own, other) = (
+        text_of(alloc, own, url.row)?,
+        text_of(alloc, other, url.row)?,
+    );
+    format!(in alloc; "  {text:<34}{own:<26}{other}\n")
+}
+
+fn push_at(
+    alloc: Global,
+    out: &mut String,
+    short: &UrlStyle<'_>,
+    recorded: &[Recorded],
+    own: &[Row<'_>],
+    other: &[Row<'_>],
+    urls: &[Url],
+    key: (u64, usize),
+) -> Result<(), AllocError>
+    ensures { OnOk result (string_bytes out.new ≡ string_bytes out.old ++ both_at
+        (style_seen short.now) (map recorded_seen recorded.now) (map row_seen own.now)
+        (map row_seen other.now) urls.now key) }
+{
+    match urls.get(key.1) {
+        Some(url) => {
+            let line = both_line(alloc, short, recorded, own, other, url)?;
+            out.push_str(line.as_str())
+        }
+        None => Ok(()),
+    }
+}
+
+fn push_first(
+    alloc: Global,
+    out: &mut String,
+    short: &UrlStyle<'_>,
+    recorded: &[Recorded],
+    own: &[Row<'_>],
+    other: &[Row<'_>],
+    urls: &[Url],
+    order: &[(u64, usize)],
+) -> Result<(), AllocError>
+    ensures { OnOk result (string_bytes out.new ≡ string_bytes out.old ++ flat_map (both_at
+        (style_seen short.now) (map recorded_seen recorded.now) (map row_seen own.now)
+        (map row_seen other.now) urls.now) order.now) }
+{
+    for key in order {
+        push_at(alloc, out, short, recorded, own, other, urls, *key)?;
+    }
+    Ok(())
+}
+
+fn both_head(is_shared: bool) -> &'static str
+    ensures { result.now ≡ both_head is_shared }
+{
+    if is_shared {
+        "\nCDN AND BROWSER\n"
+    } else {
+        "\nBROWSER AND CDN\n"
+    }
+}
+
+// The section, if they differ.
+fn both_section(
+    alloc: Global,
+    short: &UrlStyle<'_>,
+    is_shared: bool,
+    recorded: &[Recorded],
+    own: &[Row<'_>],
+    other: &[Row<'_>],
+    urls: &[Url],
+    order: &[(u64, usize)],
+) -> Result<String, AllocError>
+    ensures { IfOk result (λ text. string_bytes text ≡ both_section (style_seen short.now) is_shared
+        (map recorded_seen recorded.now) (map row_seen own.now) (map row_seen other.now) urls.now
+        order.now) }
+{
+    let mut out = String::new(alloc);
+    if order.is_empty() {
+        return Ok(out);
+    }
+    let len = order.len().min(MOST);
+    out.push_str(both_head(is_shared))?;
+    push_first(
+        alloc,
+        &mut out,
+        short,
+        recorded,
+        own,
+        other,
+        urls,
+        &order[..len],
+    )?;
+    push_rest(&mut out, order.len().saturating_sub(MOST))?;
+    Ok(out)
+}
+
+fn differing_order(
+    alloc: Global,
+    recorded: &[Recorded],
+    own: &[Row<'_>],
+    other: &[Row<'_>],
+    urls: &[Url],
+) -> Result<Vec<(u64, usize)>, AllocError>
+    ensures { IfOk result (λ order. IsOrder (map recorded_seen recorded.now) urls.now
+        (differing (map row_seen own.now) (map row_seen other.now) urls.now) order.items) }
+{
+    let listed = differing(alloc, own, other, urls)?;
+    order_of(alloc, recorded, urls, listed.as_slice())
+}
+
+// The other kind of cache.
+fn other_cache(options: &CacheOptions) -> CacheOptions
+    ensures { options_of result ≡ other_cache (options_of options.now) }
+{
+    let mut other = *options;
+    other.shared = !other.shared;
+    other
+}
+
+/// Returns the section of where this cache and the other one differ: of twelve urls at most, those of which
+/// most bytes were sent.
+///
+/// # Errors
+///
+/// Returns an error only if there is no memory.
+pub fn both_text<'a>(
+    alloc: Global,
+    short: &UrlStyle<'_>,
+    recorded: &'a [Recorded],
+    target: &'a Uri,
+    options: CacheOptions,
+    urls: &[Url],
+) -> Result<String, AllocError>
+    ensures { IfOk result (λ text. IsBoth (style_seen short.now) (map recorded_seen recorded.now)
+        (options_of options) target.now urls.now (string_bytes text)) }
+{
+    let (is_shared, other) = (options.shared, other_cache(&options));
+    let own = rows_of(alloc, recorded, target, options)?;
+    let other = rows_of(alloc, recorded, target, other)?;
+    let (own, other) = (own.as_slice(), other.as_slice());
+    let order = differing_order(alloc, recorded, own, other, urls)?;
+    both_section(
+        alloc,
+        short,
+        is_shared,
+        recorded,
+        own,
+        other,
+        urls,
+        order.as_slice(),
+    )
+}

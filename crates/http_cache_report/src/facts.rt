@@ -1,0 +1,271 @@
+//! What a report knows of a recording, and of the same with what is advised.
+ghost use Rattle.std.specs.Prelude.{◌≡◌, ◌+◌, ◌/◌, nat_abs, ◌-ℤ◌, map, IfOk, option_map, string_bytes, length};
+ghost use Rattle.http_cache_semantics.specs.Options.{options_of};
+ghost use Rattle.http_cache_recording.specs.Entry.{recorded_seen};
+ghost use Rattle.http_cache_audit.specs.Row.{row_seen};
+ghost use Rattle.http_cache_report.specs.Remedy.{remedy_seen, remedied};
+ghost use Rattle.http_cache_report.specs.Visit.{span_seen};
+ghost use Rattle.http_cache_report.specs.Words.{host_of};
+ghost use Rattle.http_cache_report.specs.Top.{page_url};
+ghost use Rattle.http_cache_report.specs.Facts.{seconds_between, took, AreFacts, AreAlone, AreUrlCosts, known_repeat, repeats_after};
+ghost use Rattle.http_cache_report.specs.Facts.{AreCostsWith, IsAfter, AreRepeats, AreFactsBy};
+
+use crate::later::{Visits, visits_of};
+use crate::picks::{known_after, url_costs};
+use crate::queries::{bases_of, changing_of, text_at};
+use crate::remedy::{Remedy, is_still_in_full, remedied_all};
+use crate::top::{first_line, loads_of, page_url};
+use crate::urls::{Url, sums_of, urls_in};
+use crate::visit::{Repeat, Span, repeats_of, span_of};
+use crate::words::host_of;
+use http::Uri;
+use http_cache_audit::cost::{Known, known_of};
+use http_cache_audit::counts::Counts;
+use http_cache_audit::row::Row;
+use http_cache_audit::walk::rows_of;
+use http_cache_recording::Recorded;
+use http_cache_semantics::CacheOptions;
+use jiff::Timestamp;
+use std::alloc::{AllocError, Global};
+
+/// What is known of a recording.
+#[derive(Drop)]
+pub struct Facts {
+    /// The first line of its report.
+    pub line: String,
+    /// The host of its page.
+    pub host: String,
+    /// What is known of each row of its walk.
+    pub known: Vec<Known>,
+    /// The sums of its loads.
+    pub sums: Counts,
+    /// What the requests of each url cost.
+    pub costs: Counts,
+    /// Its urls.
+    pub urls: Vec<Url>,
+    /// The requests that a later visit makes once more.
+    pub repeats: Vec<Repeat>,
+    /// When the first load began, and when the recording ended.
+    pub span: Option<Span>,
+}
+
+/// What a recording costs if urls do as they are advised.
+#[derive(Drop)]
+pub struct After {
+    /// What the requests of each url cost if they only answer a 304 where that is advised.
+    pub alone: Counts,
+    /// What they cost if urls send all that is advised.
+    pub costs: Counts,
+    /// What later visits cost then.
+    pub visits: Visits,
+}
+
+fn seconds_between(a: Timestamp, b: Timestamp) -> u128
+    ensures { result ≡ seconds_between a.nanosecond b.nanosecond }
+{
+    ((a.as_nanosecond() - b.as_nanosecond()).unsigned_abs() + 500_000_000) / 1_000_000_000
+}
+
+fn took(span: &Option<Span>) -> u128
+    ensures { result ≡ took (option_map span_seen span.now) }
+{
+    match span {
+        Some(span) => seconds_between(span.ended, span.begun),
+        None => 0,
+    }
+}
+
+fn host_copy(alloc: Global, rows: &[Row<'_>], loads: &[usize]) -> Result<String, AllocError>
+    ensures { IfOk result (λ host. string_bytes host
+        ≡ host_of (page_url (map row_seen rows.now) loads.now)) }
+{
+    String::from_str(alloc, host_of(page_url(rows, loads)))
+}
+
+// The requests that a later visit makes once more, and how many urls there are with each base.
+fn repeats_by(
+    alloc: Global,
+    recorded: &[Recorded],
+    rows: &[Row<'_>],
+    known: &[Known],
+    urls: &[Url],
+) -> Result<(Vec<Repeat>, Counts), AllocError>
+    ensures { IfOk result (AreRepeats (map recorded_seen recorded.now) (map row_seen rows.now)
+        known.now urls.now) }
+{
+    let bases = bases_of(alloc, recorded, urls)?;
+    let changing = changing_of(alloc, &bases, recorded, rows)?;
+    let repeats = repeats_of(alloc, recorded, rows, known, changing.as_slice())?;
+    Ok((repeats, bases))
+}
+
+fn facts_by(
+    alloc: Global,
+    recorded: &[Recorded],
+    rows: &[Row<'_>],
+    is_shared: bool,
+) -> Result<Facts, AllocError>
+    ensures { IfOk result (AreFactsBy (map recorded_seen recorded.now) (map row_seen rows.now)
+        is_shared) }
+{
+    let known = known_of(alloc, recorded, rows)?;
+    let sums = sums_of(alloc, rows, known.as_slice())?;
+    let costs = url_costs(alloc, recorded, rows, known.as_slice())?;
+    let urls = urls_in(alloc, recorded, rows, known.as_slice())?;
+    let (repeats, _) = repeats_by(alloc, recorded, rows, known.as_slice(), urls.as_slice())?;
+    let span = span_of(recorded, rows);
+    let loads = loads_of(alloc, rows)?;
+    let line = first_line(alloc, rows, loads.as_slice(), took(&span), is_shared)?;
+    let host = host_copy(alloc, rows, loads.as_slice())?;
+    Ok(Facts {
+        line,
+        host,
+        known,
+        sums,
+        costs,
+        urls,
+        repeats,
+        span,
+    })
+}
+
+/// Returns what is known of a recording.
+///
+/// # Errors
+///
+/// Returns an error only if there is no memory.
+pub fn facts_of<'a>(
+    alloc: Global,
+    recorded: &'a [Recorded],
+    target: &'a Uri,
+    options: CacheOptions,
+) -> Result<Facts, AllocError>
+    ensures { IfOk result (AreFacts (map recorded_seen recorded.now) (options_of options)
+        target.now options.shared) }
+{
+    let is_shared = options.shared;
+    let rows = rows_of(alloc, recorded, target, options)?;
+    facts_by(alloc, recorded, rows.as_slice(), is_shared)
+}
+
+// What is known of each row if urls do as they are advised, and what they cost if they only answer a 304.
+fn alone_of(
+    alloc: Global,
+    recorded: &[Recorded],
+    target: &Uri,
+    options: &CacheOptions,
+    known: &[Known],
+    remedies: &[Remedy],
+) -> Result<(Vec<Known>, Counts), AllocError>
+    ensures { IfOk result (λ made. AreAlone (map recorded_seen recorded.now) (options_of options.now)
+        target.now (map remedy_seen remedies.now) known.now made.0.items made.1) }
+{
+    let rows = rows_of(alloc, recorded, target, *options)?;
+    let after = known_after(alloc, rows.as_slice(), known, remedies)?;
+    let costs = url_costs(alloc, recorded, rows.as_slice(), after.as_slice())?;
+    Ok((after, costs))
+}
+
+fn costs_of(
+    alloc: Global,
+    recorded: &[Recorded],
+    target: &Uri,
+    options: &CacheOptions,
+    known: &[Known],
+) -> Result<Counts, AllocError>
+    ensures { IfOk result (AreUrlCosts (map recorded_seen recorded.now) (options_of options.now)
+        target.now known.now) }
+{
+    let rows = rows_of(alloc, recorded, target, *options)?;
+    url_costs(alloc, recorded, rows.as_slice(), known)
+}
+
+fn known_repeat(recorded: &[Recorded], remedies: &[Remedy], repeat: &Repeat) -> Repeat
+    ensures { result ≡ known_repeat (map recorded_seen recorded.now) (map remedy_seen remedies.now)
+        repeat.now }
+{
+    let url = text_at(recorded, repeat.entry);
+    let in_full = is_still_in_full(remedies, url, repeat.known.in_full);
+    Repeat {
+        known: Known {
+            in_full,
+            ..repeat.known
+        },
+        ..*repeat
+    }
+}
+
+// What is repeated, if urls do as they are advised.
+fn repeats_after(
+    alloc: Global,
+    recorded: &[Recorded],
+    remedies: &[Remedy],
+    repeats: &[Repeat],
+) -> Result<Vec<Repeat>, AllocError>
+    ensures { IfOk result (λ all. all.items ≡ repeats_after (map recorded_seen recorded.now)
+        (map remedy_seen remedies.now) repeats.now) }
+{
+    let mut all = Vec::with_capacity(alloc, repeats.len())?;
+    for repeat in repeats {
+        all.push(known_repeat(recorded, remedies, repeat))?;
+    }
+    Ok(all)
+}
+
+// What a recording costs with what is advised.
+fn costs_with(
+    alloc: Global,
+    recorded: Vec<Recorded>,
+    target: &Uri,
+    options: &CacheOptions,
+    known: &[Known],
+    repeats: &[Repeat],
+    span: &Span,
+) -> Result<(Counts, Visits), AllocError>
+    ensures { IfOk result (AreCostsWith (map recorded_seen recorded.items) (options_of options.now)
+        target.now known.now repeats.now (span_seen span.now)) }
+{
+    let mut recorded = recorded;
+    let costs = costs_of(alloc, recorded.as_slice(), target, options, known)?;
+    let visits = visits_of(alloc, &mut recorded, repeats, *span, target, *options)?;
+    Ok((costs, visits))
+}
+
+/// Returns what a recording costs if urls do as they are advised.
+///
+/// # Errors
+///
+/// Returns an error only if there is no memory.
+pub fn after_of(
+    alloc: Global,
+    recorded: Vec<Recorded>,
+    target: &Uri,
+    options: &CacheOptions,
+    remedies: &[Remedy],
+    facts: &Facts,
+    span: &Span,
+) -> Result<After, AllocError>
+    ensures { IfOk result (IsAfter (map recorded_seen recorded.items) (options_of options.now)
+        target.now (map remedy_seen remedies.now) facts.now.known.items facts.now.repeats.items
+        (span_seen span.now)) }
+{
+    let known = facts.known.as_slice();
+    let repeats = facts.repeats.as_slice();
+    let (after, alone) = alone_of(alloc, recorded.as_slice(), target, options, known, remedies)?;
+    let repeats = repeats_after(alloc, recorded.as_slice(), remedies, repeats)?;
+    let recorded = remedied_all(alloc, recorded, remedies)?;
+    let (costs, visits) = costs_with(
+        alloc,
+        recorded,
+        target,
+        options,
+        after.as_slice(),
+        repeats.as_slice(),
+        span,
+    )?;
+    Ok(After {
+        alone,
+        costs,
+        visits,
+    })
+}

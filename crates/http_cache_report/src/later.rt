@@ -1,0 +1,566 @@
+//! Later visits: what each costs, and which urls it asks for.
+ghost use Rattle.std.specs.Prelude.{◌≡◌, ◌++◌, ◌^◌, ◌-◌, map, fold, codes, IfOk, OnOk, string_bytes};
+ghost use Rattle.std.specs.List.{flat_map};
+ghost use Rattle.http_cache_semantics.specs.Options.{options_of};
+ghost use Rattle.http_cache_recording.specs.Entry.{recorded_seen};
+ghost use Rattle.http_cache_audit.specs.Counts.{CountsAlso, HoldsCounts, when, label_of};
+ghost use Rattle.http_cache_report.specs.Visit.{span_seen};
+ghost use Rattle.http_cache_report.specs.Words.{style_seen};
+ghost use Rattle.http_cache_report.specs.Later.{AreVisits, IsLater, is_again, is_confirmed, act, asks, any_asks, acts_text};
+ghost use Rattle.http_cache_report.specs.Later.{sum_in, unknown_text, total_text, totals_text, status_at, size_at, is_given};
+ghost use Rattle.http_cache_report.specs.Later.{is_picked, is_asked_later, is_listed, listed_of, act_on, visit_text, guess_in, guess_of, confirms};
+ghost use Rattle.http_cache_report.specs.Later.{guess_sums, guess_by, guess_additions, least_guess, most_guess, guess_sum, guess_cell};
+ghost use Rattle.http_cache_report.specs.Later.{guess_cells, guess_bytes, guess_range, guess_head, guess_text, confirm_sums, status_in, AddsGuesses};
+
+use crate::advice::control_of;
+use crate::numbers::{duration, kilobytes, rounded};
+use crate::picks::{Pick, advice_for};
+use crate::queries::text_at;
+use crate::urls::{Life, Url};
+use crate::visit::{Repeat, Span, visit};
+use crate::words::{UrlStyle, life_text};
+use http::Uri;
+use http_cache_audit::cost::response_of;
+use http_cache_audit::counts::Counts;
+use http_cache_recording::Recorded;
+use http_cache_semantics::CacheOptions;
+use std::alloc::{AllocError, Global};
+use std::fmt::Write;
+
+/// What a visit costs an hour, a day, a week and thirty days after the recording.
+#[derive(Drop)]
+pub struct Visits {
+    /// An hour later.
+    pub hour: Counts,
+    /// A day later.
+    pub day: Counts,
+    /// A week later.
+    pub week: Counts,
+    /// Thirty days later.
+    pub month: Counts,
+}
+
+// What a visit costs so many seconds after the recording.
+fn visit_after(
+    alloc: Global,
+    recorded: &mut Vec<Recorded>,
+    repeats: &[Repeat],
+    span: &Span,
+    delay: u64,
+    target: &Uri,
+    options: &CacheOptions,
+) -> Result<Counts, AllocError>
+    ensures visit { IfOk result (IsLater (map recorded_seen recorded.old.items) repeats.now
+        (span_seen span.now) (options_of options.now) target.now delay) }
+    ensures kept { recorded.new.items ≡ recorded.old.items }
+{
+    let (span, options) = (*span, *options);
+    visit(alloc, recorded, repeats, span.shift(delay), target, options)
+}
+
+/// Returns what visits cost that make these requests an hour, a day, a week and thirty days after the
+/// recording. That is the same afterwards.
+///
+/// # Errors
+///
+/// Returns an error only if there is no memory.
+pub fn visits_of(
+    alloc: Global,
+    recorded: &mut Vec<Recorded>,
+    repeats: &[Repeat],
+    span: Span,
+    target: &Uri,
+    options: CacheOptions,
+) -> Result<Visits, AllocError>
+    ensures visits { IfOk result (AreVisits (map recorded_seen recorded.old.items) repeats.now
+        (span_seen span) (options_of options) target.now) }
+    ensures kept { recorded.new.items ≡ recorded.old.items }
+{
+    let (span, options) = (&span, &options);
+    let hour = visit_after(alloc, recorded, repeats, span, 3_600, target, options)?;
+    let day = visit_after(alloc, recorded, repeats, span, 86_400, target, options)?;
+    let week = visit_after(alloc, recorded, repeats, span, 604_800, target, options)?;
+    let month = visit_after(alloc, recorded, repeats, span, 2_592_000, target, options)?;
+    Ok(Visits {
+        hour,
+        day,
+        week,
+        month,
+    })
+}
+
+// Whether the full response of a url is sent again.
+fn is_again(visit: &Counts, url: &str) -> Result<bool, AllocError>
+    ensures { IfOk result (λ holds. holds ≡ is_again visit.now url.now) }
+{
+    Ok(visit.total_of("again", url)? > 0)
+}
+
+// Whether a 304 confirms what is stored for a url.
+fn is_confirmed(visit: &Counts, url: &str) -> Result<bool, AllocError>
+    ensures { IfOk result (λ holds. holds ≡ is_confirmed visit.now url.now) }
+{
+    Ok(visit.total_of("confirmed", url)? > 0)
+}
+
+// What a visit does with a url, in a word.
+fn act(visit: &Counts, url: &str) -> Result<&'static str, AllocError>
+    ensures { IfOk result (λ word. word.now ≡ act visit.now url.now) }
+{
+    let (again, confirmed) = (is_again(visit, url)?, is_confirmed(visit, url)?);
+    Ok(if again {
+        "again"
+    } else if confirmed {
+        "304"
+    } else {
+        "-"
+    })
+}
+
+fn asks(visit: &Counts, url: &str) -> Result<bool, AllocError>
+    ensures { IfOk result (λ holds. holds ≡ asks visit.now url.now) }
+{
+    Ok(is_again(visit, url)? || is_confirmed(visit, url)?)
+}
+
+/// Returns whether one of the visits asks for a url.
+pub fn any_asks(visits: &Visits, url: &str) -> Result<bool, AllocError>
+    ensures { IfOk result (λ holds. holds ≡ any_asks visits.now url.now) }
+{
+    Ok(
+        asks(&visits.hour, url)?
+            || asks(&visits.day, url)?
+            || asks(&visits.week, url)?
+            || asks(&visits.month, url)?,
+    )
+}
+
+// What the visits do with a url, in columns.
+fn acts_text(alloc: Global, visits: &Visits, url: &str) -> Result<String, AllocError>
+    ensures { IfOk result (λ text. string_bytes text ≡ acts_text visits.now url.now) }
+{
+    let hour = act(&visits.hour, url)?;
+    let day = act(&visits.day, url)?;
+    let week = act(&visits.week, url)?;
+    let month = act(&visits.month, url)?;
+    format!(in alloc; "{hour:<6}{day:<6}{week:<6}{month:<6}")
+}
+
+fn sum_in(visit: &Counts, name: &str) -> Result<u64, AllocError>
+    ensures { IfOk result (λ n. n ≡ sum_in visit.now name.now) }
+{
+    visit.total_of("visit", name)
+}
+
+fn push_unknown(out: &mut String, unknown: u64) -> Result<(), AllocError>
+    ensures { OnOk result (string_bytes out.new ≡ string_bytes out.old ++ unknown_text unknown) }
+{
+    if unknown > 0 {
+        write!(out, " and {unknown} unknown")
+    } else {
+        Ok(())
+    }
+}
+
+// Adds what the whole page costs at a visit: kilobytes, answers 304, and answers of unknown size.
+fn push_total(out: &mut String, visit: &Counts) -> Result<(), AllocError>
+    ensures { OnOk result (string_bytes out.new ≡ string_bytes out.old ++ total_text visit.now) }
+{
+    let bytes = rounded(sum_in(visit, "bytes")?, 1_000);
+    let confirmed = sum_in(visit, "confirmed")?;
+    let unknown = sum_in(visit, "unknown")?;
+    write!(out, "  {bytes} kB + {confirmed}")?;
+    push_unknown(out, unknown)
+}
+
+/// Adds what the whole page costs at each visit: kilobytes, answers 304, and answers of unknown size.
+///
+/// # Errors
+///
+/// Returns an error only if there is no memory.
+pub fn push_totals(out: &mut String, visits: &Visits) -> Result<(), AllocError>
+    ensures { OnOk result (string_bytes out.new ≡ string_bytes out.old ++ totals_text visits.now) }
+{
+    push_total(out, &visits.hour)?;
+    push_total(out, &visits.day)?;
+    push_total(out, &visits.week)?;
+    push_total(out, &visits.month)?;
+    out.push_str("\n")
+}
+
+fn status_in(recorded: &Recorded) -> u16
+    ensures { result ≡ status_in (recorded_seen recorded.now) }
+{
+    match response_of(recorded) {
+        Some(response) => response.status.as_u16(),
+        None => 0,
+    }
+}
+
+/// Returns the status of an entry, or 0.
+pub fn status_at(recorded: &[Recorded], index: usize) -> u16
+    ensures { result ≡ status_at (map recorded_seen recorded.now) index }
+{
+    match recorded.get(index) {
+        Some(one) => status_in(one),
+        None => 0,
+    }
+}
+
+/// Returns how many bytes were sent for an entry.
+pub fn size_at(recorded: &[Recorded], index: usize) -> u64
+    ensures { result ≡ size_at (map recorded_seen recorded.now) index }
+{
+    match recorded.get(index) {
+        Some(one) => one.printed.sent,
+        None => 0,
+    }
+}
+
+fn is_given(life: Life) -> bool
+    ensures { result ≡ is_given life }
+{
+    matches!(life, Life::Given(_))
+}
+
+// Whether a url is among those to change first.
+fn is_picked(picks: &[Pick], url: &Url) -> bool
+    ensures { result ≡ is_picked picks.now url.now }
+{
+    picks.iter().any(|pick| pick.entry == url.entry)
+}
+
+// Whether a url of the first load says how long it stays fresh, and a visit asks for it.
+fn is_asked_later(recorded: &[Recorded], visits: &Visits, url: &Url) -> Result<bool, AllocError>
+    ensures { IfOk result (λ holds. holds
+        ≡ is_asked_later (map recorded_seen recorded.now) visits.now url.now) }
+{
+    let asked = any_asks(visits, text_at(recorded, url.entry))?;
+    Ok(url.known.is_first && is_given(url.life) && asked)
+}
+
+// Whether a later visit asks for a url that isn't changed first, and isn't small, or fails.
+fn is_listed(
+    recorded: &[Recorded],
+    visits: &Visits,
+    picks: &[Pick],
+    least: u64,
+    url: &Url,
+) -> Result<bool, AllocError>
+    ensures { IfOk result (λ holds. holds
+        ≡ is_listed (map recorded_seen recorded.now) visits.now picks.now least url.now) }
+{
+    let asked = is_asked_later(recorded, visits, url)?;
+    Ok(
+        asked
+            && !is_picked(picks, url)
+            && (status_at(recorded, url.full) >= 400 || size_at(recorded, url.full) >= least),
+    )
+}
+
+/// Returns for each url whether it is listed: a later visit asks for it, it isn't changed first, and it isn't
+/// small, or fails.
+///
+/// # Errors
+///
+/// Returns an error only if there is no memory.
+pub fn listed_of(
+    alloc: Global,
+    recorded: &[Recorded],
+    visits: &Visits,
+    picks: &[Pick],
+    least: u64,
+    urls: &[Url],
+) -> Result<Vec<bool>, AllocError>
+    ensures { IfOk result (λ all. all.items
+        ≡ listed_of (map recorded_seen recorded.now) visits.now picks.now least urls.now) }
+{
+    let mut all = Vec::with_capacity(alloc, urls.len())?;
+    for url in urls {
+        all.push(is_listed(recorded, visits, picks, least, url)?)?;
+    }
+    Ok(all)
+}
+
+// What to do about a url.
+fn act_on(recorded: &[Recorded], url: &Url) -> &'static str
+    ensures { result.now ≡ act_on (map recorded_seen recorded.now) url.now }
+{
+    if status_at(recorded, url.full) >= 400 {
+        return "fix the link";
+    }
+    match advice_for(recorded, url) {
+        Some(advice) => control_of(advice),
+        None => "",
+    }
+}
+
+fn visit_text(
+    alloc: Global,
+    short: &UrlStyle<'_>,
+    recorded: &[Recorded],
+    visits: &Visits,
+    url: &Url,
+) -> Result<String, AllocError>
+    ensures { IfOk result (λ text. string_bytes text ≡ visit_text (style_seen short.now)
+        (map recorded_seen recorded.now) visits.now url.now) }
+{
+    let text = short.url_text(recorded, url.entry);
+    let size = kilobytes(alloc, size_at(recorded, url.full))?;
+    let life = life_text(alloc, url.life)?;
+    let acts = acts_text(alloc, visits, text_at(recorded, url.entry))?;
+    let act = act_on(recorded, url);
+    format!(in alloc; "  {text:<34}{size:>9}  {life:<11}{acts}{act}\n")
+}
+
+/// Adds the line of a url that later visits ask for.
+///
+/// # Errors
+///
+/// Returns an error only if there is no memory.
+pub fn push_visit_text(
+    alloc: Global,
+    out: &mut String,
+    short: &UrlStyle<'_>,
+    recorded: &[Recorded],
+    visits: &Visits,
+    url: &Url,
+) -> Result<(), AllocError>
+    ensures { OnOk result (string_bytes out.new ≡ string_bytes out.old
+        ++ visit_text (style_seen short.now) (map recorded_seen recorded.now) visits.now url.now) }
+{
+    let text = visit_text(alloc, short, recorded, visits, url)?;
+    out.push_str(text.as_str())
+}
+
+fn guess_in(life: Life) -> Option<u64>
+    ensures { result ≡ guess_in life }
+{
+    match life {
+        Life::Guessed(seconds) => Some(seconds),
+        _ => None,
+    }
+}
+
+// The guess for a url of the first load that is no failure.
+fn guess_of(recorded: &[Recorded], url: &Url) -> Option<u64>
+    ensures { result ≡ guess_of (map recorded_seen recorded.now) url.now }
+{
+    if url.known.is_first && status_at(recorded, url.full) < 400 {
+        guess_in(url.life)
+    } else {
+        None
+    }
+}
+
+fn confirms(visit: &Counts, url: &str) -> Result<bool, AllocError>
+    ensures { IfOk result (λ holds. holds ≡ confirms visit.now url.now) }
+{
+    let (again, confirmed) = (is_again(visit, url)?, is_confirmed(visit, url)?);
+    Ok(!again && confirmed)
+}
+
+fn add_confirms(sums: &mut Counts, name: &str, visit: &Counts, url: &str) -> Result<(), AllocError>
+    ensures { OnOk result (CountsAlso (when (confirms visit.now url.now)
+        (label_of (codes "guess") name.now, 1)) sums.old sums.new) }
+{
+    let holds = confirms(visit, url)?;
+    sums.add_if(holds, "guess", name, 1)
+}
+
+fn add_all_confirms(sums: &mut Counts, visits: &Visits, url: &str) -> Result<(), AllocError>
+    ensures { OnOk result (CountsAlso (confirm_sums visits.now url.now) sums.old sums.new) }
+{
+    add_confirms(sums, "hour", &visits.hour, url)?;
+    add_confirms(sums, "day", &visits.day, url)?;
+    add_confirms(sums, "week", &visits.week, url)?;
+    add_confirms(sums, "month", &visits.month, url)?;
+    Ok(())
+}
+
+fn add_guess_sums(
+    sums: &mut Counts,
+    visits: &Visits,
+    url: &str,
+    bytes: u64,
+) -> Result<(), AllocError>
+    ensures { OnOk result (CountsAlso (guess_sums visits.now url.now bytes) sums.old sums.new) }
+{
+    sums.add("guess", "urls", 1)?;
+    sums.add("guess", "bytes", bytes)?;
+    add_all_confirms(sums, visits, url)?;
+    Ok(())
+}
+
+#[tactic(auto, using(http_cache_audit::proofs::CountsLemmas::also_none))]
+fn add_guess_by(
+    sums: &mut Counts,
+    visits: &Visits,
+    url: &str,
+    bytes: u64,
+    guess: Option<u64>,
+) -> Result<(), AllocError>
+    ensures { OnOk result (CountsAlso (guess_by visits.now url.now bytes guess)
+        sums.old sums.new) }
+{
+    match guess {
+        Some(_) => add_guess_sums(sums, visits, url, bytes),
+        None => Ok(()),
+    }
+}
+
+fn add_guess(
+    sums: &mut Counts,
+    recorded: &[Recorded],
+    visits: &Visits,
+    url: &Url,
+) -> Result<(), AllocError>
+    ensures { OnOk result (CountsAlso (guess_additions (map recorded_seen recorded.now) visits.now
+        url.now) sums.old sums.new) }
+{
+    let (text, bytes) = (text_at(recorded, url.entry), size_at(recorded, url.full));
+    let guess = guess_of(recorded, url);
+    add_guess_by(sums, visits, text, bytes, guess)?;
+    Ok(())
+}
+
+// The sums of the urls that say no lifetime.
+fn guess_counts(
+    alloc: Global,
+    recorded: &[Recorded],
+    visits: &Visits,
+    urls: &[Url],
+) -> Result<Counts, AllocError>
+    ensures { IfOk result (HoldsCounts (flat_map
+        (guess_additions (map recorded_seen recorded.now) visits.now) urls.now)) }
+{
+    let mut sums = Counts::new(alloc);
+    for url in urls {
+        add_guess(&mut sums, recorded, visits, url)?;
+    }
+    Ok(sums)
+}
+
+fn least_guess(recorded: &[Recorded], least: u64, url: &Url) -> u64
+    ensures { result ≡ least_guess (map recorded_seen recorded.now) least url.now }
+{
+    match guess_of(recorded, url) {
+        Some(seconds) => least.min(seconds),
+        None => least,
+    }
+}
+
+fn most_guess(recorded: &[Recorded], most: u64, url: &Url) -> u64
+    ensures { result ≡ most_guess (map recorded_seen recorded.now) most url.now }
+{
+    match guess_of(recorded, url) {
+        Some(seconds) => most.max(seconds),
+        None => most,
+    }
+}
+
+fn least_of(recorded: &[Recorded], urls: &[Url]) -> u64
+    ensures { result ≡ fold (least_guess (map recorded_seen recorded.now)) (2 ^ 64 - 1) urls.now }
+{
+    let mut least = u64::MAX;
+    for url in urls {
+        least = least_guess(recorded, least, url);
+    }
+    least
+}
+
+fn most_of(recorded: &[Recorded], urls: &[Url]) -> u64
+    ensures { result ≡ fold (most_guess (map recorded_seen recorded.now)) 0 urls.now }
+{
+    let mut most = 0;
+    for url in urls {
+        most = most_guess(recorded, most, url);
+    }
+    most
+}
+
+fn guess_sum(sums: &Counts, name: &str) -> Result<u64, AllocError>
+    ensures { IfOk result (λ n. n ≡ guess_sum sums.now name.now) }
+{
+    sums.total_of("guess", name)
+}
+
+fn push_cell(out: &mut String, sums: &Counts, name: &str) -> Result<(), AllocError>
+    ensures { OnOk result (string_bytes out.new ≡ string_bytes out.old
+        ++ guess_cell sums.now name.now) }
+{
+    let count = guess_sum(sums, name)?;
+    write!(out, "{count:<6}")
+}
+
+fn push_cells(out: &mut String, sums: &Counts) -> Result<(), AllocError>
+    ensures { OnOk result (string_bytes out.new ≡ string_bytes out.old ++ guess_cells sums.now) }
+{
+    push_cell(out, sums, "hour")?;
+    push_cell(out, sums, "day")?;
+    push_cell(out, sums, "week")?;
+    push_cell(out, sums, "month")
+}
+
+fn guess_bytes(alloc: Global, sums: &Counts) -> Result<String, AllocError>
+    ensures { IfOk result (λ text. string_bytes text ≡ guess_bytes sums.now) }
+{
+    let bytes = guess_sum(sums, "bytes")?;
+    kilobytes(alloc, bytes)
+}
+
+fn guess_range(alloc: Global, least: u64, most: u64) -> Result<String, AllocError>
+    ensures { IfOk result (λ text. string_bytes text ≡ guess_range least most) }
+{
+    let (least, most) = (duration(alloc, least)?, duration(alloc, most)?);
+    format!(in alloc; "{least} to {most}")
+}
+
+fn guess_head(alloc: Global, sums: &Counts, least: u64, most: u64) -> Result<String, AllocError>
+    ensures { IfOk result (λ text. string_bytes text ≡ guess_head sums.now least most) }
+{
+    let urls = guess_sum(sums, "urls")?;
+    let bytes = guess_bytes(alloc, sums)?;
+    let range = guess_range(alloc, least, most)?;
+    format!(in alloc; "  {urls} that say no lifetime, {bytes}, guessed as {range}; by a 304: ")
+}
+
+fn push_guess_text(
+    alloc: Global,
+    out: &mut String,
+    sums: &Counts,
+    least: u64,
+    most: u64,
+) -> Result<(), AllocError>
+    ensures { OnOk result (string_bytes out.new ≡ string_bytes out.old
+        ++ guess_text sums.now least most) }
+{
+    if guess_sum(sums, "urls")? == 0 {
+        return Ok(());
+    }
+    let head = guess_head(alloc, sums, least, most)?;
+    out.push_str(head.as_str())?;
+    push_cells(out, sums)?;
+    out.push_str("say max-age\n")
+}
+
+/// Adds the line of the urls that say no lifetime, if there are any.
+///
+/// # Errors
+///
+/// Returns an error only if there is no memory.
+pub fn push_guesses(
+    alloc: Global,
+    out: &mut String,
+    recorded: &[Recorded],
+    visits: &Visits,
+    urls: &[Url],
+) -> Result<(), AllocError>
+    ensures { OnOk result (AddsGuesses (map recorded_seen recorded.now) visits.now urls.now
+        (string_bytes out.old) (string_bytes out.new)) }
+{
+    let sums = guess_counts(alloc, recorded, visits, urls)?;
+    let (least, most) = (least_of(recorded, urls), most_of(recorded, urls));
+    push_guess_text(alloc, out, &sums, least, most)?;
+    Ok(())
+}

@@ -1,0 +1,184 @@
+//! Texts that several sections of a report have: urls, and what a response says of caching.
+ghost use Rattle.std.specs.Prelude.{◌≡◌, map, IfOk, OnOk, option_map, string_bytes};
+ghost use Rattle.http_cache_fields.specs.Headers.{headers_of};
+ghost use Rattle.http_cache_recording.specs.Entry.{recorded_seen};
+ghost use Rattle.http_cache_report.specs.Words.{stripped, without_scheme, host_of, short, style_seen, url_text, with_piece};
+ghost use Rattle.http_cache_report.specs.Words.{control_text, named_text, else_named, lifetime_text, validator_text, said_by};
+ghost use Rattle.http_cache_report.specs.Words.{said_in, said_at, life_text};
+
+use crate::numbers::duration;
+use crate::queries::text_at;
+use crate::urls::Life;
+use http::HeaderMap;
+use http::header::{CACHE_CONTROL, ETAG, EXPIRES, LAST_MODIFIED, PRAGMA};
+use http_cache_audit::cost::response_of;
+use http_cache_audit::members::shown_url;
+use http_cache_fields::headers::{contains_key, first_text};
+use http_cache_recording::Recorded;
+use std::alloc::{AllocError, Global};
+use std::fmt::Write;
+
+/// How urls are printed.
+#[derive(Clone, Copy)]
+pub struct UrlStyle<'a> {
+    /// The host of the page, which is left out.
+    pub host: &'a str,
+    /// Queries aren't printed.
+    pub hides_queries: bool,
+}
+
+fn stripped<'a>(front: &str, text: &'a str) -> &'a str
+    ensures { result.now ≡ stripped front.now text.now }
+{
+    match text.strip_prefix(front) {
+        Some(rest) => rest,
+        None => text,
+    }
+}
+
+fn without_scheme(url: &str) -> &str
+    ensures { result.now ≡ without_scheme url.now }
+{
+    stripped("https://", stripped("http://", url))
+}
+
+/// Returns the host of a url.
+pub fn host_of(url: &str) -> &str
+    ensures { result.now ≡ host_of url.now }
+{
+    let rest = without_scheme(url);
+    match rest.split_once('/') {
+        Some((host, _)) => host,
+        None => rest,
+    }
+}
+
+/// Returns a url without its scheme, and without its host if that is the page's.
+pub fn short<'a>(host: &str, url: &'a str) -> &'a str
+    ensures { result.now ≡ short host.now url.now }
+{
+    if host_of(url) == host {
+        stripped(host, without_scheme(url))
+    } else {
+        without_scheme(url)
+    }
+}
+
+impl<'a> UrlStyle<'a> {
+    /// Returns the url of an entry, shortened.
+    pub fn url_text<'b>(&self, recorded: &'b [Recorded], index: usize) -> &'b str
+        ensures { result.now ≡ url_text (style_seen self.now) (map recorded_seen recorded.now) index }
+    {
+        short(
+            self.host,
+            shown_url(text_at(recorded, index), self.hides_queries),
+        )
+    }
+}
+
+/// Adds a text, with a comma before it unless it is the first.
+///
+/// # Errors
+///
+/// Returns an error only if there is no memory.
+pub fn push_piece(out: &mut String, piece: &str) -> Result<(), AllocError>
+    ensures { OnOk result (string_bytes out.new ≡ with_piece (string_bytes out.old) piece.now) }
+{
+    if !out.is_empty() {
+        out.push_str(", ")?;
+    }
+    out.push_str(piece)
+}
+
+// The first line of Cache-Control.
+fn control_text(alloc: Global, headers: &HeaderMap) -> Result<String, AllocError>
+    ensures { IfOk result (λ text. string_bytes text ≡ control_text (headers_of headers.now)) }
+{
+    match first_text(headers, CACHE_CONTROL) {
+        Some(line) => String::from_str(alloc, line),
+        None => Ok(String::new(alloc)),
+    }
+}
+
+// Adds a header with its name, if nothing is said yet.
+fn push_named(out: &mut String, name: &str, value: Option<&str>) -> Result<(), AllocError>
+    ensures { OnOk result (string_bytes out.new
+        ≡ else_named name.now (option_map (λ t. t.now) value.entry) (string_bytes out.old)) }
+{
+    match value {
+        Some(value) if out.is_empty() => write!(out, "{name} {value}"),
+        _ => Ok(()),
+    }
+}
+
+// The Cache-Control of a response, else its Expires, else its Pragma.
+fn lifetime_text(alloc: Global, headers: &HeaderMap) -> Result<String, AllocError>
+    ensures { IfOk result (λ text. string_bytes text ≡ lifetime_text (headers_of headers.now)) }
+{
+    let mut out = control_text(alloc, headers)?;
+    push_named(&mut out, "Expires", first_text(headers, EXPIRES))?;
+    push_named(&mut out, "Pragma", first_text(headers, PRAGMA))?;
+    Ok(out)
+}
+
+fn validator_text(headers: &HeaderMap) -> &'static str
+    ensures { result.now ≡ validator_text (headers_of headers.now) }
+{
+    if contains_key(headers, ETAG) {
+        "ETag"
+    } else if contains_key(headers, LAST_MODIFIED) {
+        "Last-Modified"
+    } else {
+        "no ETag"
+    }
+}
+
+// What a response says of caching.
+fn said_by(alloc: Global, headers: &HeaderMap) -> Result<String, AllocError>
+    ensures { IfOk result (λ text. string_bytes text ≡ said_by (headers_of headers.now)) }
+{
+    let mut out = lifetime_text(alloc, headers)?;
+    push_piece(&mut out, validator_text(headers))?;
+    Ok(out)
+}
+
+fn said_in(alloc: Global, recorded: &Recorded) -> Result<String, AllocError>
+    ensures { IfOk result (λ text. string_bytes text ≡ said_in (recorded_seen recorded.now)) }
+{
+    match response_of(recorded) {
+        Some(response) => said_by(alloc, &response.headers),
+        None => Ok(String::new(alloc)),
+    }
+}
+
+/// Returns what the response of an entry says of caching: its Cache-Control, else Expires or Pragma, and its
+/// validator.
+///
+/// # Errors
+///
+/// Returns an error only if there is no memory.
+pub fn said_at(alloc: Global, recorded: &[Recorded], index: usize) -> Result<String, AllocError>
+    ensures { IfOk result (λ text. string_bytes text
+        ≡ said_at (map recorded_seen recorded.now) index) }
+{
+    match recorded.get(index) {
+        Some(one) => said_in(alloc, one),
+        None => Ok(String::new(alloc)),
+    }
+}
+
+/// Returns how long a response stays fresh, in words.
+///
+/// # Errors
+///
+/// Returns an error only if there is no memory.
+pub fn life_text(alloc: Global, life: Life) -> Result<String, AllocError>
+    ensures { IfOk result (λ text. string_bytes text ≡ life_text life) }
+{
+    match life {
+        Life::Unknown => String::from_str(alloc, "unknown"),
+        Life::NotStored => String::from_str(alloc, "not stored"),
+        Life::NoCache => String::from_str(alloc, "no-cache"),
+        Life::Guessed(seconds) | Life::Given(seconds) => duration(alloc, seconds),
+    }
+}

@@ -1,0 +1,221 @@
+//! What looks wrong, and what to send instead.
+ghost use Rattle.std.specs.Prelude.{◌≡◌, ◌++◌, map, codes, IfOk, OnOk, string_bytes};
+ghost use Rattle.std.specs.List.{flat_map};
+ghost use Rattle.http_cache_recording.specs.Entry.{recorded_seen, reading_seen};
+ghost use Rattle.http_cache_audit.specs.Lint.{hint};
+ghost use Rattle.http_cache_report.specs.Words.{style_seen};
+ghost use Rattle.http_cache_report.specs.Wrong.{hints_in, hints_at, faults_of, send_for, fault_line, fault_lines, has_faults};
+ghost use Rattle.http_cache_report.specs.Wrong.{wrong_of, lines_at, order_text, section_text, IsWrong};
+
+use crate::by_size::{MOST, order_of, push_rest};
+use crate::urls::Url;
+use crate::words::UrlStyle;
+use http_cache_audit::lint::hints_of;
+use http_cache_recording::{Reading, Recorded};
+use std::alloc::{AllocError, Global};
+use std::fmt::Write;
+
+fn hints_in(alloc: Global, reading: &Reading) -> Result<Vec<String>, AllocError>
+    ensures { IfOk result (λ all. map string_bytes all.items ≡ hints_in (reading_seen reading.now)) }
+{
+    match reading {
+        Reading::Entry(entry) => hints_of(alloc, entry),
+        Reading::Skipped(_) => Ok(Vec::new(alloc)),
+    }
+}
+
+fn hints_at(alloc: Global, recorded: &[Recorded], index: usize) -> Result<Vec<String>, AllocError>
+    ensures { IfOk result (λ all. map string_bytes all.items
+        ≡ hints_at (map recorded_seen recorded.now) index) }
+{
+    match recorded.get(index) {
+        Some(one) => hints_in(alloc, &one.reading),
+        None => Ok(Vec::new(alloc)),
+    }
+}
+
+fn push_in_full(alloc: Global, all: &mut Vec<String>, in_full: bool) -> Result<(), AllocError>
+    ensures { OnOk result (map string_bytes all.new.items ≡ map string_bytes all.old.items
+        ++ hint in_full (codes "sent in full to its own validator")) }
+{
+    if in_full {
+        all.push(String::from_str(alloc, "sent in full to its own validator")?)?;
+    }
+    Ok(())
+}
+
+// What looks wrong of a url: in its headers, and in how its server answers a condition that it meets.
+fn faults_of(alloc: Global, recorded: &[Recorded], url: &Url) -> Result<Vec<String>, AllocError>
+    ensures { IfOk result (λ all. map string_bytes all.items
+        ≡ faults_of (map recorded_seen recorded.now) url.now) }
+{
+    let mut all = hints_at(alloc, recorded, url.full)?;
+    push_in_full(alloc, &mut all, url.known.in_full)?;
+    Ok(all)
+}
+
+/// Returns what to send where something looks wrong, by the words for that.
+#[tactic(auto, unfolding(crate::specs::Wrong::send_for))]
+pub fn send_for(words: &str) -> &'static str
+    ensures { result.now ≡ send_for words.now }
+{
+    match words {
+        "conflicting directives" => "one value",
+        "; in Cache-Control" => "`,` between directives",
+        "no comma between directives" => "`,` between directives",
+        "seconds in quotes" => "seconds without quotes",
+        "no-store beside max-age" => "only no-store, or only the lifetime",
+        "public beside private" => "private if it is one user's, else public",
+        "Pragma without Cache-Control" => "Cache-Control: no-cache",
+        "Expires without Cache-Control" => "Cache-Control: max-age=N",
+        "Expires against max-age" => "only max-age",
+        "an ETag without quotes" => "the ETag in quotes",
+        "a Date in the future" => "the right time",
+        "an old Date without Age" => "Age, from the cache on the way",
+        "Vary: *" => "no Vary",
+        "Vary: Cookie" => "private if it is one user's, else no Vary",
+        "Vary: User-Agent" => "no Vary",
+        "sent in full to its own validator" => "a 304 to If-None-Match",
+        _ => "",
+    }
+}
+
+fn push_fault(out: &mut String, url: &str, words: &str) -> Result<(), AllocError>
+    ensures { OnOk result (string_bytes out.new ≡ string_bytes out.old
+        ++ fault_line url.now words.now) }
+{
+    let send = send_for(words);
+    write!(out, "  {url:<34}{words} -> {send}\n")
+}
+
+fn push_faults(out: &mut String, url: &str, faults: &[String]) -> Result<(), AllocError>
+    ensures { OnOk result (string_bytes out.new ≡ string_bytes out.old
+        ++ flat_map (fault_line url.now) (map string_bytes faults.now)) }
+{
+    for words in faults {
+        push_fault(out, url, words.as_str())?;
+    }
+    Ok(())
+}
+
+fn push_url(
+    alloc: Global,
+    out: &mut String,
+    short: &UrlStyle<'_>,
+    recorded: &[Recorded],
+    url: &Url,
+) -> Result<(), AllocError>
+    ensures { OnOk result (string_bytes out.new ≡ string_bytes out.old
+        ++ fault_lines (style_seen short.now) (map recorded_seen recorded.now) url.now) }
+{
+    let faults = faults_of(alloc, recorded, url)?;
+    push_faults(out, short.url_text(recorded, url.entry), faults.as_slice())
+}
+
+fn has_faults(alloc: Global, recorded: &[Recorded], url: &Url) -> Result<bool, AllocError>
+    ensures { IfOk result (λ holds. holds ≡ has_faults (map recorded_seen recorded.now) url.now) }
+{
+    let faults = faults_of(alloc, recorded, url)?;
+    Ok(!faults.is_empty())
+}
+
+// For each url, whether something looks wrong.
+fn wrong_of(alloc: Global, recorded: &[Recorded], urls: &[Url]) -> Result<Vec<bool>, AllocError>
+    ensures { IfOk result (λ all. all.items ≡ wrong_of (map recorded_seen recorded.now) urls.now) }
+{
+    let mut all = Vec::with_capacity(alloc, urls.len())?;
+    for url in urls {
+        all.push(has_faults(alloc, recorded, url)?)?;
+    }
+    Ok(all)
+}
+
+fn push_at(
+    alloc: Global,
+    out: &mut String,
+    short: &UrlStyle<'_>,
+    recorded: &[Recorded],
+    urls: &[Url],
+    key: (u64, usize),
+) -> Result<(), AllocError>
+    ensures { OnOk result (string_bytes out.new ≡ string_bytes out.old
+        ++ lines_at (style_seen short.now) (map recorded_seen recorded.now) urls.now key) }
+{
+    match urls.get(key.1) {
+        Some(url) => push_url(alloc, out, short, recorded, url),
+        None => Ok(()),
+    }
+}
+
+fn push_first(
+    alloc: Global,
+    out: &mut String,
+    short: &UrlStyle<'_>,
+    recorded: &[Recorded],
+    urls: &[Url],
+    order: &[(u64, usize)],
+) -> Result<(), AllocError>
+    ensures { OnOk result (string_bytes out.new ≡ string_bytes out.old
+        ++ flat_map (lines_at (style_seen short.now) (map recorded_seen recorded.now) urls.now)
+        order.now) }
+{
+    for key in order {
+        push_at(alloc, out, short, recorded, urls, *key)?;
+    }
+    Ok(())
+}
+
+// Of the first twelve, and how many there are more.
+fn push_order(
+    alloc: Global,
+    out: &mut String,
+    short: &UrlStyle<'_>,
+    recorded: &[Recorded],
+    urls: &[Url],
+    order: &[(u64, usize)],
+) -> Result<(), AllocError>
+    ensures { OnOk result (string_bytes out.new ≡ string_bytes out.old
+        ++ order_text (style_seen short.now) (map recorded_seen recorded.now) urls.now order.now) }
+{
+    let len = order.len().min(MOST);
+    push_first(alloc, out, short, recorded, urls, &order[..len])?;
+    push_rest(out, order.len().saturating_sub(MOST))
+}
+
+fn section_text(
+    alloc: Global,
+    short: &UrlStyle<'_>,
+    recorded: &[Recorded],
+    urls: &[Url],
+    order: &[(u64, usize)],
+) -> Result<String, AllocError>
+    ensures { IfOk result (λ text. string_bytes text ≡ section_text (style_seen short.now)
+        (map recorded_seen recorded.now) urls.now order.now) }
+{
+    let mut out = String::new(alloc);
+    if order.is_empty() {
+        return Ok(out);
+    }
+    out.push_str("\nLOOKS WRONG\n")?;
+    push_order(alloc, &mut out, short, recorded, urls, order)?;
+    Ok(out)
+}
+
+/// Returns the section of what looks wrong: of twelve urls at most, those of which most bytes were sent.
+///
+/// # Errors
+///
+/// Returns an error only if there is no memory.
+pub fn wrong_text(
+    alloc: Global,
+    short: &UrlStyle<'_>,
+    recorded: &[Recorded],
+    urls: &[Url],
+) -> Result<String, AllocError>
+    ensures { IfOk result (λ text. IsWrong (style_seen short.now) (map recorded_seen recorded.now)
+        urls.now (string_bytes text)) }
+{
+    let wrong = wrong_of(alloc, recorded, urls)?;
+    let order = order_of(alloc, recorded, urls, wrong.as_slice())?;
+    section_text(alloc, short, recorded, urls, order.as_slice())
+}
