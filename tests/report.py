@@ -1,4 +1,4 @@
-"""What a report says of tests/recordings/site.har, worked out beside it by another program, what changes in it if the recording
+"""What a report says of tests/recordings/site.har, with the numbers of a reference that was made before the report, what changes in it if the recording
 changes, and the sums of every recording, worked out from the answers of another audit."""
 import copy
 import json

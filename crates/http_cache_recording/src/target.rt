@@ -74,8 +74,8 @@ fn scheme_len(bytes: &[u8]) -> usize
     bytes.iter().take_while(|b| is_scheme_byte(**b)).count()
 }
 
-// The text, if it can be a scheme (RFC 3986, section 3.1), else `none`: it is printed, and an address may hold
-// what is secret.
+// The text, if it can be a scheme (RFC 3986, section 3.1), else `none`: it is printed, and an address may
+// hold what is secret.
 #[tactic(auto, unfolding(crate::specs::Target::scheme_shown))]
 fn scheme_shown(text: &str) -> &str
     ensures { result.now ≡ scheme_shown text.now }

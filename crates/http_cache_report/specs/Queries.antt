@@ -34,7 +34,7 @@ tag_of r = option_or (first_text r.headers (codes "etag")) (first_text r.headers
 abbrev pub tag_in : RecordedSeen → Option (List ℕ)
 tag_in r = option_and_then tag_of (response_of r.reading)
 
--- what tells a response from others: its recorded body, else its ETag or Last-Modified
+-- what distinguishes a response: its recorded body, else its ETag or Last-Modified
 abbrev pub mark_of : RecordedSeen → Option (List ℕ)
 mark_of r = option_or (option_map (λ (b : BodySeen). b.text) (body_in r.reading)) (tag_in r)
 

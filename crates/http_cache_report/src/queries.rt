@@ -72,7 +72,7 @@ fn tag_in(recorded: &Recorded) -> Option<&str>
     }
 }
 
-// What tells a response from others: its recorded body, else its ETag or Last-Modified.
+// What distinguishes a response: its recorded body, else its ETag or Last-Modified.
 fn mark_of(recorded: &Recorded) -> Option<&str>
     ensures { option_map (λ t. t.now) result ≡ mark_of (recorded_seen recorded.now) }
 {
