@@ -1,6 +1,6 @@
 -- What looks wrong in a response, though the rules of caching give it a meaning.
 use Rattle.std.specs.Prelude.{ℕ, ℤ, ◌-ℤ◌, ◌+ℤ◌, ◌*ℤ◌, ◌==◌, pos, int_lt, nat_lt, length, Bool, true, false, not, ◌&&◌, ◌||◌, List, [], ◌∷◌}
-use Rattle.std.specs.Prelude.{Option, option_and_then, codes, bytes_eq, nat_eq}
+use Rattle.std.specs.Prelude.{Option, option_map, option_and_then, is_none, codes, bytes_eq, nat_eq}
 use Rattle.std.specs.List.{find, list_any, flat_map, starts_with, ends_with}
 use Rattle.std.specs.Option.{option_map_or}
 use Rattle.http_header.specs.Token.{lowercase}
@@ -14,7 +14,7 @@ use Rattle.http_cache_recording.specs.Entry.{EntrySeen, AnswerSeen, failed, cach
 use Rattle.http_cache_recording.specs.Entry.{received as from_network}
 use Rattle.http_cache_audit.specs.declared.lint.Finding.{Finding}
 use Rattle.http_cache_audit.specs.declared.lint.Finding.TheVariants as finding
-use Rattle.http_cache_rules.specs.Dates.{first_date}
+use Rattle.http_cache_rules.specs.Dates.{first_date, second_start, when}
 use Rattle.http_cache_audit.specs.Again.{opaque}
 use Rattle.http_cache_audit.specs.Own.{date_in}
 
@@ -59,17 +59,25 @@ abbrev pub lacks_comma : List ℕ → Bool
 lacks_comma piece =
     list_any (λ b. nat_eq b 32) piece && not (list_any (λ b. nat_eq b 34) piece) && not (has_semicolon piece)
 
+-- no number of seconds is after `max-age` or `s-maxage`, and no other flaw explains it
+abbrev pub lacks_seconds : List ℕ → Bool
+lacks_seconds piece =
+    (is_named (codes "max-age") piece || is_named (codes "s-maxage") piece) && not (has_semicolon piece)
+    && not (lacks_comma piece) && option_map_or (λ value. is_none (number (unquote value))) (raw_value_of piece) true
+
 -- what looks wrong in a directive
 abbrev pub has_flaw : Finding → List ℕ → Bool
 has_flaw finding.Conflict piece = false
 has_flaw finding.Semicolon piece = has_semicolon piece
 has_flaw finding.NoComma piece = lacks_comma piece
 has_flaw finding.Quoted piece = is_quoted piece
+has_flaw finding.NotSeconds piece = lacks_seconds piece
 has_flaw finding.NoStoreBeside piece = false
 has_flaw finding.PublicPrivate piece = false
 has_flaw finding.PragmaAlone piece = false
 has_flaw finding.ExpiresAlone piece = false
 has_flaw finding.ExpiresAgainst piece = false
+has_flaw finding.NotExpires piece = false
 has_flaw finding.BareTag piece = false
 has_flaw finding.FutureDate piece = false
 has_flaw finding.OldDate piece = false
@@ -111,6 +119,14 @@ is_against h =
     (λ seconds. option_map_or (λ expires. differ_by seconds expires (date_in h)) (first_date h (codes "expires")) false)
     (seconds_of h) false
 
+-- a text of Expires isn't a date, and not one of those by which a past time is meant
+abbrev pub is_no_date : List ℕ → Bool
+is_no_date text = not (bytes_eq text (codes "0")) && not (bytes_eq text (codes "-1")) && is_none (option_map second_start (when text))
+
+-- Expires can't be read
+abbrev pub is_unread : Headers → Bool
+is_unread h = option_map_or is_no_date (first_text h (codes "expires")) false
+
 -- an entity tag isn't in quotes
 abbrev pub is_bare_tag : List ℕ → Bool
 is_bare_tag tag =
@@ -137,12 +153,14 @@ holds finding.Conflict received h = is_in_conflict (codes "max-age") h || is_in_
 holds finding.Semicolon received h = list_any (has_flaw finding.Semicolon) (cache_pieces h)
 holds finding.NoComma received h = list_any (has_flaw finding.NoComma) (cache_pieces h)
 holds finding.Quoted received h = list_any (has_flaw finding.Quoted) (cache_pieces h)
+holds finding.NotSeconds received h = list_any (has_flaw finding.NotSeconds) (cache_pieces h)
 holds finding.NoStoreBeside received h =
     says h (codes "no-store") && (says h (codes "max-age") || says h (codes "s-maxage"))
 holds finding.PublicPrivate received h = says h (codes "public") && says h (codes "private")
 holds finding.PragmaAlone received h = pragma_forbids h && lacks_cache_control h
 holds finding.ExpiresAlone received h = contains_key h (codes "expires") && lacks_cache_control h
 holds finding.ExpiresAgainst received h = is_against h
+holds finding.NotExpires received h = is_unread h
 holds finding.BareTag received h = is_bare h
 holds finding.FutureDate received h = is_dated_after received h
 holds finding.OldDate received h = is_dated_before received h && not (contains_key h (codes "age"))
@@ -156,11 +174,13 @@ words_of finding.Conflict = codes "conflicting directives"
 words_of finding.Semicolon = codes "; in Cache-Control"
 words_of finding.NoComma = codes "no comma between directives"
 words_of finding.Quoted = codes "seconds in quotes"
+words_of finding.NotSeconds = codes "a max-age that can't be read"
 words_of finding.NoStoreBeside = codes "no-store beside max-age"
 words_of finding.PublicPrivate = codes "public beside private"
 words_of finding.PragmaAlone = codes "Pragma without Cache-Control"
 words_of finding.ExpiresAlone = codes "Expires without Cache-Control"
 words_of finding.ExpiresAgainst = codes "Expires against max-age"
+words_of finding.NotExpires = codes "an Expires that can't be read"
 words_of finding.BareTag = codes "an ETag without quotes"
 words_of finding.FutureDate = codes "a Date in the future"
 words_of finding.OldDate = codes "an old Date without Age"
@@ -171,9 +191,9 @@ words_of finding.VaryUserAgent = codes "Vary: User-Agent"
 -- all that may look wrong, in the order in which it is printed
 abbrev pub findings : List Finding
 findings =
-    finding.Conflict ∷ finding.Semicolon ∷ finding.NoComma ∷ finding.Quoted ∷ finding.NoStoreBeside
-    ∷ finding.PublicPrivate ∷ finding.PragmaAlone ∷ finding.ExpiresAlone ∷ finding.ExpiresAgainst ∷ finding.BareTag
-    ∷ finding.FutureDate ∷ finding.OldDate ∷ finding.VaryAny ∷ finding.VaryCookie ∷ finding.VaryUserAgent ∷ []
+    finding.Conflict ∷ finding.Semicolon ∷ finding.NoComma ∷ finding.Quoted ∷ finding.NotSeconds
+    ∷ finding.NoStoreBeside ∷ finding.PublicPrivate ∷ finding.PragmaAlone ∷ finding.ExpiresAlone
+    ∷ finding.ExpiresAgainst ∷ finding.NotExpires ∷ finding.BareTag ∷ finding.FutureDate ∷ finding.OldDate ∷ finding.VaryAny ∷ finding.VaryCookie ∷ finding.VaryUserAgent ∷ []
 
 -- the words of a hint, if it holds
 abbrev pub hint : Bool → List ℕ → List (List ℕ)

@@ -17,7 +17,7 @@ use http_cache_rules::conditions::has_stored_already;
 use http_cache_semantics::CachePolicy;
 
 /// Returns an entity tag without its mark of weakness (RFC 9110, section 8.8.3.2).
-pub fn opaque(tag: &str) -> &[u8]
+pub(crate) fn opaque(tag: &str) -> &[u8]
     ensures { result.now ≡ opaque tag.now }
 {
     let bytes = tag.as_bytes();

@@ -161,7 +161,7 @@ fn changed_answer(answer: Answer, change: &Change) -> Result<Answer, AllocError>
 }
 
 /// Returns an entry with the change made in its response.
-pub fn changed_reading(reading: Reading, change: &Change) -> Result<Reading, AllocError>
+fn changed_reading(reading: Reading, change: &Change) -> Result<Reading, AllocError>
     ensures { IfOk result (λ r. reading_seen r
         ≡ changed_reading (change_seen change.now) (reading_seen reading)) }
 {

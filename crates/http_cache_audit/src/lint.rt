@@ -5,8 +5,8 @@ ghost use Rattle.std.specs.List.{list_any, flat_map};
 ghost use Rattle.http_header.specs.Token.{lowercase};
 ghost use Rattle.http_cache_fields.specs.Headers.{headers_of};
 ghost use Rattle.http_cache_audit.specs.Lint.{cache_pieces, is_named, first_named, says_other, is_in_conflict};
-ghost use Rattle.http_cache_audit.specs.Lint.{has_semicolon, begins_quoted, is_quoted, lacks_comma, has_flaw};
-ghost use Rattle.http_cache_audit.specs.Lint.{is_dated_before, is_dated_after, seconds_of, after, differ, is_against};
+ghost use Rattle.http_cache_audit.specs.Lint.{has_semicolon, begins_quoted, is_quoted, lacks_comma, lacks_seconds, has_flaw};
+ghost use Rattle.http_cache_audit.specs.Lint.{is_dated_before, is_dated_after, seconds_of, after, differ, is_against, is_no_date, is_unread};
 ghost use Rattle.http_cache_audit.specs.Lint.{is_bare, varies_by, lacks_cache_control, holds, words_of, findings, hint, hint_of};
 ghost use Rattle.http_cache_audit.specs.Lint.{hints_of};
 ghost use Rattle.http_cache_recording.specs.Entry.{entry_seen};
@@ -38,6 +38,8 @@ pub enum Finding {
     NoComma,
     /// The seconds of `max-age` or `s-maxage` are in quotes (RFC 9111, section 5.2).
     Quoted,
+    /// `max-age` or `s-maxage` has no number of seconds, and so a lifetime of zero (RFC 9111, section 1.2.2).
+    NotSeconds,
     /// `no-store` is beside `max-age` or `s-maxage`, which then say nothing.
     NoStoreBeside,
     /// `public` is beside `private`.
@@ -48,6 +50,9 @@ pub enum Finding {
     ExpiresAlone,
     /// Expires and `max-age` differ by more than 60 s.
     ExpiresAgainst,
+    /// Expires isn't a date that can be read, and not `0` or `-1`, by which a past time is meant (RFC 9111,
+    /// section 5.3).
+    NotExpires,
     /// The ETag isn't in quotes (RFC 9110, section 8.8.3).
     BareTag,
     /// Date is more than 60 s after the receipt.
@@ -62,8 +67,8 @@ pub enum Finding {
     VaryUserAgent,
 }
 
-/// Returns all of them, in the order in which they are printed.
-pub fn findings() -> [Finding; 15]
+// All of them, in the order in which they are printed.
+fn findings() -> [Finding; 17]
     ensures { result ≡ findings }
 {
     [
@@ -71,11 +76,13 @@ pub fn findings() -> [Finding; 15]
         Finding::Semicolon,
         Finding::NoComma,
         Finding::Quoted,
+        Finding::NotSeconds,
         Finding::NoStoreBeside,
         Finding::PublicPrivate,
         Finding::PragmaAlone,
         Finding::ExpiresAlone,
         Finding::ExpiresAgainst,
+        Finding::NotExpires,
         Finding::BareTag,
         Finding::FutureDate,
         Finding::OldDate,
@@ -86,9 +93,9 @@ pub fn findings() -> [Finding; 15]
 }
 
 impl Finding {
-    /// Returns the words for it.
+    // The words for it.
     #[tactic(auto, unfolding(crate::specs::Lint::words_of))]
-    pub fn words(self) -> &'static str
+    fn words(self) -> &'static str
         ensures { result.now ≡ words_of self }
     {
         match self {
@@ -96,11 +103,13 @@ impl Finding {
             Finding::Semicolon => "; in Cache-Control",
             Finding::NoComma => "no comma between directives",
             Finding::Quoted => "seconds in quotes",
+            Finding::NotSeconds => "a max-age that can't be read",
             Finding::NoStoreBeside => "no-store beside max-age",
             Finding::PublicPrivate => "public beside private",
             Finding::PragmaAlone => "Pragma without Cache-Control",
             Finding::ExpiresAlone => "Expires without Cache-Control",
             Finding::ExpiresAgainst => "Expires against max-age",
+            Finding::NotExpires => "an Expires that can't be read",
             Finding::BareTag => "an ETag without quotes",
             Finding::FutureDate => "a Date in the future",
             Finding::OldDate => "an old Date without Age",
@@ -111,8 +120,8 @@ impl Finding {
     }
 }
 
-/// Returns whether the directive of a piece has a name, which is in lower case.
-pub fn is_named(name: &str, piece: &str) -> bool
+// Whether the directive of a piece has a name, which is in lower case.
+fn is_named(name: &str, piece: &str) -> bool
     ensures { lowercase name.now ≡ name.now → result ≡ is_named name.now piece.now }
 {
     is_same_name(split_piece(piece).0, name)
@@ -125,7 +134,7 @@ fn says_other(name: &str, one: &str, piece: &str) -> bool
 }
 
 /// Returns the first piece of the Cache-Control lines whose directive has a name, which is in lower case.
-pub fn first_named<'a>(headers: &'a HeaderMap, name: &str) -> Option<&'a str>
+pub(crate) fn first_named<'a>(headers: &'a HeaderMap, name: &str) -> Option<&'a str>
     ensures { lowercase name.now ≡ name.now
         → option_copied result ≡ first_named (headers_of headers.now) name.now }
 {
@@ -175,6 +184,19 @@ fn lacks_comma(piece: &str) -> bool
     bytes.contains(&b' ') && !bytes.contains(&b'"') && !bytes.contains(&b';')
 }
 
+// No number of seconds is after `max-age` or `s-maxage`, and no other flaw explains it.
+fn lacks_seconds(piece: &str) -> bool
+    ensures { result ≡ lacks_seconds piece.now }
+{
+    (is_named("max-age", piece) || is_named("s-maxage", piece))
+        && !has_semicolon(piece)
+        && !lacks_comma(piece)
+        && match split_piece(piece).1 {
+            Some(value) => number(unquote(value)).is_none(),
+            None => true,
+        }
+}
+
 // What looks wrong in a directive.
 fn has_flaw(flaw: Finding, piece: &str) -> bool
     ensures { result ≡ has_flaw flaw piece.now }
@@ -183,6 +205,7 @@ fn has_flaw(flaw: Finding, piece: &str) -> bool
         Finding::Semicolon => has_semicolon(piece),
         Finding::NoComma => lacks_comma(piece),
         Finding::Quoted => is_quoted(piece),
+        Finding::NotSeconds => lacks_seconds(piece),
         _ => false,
     }
 }
@@ -280,6 +303,26 @@ fn is_against(alloc: Global, headers: &HeaderMap) -> Result<bool, AllocError>
     Ok(differ(date, expires, seconds))
 }
 
+// Whether a text of Expires isn't a date, and not one of those by which a past time is meant.
+fn is_no_date(alloc: Global, text: &str) -> Result<bool, AllocError>
+    ensures { IfOk result (λ holds. holds ≡ is_no_date text.now) }
+{
+    if text == "0" || text == "-1" {
+        return Ok(false);
+    }
+    Ok(read_date(alloc, text)?.is_none())
+}
+
+// Whether Expires can't be read.
+fn is_unread(alloc: Global, headers: &HeaderMap) -> Result<bool, AllocError>
+    ensures { IfOk result (λ holds. holds ≡ is_unread (headers_of headers.now)) }
+{
+    match first_text(headers, EXPIRES) {
+        Some(text) => is_no_date(alloc, text),
+        None => Ok(false),
+    }
+}
+
 // Whether the ETag isn't in quotes.
 fn is_bare(headers: &HeaderMap) -> bool
     ensures { result ≡ is_bare (headers_of headers.now) }
@@ -293,8 +336,8 @@ fn is_bare(headers: &HeaderMap) -> bool
     }
 }
 
-/// Returns whether Vary has a name, which is in lower case.
-pub fn varies_by(headers: &HeaderMap, name: &str) -> bool
+// Whether Vary has a name, which is in lower case.
+fn varies_by(headers: &HeaderMap, name: &str) -> bool
     ensures { lowercase name.now ≡ name.now → result ≡ varies_by name.now (headers_of headers.now) }
 {
     pieces_under(headers, VARY).any(|piece| is_same_name(piece, name))
@@ -307,9 +350,9 @@ fn lacks_cache_control(headers: &HeaderMap) -> bool
     !contains_key(headers, CACHE_CONTROL)
 }
 
-/// Returns whether something looks wrong in a response that was received at a time.
+// Whether something looks wrong in a response that was received at a time.
 #[tactic(auto, unfolding(crate::specs::Lint::holds))]
-pub fn holds(
+fn holds(
     alloc: Global,
     finding: Finding,
     headers: &HeaderMap,
@@ -321,7 +364,9 @@ pub fn holds(
         Finding::Conflict => {
             is_in_conflict(headers, "max-age") || is_in_conflict(headers, "s-maxage")
         }
-        Finding::Semicolon | Finding::NoComma | Finding::Quoted => any_flaw(headers, finding),
+        Finding::Semicolon | Finding::NoComma | Finding::Quoted | Finding::NotSeconds => {
+            any_flaw(headers, finding)
+        }
         Finding::NoStoreBeside => {
             says(headers, "no-store") && (says(headers, "max-age") || says(headers, "s-maxage"))
         }
@@ -329,6 +374,7 @@ pub fn holds(
         Finding::PragmaAlone => pragma_forbids(headers) && lacks_cache_control(headers),
         Finding::ExpiresAlone => contains_key(headers, EXPIRES) && lacks_cache_control(headers),
         Finding::ExpiresAgainst => is_against(alloc, headers)?,
+        Finding::NotExpires => is_unread(alloc, headers)?,
         Finding::BareTag => is_bare(headers),
         Finding::FutureDate => is_dated_after(alloc, received, headers)?,
         Finding::OldDate => {

@@ -450,7 +450,7 @@ fn add_entry(to: &mut Members, entry: &Entry) -> Result<(), AllocError>
 
 /// Adds what looks wrong in the response and what other caches say of it, or why the entry isn't audited.
 #[tactic(auto, unfolding(crate::specs::Members::with_reading))]
-pub fn add_reading(to: &mut Members, reading: &Reading) -> Result<(), AllocError>
+pub(crate) fn add_reading(to: &mut Members, reading: &Reading) -> Result<(), AllocError>
     ensures { OnOk result (map member_seen to.new.all.items
         ≡ with_reading (reading_seen reading.now) (map member_seen to.old.all.items)) }
 {

@@ -83,7 +83,7 @@ fn has_first(headers: &HeaderMap, name: HeaderName) -> bool
 
 /// Returns the header by which a response can be validated.
 #[tactic(auto, unfolding(crate::specs::Stored::validator_of))]
-pub fn validator_of(headers: &HeaderMap) -> Option<&'static str>
+pub(crate) fn validator_of(headers: &HeaderMap) -> Option<&'static str>
     ensures { option_map (λ w. w.now) result ≡ validator_of (headers_of headers.now) }
 {
     if has_first(headers, ETAG) {
@@ -98,7 +98,7 @@ pub fn validator_of(headers: &HeaderMap) -> Option<&'static str>
 
 /// Returns whether a response varies by everything.
 #[tactic(auto, unfolding(crate::specs::Stored::varies_by_all))]
-pub fn varies_by_all(headers: &HeaderMap) -> bool
+pub(crate) fn varies_by_all(headers: &HeaderMap) -> bool
     ensures { result ≡ varies_by_all (headers_of headers.now) }
 {
     pieces_under(headers, VARY).any(|name| name == "*")

@@ -7,7 +7,7 @@ use std::collections::BTreeMap;
 
 /// Puts a value under a text, in place of what is there.
 #[tactic(auto, using(std::proofs::lemmas::Map::Text::text_keys))]
-pub fn put<V: Drop>(
+pub(crate) fn put<V: Drop>(
     alloc: Global,
     map: &mut BTreeMap<String, V>,
     text: &str,
@@ -31,7 +31,7 @@ pub fn put<V: Drop>(
 
 /// Takes out the value under a text.
 #[tactic(auto, using(std::proofs::lemmas::Map::Text::text_keys))]
-pub fn take<V: Drop>(map: &mut BTreeMap<String, V>, text: &str) -> Option<V>
+pub(crate) fn take<V: Drop>(map: &mut BTreeMap<String, V>, text: &str) -> Option<V>
     ensures value { result ≡ get_by_text map.old text.now }
     ensures left { (key : List ℕ) → get_by_text map.new key
         ≡ (if bytes_eq text.now key then None else get_by_text map.old key) }
