@@ -19,6 +19,29 @@ FEW = "cacheaudit: 4 of 13 repeated requests are hits, fewer than {} %\n"
 LIMIT = 48 << 20
 
 
+def hostile_changes(recording):
+    """The same of changes of headers that somebody else wrote."""
+    return [
+        (["--with", "*" * 5000 + ": ETag: a"], recording, 0, ""),
+        (["--with", "*a" * 5000 + "b: ETag: a"], recording, 0, ""),
+        (["--with", "h*" * 50 + ": Vary: *"], recording, 0, ""),
+        (["--with", "\x1b[2J\u202e*: ETag: a"], recording, 0, ""),
+        (["--with", ": ETag: a"], recording, 0, ""),
+        (["--with", "*: ETag: " + "x" * 100_000], recording, 0, ""),
+        (["--with", "*: Vary: " + "*," * 2_000], recording, 0, ""),
+        (["--with", "*: ETag: \u00e9\u202e"], recording, 0, ""),
+        (["--with", "*: Content-Length: -1"], recording, 0, ""),
+        (["--with", "*: Date: Fri, 31 Dec 9999 23:59:59 GMT"], recording, 0, ""),
+        (["--with", "*: Cache-Control: max-age=" + "9" * 1000], recording, 0, ""),
+        (["--with", "*: ETag: a\r\nSet-Cookie: b=1"], recording, 64, CHANGE + "not a header value\n"),
+        (["--with", "*: ETag: \x7f"], recording, 64, CHANGE + "not a header value\n"),
+        (["--with", "*: Cache-Control\r\nX: y: 1"], recording, 64, CHANGE + "not a header name\n"),
+        (["--with", "*: \u00e9: 1"], recording, 64, CHANGE + "not a header name\n"),
+        (["--with", "*: " + "a" * 100_000 + ": b"], recording, 64, CHANGE + "not a header name\n"),
+        (["--with", b"*: ETag: \xff"], recording, 64, UNKNOWN),
+    ]
+
+
 def runs():
     """Words of a command line, the input, the status, and what is written on standard error."""
     text = EXAMPLE.read_text()
@@ -44,6 +67,9 @@ def runs():
         ([], b'{"log":{}}', 2, fault + "no list of entries at log.entries, nor at entries\n"),
         ([], b'{"log":{"entries":{}}}', 2, fault + "no list of entries at log.entries, nor at entries\n"),
         ([], b"[]", 1, NOTHING),
+        ([], b"HTTP/1.1 20 OK\r\n\r\n", 2, "cacheaudit: heads: not a response head at line 1\n"),
+        ([], b"HTTP/1.1 100 \r\n\r\n", 2, "cacheaudit: heads: no response head\n"),
+        *[(words, b"HTTP/1.1 200 \r\n\r\n", 0, "") for words in ([], ["--lines"], ["--fail-under", "50"], ["--with", "*: ETag:"])],
         (["--json"], b'{"entries":[1,null]}', 1, NOTHING),
         (["--nothing"], b"", 64, UNKNOWN),
         (["-"], b"", 64, UNKNOWN),
@@ -60,6 +86,7 @@ def runs():
         (["--with", "*: ETag:"], bytes_of, 0, ""),
         (["--with", "*: ETag: : "], bytes_of, 0, ""),
         (["--with", "*: ETag:", "--with", "a: b: c"], b"[]", 1, NOTHING),
+        *hostile_changes(bytes_of),
         (["--fail-under", "101"], b"", 64, RATE),
         (["--fail-under", "-1"], b"", 64, RATE),
         (["--fail-under", "60 "], b"", 64, RATE),

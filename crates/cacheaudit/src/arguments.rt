@@ -127,6 +127,7 @@ fn set_flag(order: &mut Order, word: &str) -> bool {
         "--shared" => order.is_shared = Some(true),
         "--json" => set_all(order, true),
         "--lines" => set_all(order, false),
+        "--html" => order.form = Form::Html,
         "--by-url" => {
             order.form = Form::All;
             order.settings.by_url = true;
@@ -160,7 +161,7 @@ fn plain_order(alloc: Global) -> Order {
 fn is_shared(order: &Order) -> bool {
     match order.is_shared {
         Some(is_shared) => is_shared,
-        None => !matches!(order.form, Form::Report) || !order.changes.is_empty(),
+        None => matches!(order.form, Form::All) || !order.changes.is_empty(),
     }
 }
 

@@ -1,5 +1,5 @@
 //! Reads a recorded session (HAR 1.2), and reports what to change first, or what a cache would have answered
-//! to each of its requests, and why.
+//! to each of its requests, and why. It reads heads of responses too, and reports what caches do with each.
 #![tactic(auto)]
 
 mod arguments;
@@ -9,16 +9,20 @@ use arguments::{Asked, Order, Refusal, asked_of};
 use http_cache_audit::change::ChangeError;
 use http_cache_report::error::AuditError;
 use http_cache_report::run::{Ended, run};
+use jiff::Timestamp;
 use progress::Watched;
 use std::fs::File;
+use std::hash::RandomState;
 use std::io::{IsTerminal, Read};
 use std::process::ExitCode;
 use std::{env, io};
 
 const USAGE: &str =
-    "usage: cacheaudit [--private | --shared] [--heuristic N/D] [--lines | --json | --by-url] [--no-query]
-                  [--ignore-request-no-cache] [--with 'PATTERN: HEADER: VALUE'].. [--fail-under N] [FILE]
-reports of a recorded session (HAR 1.2) what to change first, what later visits cost, and what looks wrong
+    "usage: cacheaudit [--private | --shared] [--heuristic N/D] [--html | --lines | --json | --by-url]
+                  [--no-query] [--ignore-request-no-cache] [--with 'PATTERN: HEADER: VALUE'].. [--fail-under N] [FILE]
+reports of a recorded session (HAR 1.2) what to change first, what later visits cost, and what looks wrong;
+or of responses (the heads that curl -sI, -sIL or -si prints) what caches do with each, and what to send
+    --html                     the report of a recorded session as one page of HTML, which needs nothing else
     --lines, --json            a line or an object for each request: what a cache would have answered, and why
     --by-url                   an object for each url
     --private, --shared        a cache of one user, as a browser's (the report's default), or of many, as a
@@ -37,6 +41,9 @@ const NOTHING: u8 = 1;
 
 // The status if fewer repeated requests are hits than were asked for.
 const FEW_HITS: u8 = 4;
+
+// The status if the system has no random bytes or no time.
+const NO_SYSTEM: u8 = 3;
 
 // The status of a command line that isn't one.
 const NO_COMMAND: u8 = 64;
@@ -66,9 +73,28 @@ fn status(rt: &HostRuntime, ended: Result<Ended, AuditError>, least_rate: Option
     }
 }
 
-fn audit<R: Read + Drop>(rt: &HostRuntime, reader: R, order: &Order) -> ExitCode {
+// The secret keys and the time, by which heads are read.
+fn keys_and_time(rt: &HostRuntime) -> Option<(RandomState, Timestamp)> {
+    Some((RandomState::new(rt).ok()?, Timestamp::now(rt).ok()?))
+}
+
+fn no_system(rt: &HostRuntime) -> ExitCode {
+    let _ = eprintln!(rt; "cacheaudit: the system has no random bytes, or no time");
+    ExitCode::from(NO_SYSTEM)
+}
+
+// An audit with these keys, at this time.
+fn audit_by<R: Read + Drop>(
+    rt: &HostRuntime,
+    keys: RandomState,
+    now: Timestamp,
+    reader: R,
+    order: &Order,
+) -> ExitCode {
     let ended = run(
         rt.alloc(),
+        keys,
+        now,
         &mut Watched::new(rt, reader),
         &mut rt.stdout(),
         order.form,
@@ -76,6 +102,14 @@ fn audit<R: Read + Drop>(rt: &HostRuntime, reader: R, order: &Order) -> ExitCode
         order.settings,
     );
     status(rt, ended, order.least_rate)
+}
+
+// By parts, since each is proved faster so.
+fn audit<R: Read + Drop>(rt: &HostRuntime, reader: R, order: &Order) -> ExitCode {
+    match keys_and_time(rt) {
+        Some((keys, now)) => audit_by(rt, keys, now, reader, order),
+        None => no_system(rt),
+    }
 }
 
 fn audit_file(rt: &HostRuntime, path: &str, order: &Order) -> ExitCode {
@@ -92,7 +126,7 @@ fn audit_input(rt: &HostRuntime, order: &Order) -> ExitCode {
     let stdin = rt.stdin();
     if stdin.is_terminal() {
         let _ = eprintln!(rt;
-            "cacheaudit: reads a recording from the terminal; --help says what else it reads"
+            "cacheaudit: reads a recording or heads from the terminal; --help says what else it reads"
         );
     }
     audit(rt, stdin, order)

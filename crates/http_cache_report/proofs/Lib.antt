@@ -1,4 +1,5 @@
 -- The lemmas about a report.
+pub mod HeadsLemmas
 pub mod ReadLemmas
 pub mod ReportLemmas
 pub mod VisitLemmas

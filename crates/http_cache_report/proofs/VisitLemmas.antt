@@ -11,7 +11,7 @@ use Rattle.http_cache_audit.proofs.StoredLemmas.{take-at}
 use Rattle.http_cache_report.specs.Visit.{later, received_in, last_received}
 
 -- one pair more
-zip-next : {X Y : Type 0} (R : X → Y → Type 0) (xs : List X) (ys : List Y) (x : X) (y : Y) → AllZip R xs ys → R x y
+pub zip-next : {X Y : Type 0} (R : X → Y → Type 0) (xs : List X) (ys : List Y) (x : X) (y : Y) → AllZip R xs ys → R x y
     → AllZip R (xs ++ x ∷ []) (ys ++ y ∷ [])
 zip-next R [] [] x y all one = (one, tt)
 zip-next R [] (b ∷ ys) x y all one = absurd all

@@ -20,6 +20,7 @@ use Rattle.http_cache_report.specs.Urls.{sums_of, urls_in}
 use Rattle.http_cache_report.specs.Queries.{text_at, bases_of, changing_of}
 use Rattle.http_cache_report.specs.Remedy.{RemedySeen, remedied, is_still_in_full}
 use Rattle.http_cache_report.specs.Picks.{url_costs, known_after}
+use Rattle.http_cache_report.specs.Plain.{changing_seen, changing_in, plain_recorded}
 use Rattle.http_cache_report.specs.Top.{loads_of, page_url, IsFirstLine}
 use Rattle.http_cache_report.specs.Words.{host_of}
 use Rattle.http_cache_report.specs.Later.{AreVisits}
@@ -42,6 +43,7 @@ pub record AreRepeats (rs : List RecordedSeen) (rows : List RowSeen) (known : Li
 -- what is known of a recording, by its rows
 pub record AreFactsBy (rs : List RecordedSeen) (rows : List RowSeen) (is_shared : Bool) (f : Facts) : Type 0 where
   pub bases : Counts
+  pub are_changing : map changing_seen f.changing.items ≡ changing_in bases
   pub are_known : f.known.items ≡ known_of rs rows
   pub are_sums : HoldsCounts (sums_of rows f.known.items) f.sums
   pub are_costs : HoldsCounts (url_costs rs f.known.items rows) f.costs
@@ -81,16 +83,19 @@ known_repeat rs ms r =
 abbrev pub repeats_after : List RecordedSeen → List RemedySeen → List Repeat → List Repeat
 repeats_after rs ms repeats = map (known_repeat rs ms) repeats
 
--- what a recording costs by what is known of its rows: its requests, and later visits
-pub record AreCostsWith (rs : List RecordedSeen) (options : Options) (target : Uri) (known : List Known) (repeats : List Repeat)
-    (s : SpanSeen) (made : Counts × Visits) : Type 0 where
+-- what a recording costs by what is known of its rows: its requests, the same without the queries that change, and later
+-- visits
+pub record AreCostsWith (rs : List RecordedSeen) (options : Options) (target : Uri) (known : List Known) (changing : List (List ℕ × ℕ))
+    (repeats : List Repeat) (s : SpanSeen) (made : Counts × Counts × Visits) : Type 0 where
   pub costs : AreUrlCosts rs options target known made.0
-  pub visits : AreVisits rs repeats s options target made.1
+  pub plain : AreUrlCosts (map (plain_recorded changing) rs) options target known made.1
+  pub visits : AreVisits rs repeats s options target made.2
 
 -- what a recording costs if urls do as they are advised: if they only answer a 304, and if they send all that
 pub record IsAfter (rs : List RecordedSeen) (options : Options) (target : Uri) (ms : List RemedySeen) (known : List Known)
-    (repeats : List Repeat) (s : SpanSeen) (a : After) : Type 0 where
+    (changing : List (List ℕ × ℕ)) (repeats : List Repeat) (s : SpanSeen) (a : After) : Type 0 where
   pub after : List Known
   pub alone : AreAlone rs options target ms known after a.alone
   pub costs :
-      AreCostsWith (map (remedied ms) rs) options target after (repeats_after rs ms repeats) s (a.costs, a.visits)
+      AreCostsWith (map (remedied ms) rs) options target after changing (repeats_after rs ms repeats) s
+      (a.costs, a.plain, a.visits)

@@ -10,10 +10,15 @@ pub mod Words
 pub mod Later
 pub mod BySize
 pub mod Both
+pub mod InOrder
+pub mod Plain
 pub mod Top
 pub mod Facts
 pub mod First
 pub mod Wrong
 pub mod Screen
+pub mod PageOf
+pub mod Heads
+pub mod Responses
 pub mod Output
 pub mod Status

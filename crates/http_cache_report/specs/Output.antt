@@ -1,15 +1,19 @@
--- What is written for the bytes of a recording, and why nothing is.
-use Rattle.std.specs.Prelude.{◌≡◌, ◌<◌, ◌+◌, ℕ, List, [], ◌∷◌, Bool, true, false, length, take, ⊤, Option, option_map, IfSome}
+-- What is written for the bytes of a recording or of heads, and why nothing is.
+use Rattle.std.specs.Prelude.{◌≡◌, ◌<◌, ◌+◌, ℕ, ℤ, List, [], ◌∷◌, Bool, true, false, length, take, ⊤, Option, option_map, IfSome}
 use Rattle.std.specs.List.{list_any}
 use Rattle.http_cache_recording.specs.Entry.{RecordedSeen, ReadingSeen, entry, skipped}
 use Rattle.http_cache_recording.specs.Recording.{IsRecording, IsCause}
+use Rattle.http_cache_report.specs.Heads.{is_heads, IsHeads}
+use Rattle.http_cache_report.specs.Heads as heads
+use Rattle.http_cache_report.specs.Responses.{AreResponses}
 use Rattle.http_cache_report.specs.declared.error.AuditError.{AuditError}
-use Rattle.http_cache_report.specs.declared.error.AuditError.TheVariants.{NotReadable, TooLong, Recording, Memory, NotWritten}
+use Rattle.http_cache_report.specs.declared.error.AuditError.TheVariants.{NotReadable, TooLong, Recording, Heads, Memory, NotWritten}
 use Rattle.http_cache_audit.specs.declared.report.Hits.{Hits}
 use Rattle.http_cache_report.specs.declared.run.Ended.{Ended}
 use Rattle.http_cache_report.specs.declared.run.Form.{Form}
-use Rattle.http_cache_report.specs.declared.run.Form.TheVariants.{Report, All}
+use Rattle.http_cache_report.specs.declared.run.Form.TheVariants.{Report, Html, All}
 use Rattle.http_cache_report.specs.Screen.{IsScreen}
+use Rattle.http_cache_report.specs.PageOf.{IsPage}
 use Rattle.http_cache_audit.specs.Change.{ChangeSeen}
 use Rattle.http_cache_audit.specs.Report.{SettingsSeen, IsAudit}
 use Rattle.http_cache_audit.specs.WhatIf.{IsWhatIf}
@@ -39,28 +43,47 @@ abbrev pub IsOfAll : Bool → SettingsSeen → List RecordedSeen → Hits → Li
 IsOfAll true s rs hits text = IsByUrl s rs text × (hits ≡ no_hits)
 IsOfAll false s rs hits text = IsAudit s rs hits text
 
--- the text is a report of a recording, or of all of it
-abbrev pub IsOfForm : Form → SettingsSeen → List RecordedSeen → Hits → List ℕ → Type 0
-IsOfForm Report s rs hits text = IsScreen s rs hits text
-IsOfForm All s rs hits text = IsOfAll s.by_url s rs hits text
+-- the text is the report of a recording, or of responses of which only the heads were read
+abbrev pub IsReport : Bool → SettingsSeen → List RecordedSeen → Hits → List ℕ → Type 0
+IsReport true s rs hits text = AreResponses s.options rs text × (hits ≡ no_hits)
+IsReport false s rs hits text = IsScreen s rs hits text
+
+-- the text is a report, also as a page, or of all of the recording
+abbrev pub IsOfForm : Form → Bool → SettingsSeen → List RecordedSeen → Hits → List ℕ → Type 0
+IsOfForm Report are_heads s rs hits text = IsReport are_heads s rs hits text
+IsOfForm Html are_heads s rs hits text = IsPage s rs hits text
+IsOfForm All are_heads s rs hits text = IsOfAll s.by_url s rs hits text
 
 -- the text is of a recording, or of what changes spare
-abbrev pub IsPrinted : Form → SettingsSeen → List ChangeSeen → List RecordedSeen → Hits → List ℕ → Type 0
-IsPrinted form s [] rs hits text = IsOfForm form s rs hits text
-IsPrinted form s (c ∷ cs) rs hits text = IsWhatIf s (c ∷ cs) rs text × (hits ≡ no_hits)
+abbrev pub IsPrinted : Form → Bool → SettingsSeen → List ChangeSeen → List RecordedSeen → Hits → List ℕ → Type 0
+IsPrinted form are_heads s [] rs hits text = IsOfForm form are_heads s rs hits text
+IsPrinted form are_heads s (c ∷ cs) rs hits text = IsWhatIf s (c ∷ cs) rs text × (hits ≡ no_hits)
 
--- the bytes are a recording, the text is of that, and an entry was audited, or none was
-pub record IsAudited (form : Form) (s : SettingsSeen) (cs : List ChangeSeen) (ignores_no_cache : Bool)
+-- bytes are heads of responses, or a recording
+abbrev pub IsReadAs : Bool → ℤ → Bool → List ℕ → List RecordedSeen → Type 0
+IsReadAs true now ignores_no_cache bytes rs = IsHeads now bytes rs
+IsReadAs false now ignores_no_cache bytes rs = IsRecording ignores_no_cache bytes rs
+
+-- bytes are heads of responses if they begin so, and else a recording
+pub record IsInput (now : ℤ) (ignores_no_cache : Bool) (bytes : List ℕ) (are_heads : Bool) (rs : List RecordedSeen)
+    : Type 0 where
+  pub begins : are_heads ≡ is_heads bytes
+  pub is_read : IsReadAs are_heads now ignores_no_cache bytes rs
+
+-- the bytes are heads or a recording, the text is of that, and an entry was audited, or none was
+pub record IsAudited (form : Form) (now : ℤ) (s : SettingsSeen) (cs : List ChangeSeen) (ignores_no_cache : Bool)
     (bytes : List ℕ) (ended : Ended) (text : List ℕ) : Type 0 where
   pub recorded : List RecordedSeen
-  pub is_recording : IsRecording ignores_no_cache bytes recorded
-  pub is_printed : IsPrinted form s cs recorded ended.hits text
+  pub are_heads : Bool
+  pub is_input : IsInput now ignores_no_cache bytes are_heads recorded
+  pub is_printed : IsPrinted form are_heads s cs recorded ended.hits text
   pub any : ended.audited ≡ any_audited recorded
 
 -- what an error says of what a reader has left, where that is known
 abbrev pub IsRefusal : Option (List ℕ) → AuditError → Type 0
 IsRefusal known NotReadable = ⊤
 IsRefusal known TooLong = IfSome known (λ bytes. longest_recording < length bytes)
-IsRefusal known (Recording cause) = IfSome known (λ bytes. IsCause bytes cause)
+IsRefusal known (Recording cause) = IfSome known (λ bytes. (is_heads bytes ≡ false) × IsCause bytes cause)
+IsRefusal known (Heads cause) = IfSome known (λ bytes. (is_heads bytes ≡ true) × heads.IsCause bytes cause)
 IsRefusal known Memory = ⊤
 IsRefusal known NotWritten = ⊤

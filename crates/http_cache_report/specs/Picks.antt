@@ -19,7 +19,7 @@ use Rattle.http_cache_report.specs.declared.picks.Base.TheVariants.{Later, Visit
 use Rattle.http_cache_report.specs.declared.picks.Pick.{Pick}
 use Rattle.http_cache_report.specs.declared.advice.Advice.{Advice}
 use Rattle.http_cache_report.specs.Advice.{advice_of}
-use Rattle.http_cache_report.specs.Queries.{text_at}
+use Rattle.http_cache_report.specs.Queries.{text_at, base_of}
 use Rattle.http_cache_report.specs.Remedy.{RemedySeen, is_still_in_full}
 
 -- ---- which
@@ -106,15 +106,22 @@ known_after ms rows known = flat_map (known_at ms known) (enumerate_from 0 rows)
 abbrev pub cost_name : Bool → List ℕ
 cost_name is_first = if is_first then codes "first_cost" else codes "later_cost"
 
--- what a request costs is added for its url
+abbrev pub base_name : Bool → List ℕ
+base_name is_first = if is_first then codes "first_base" else codes "later_base"
+
+-- what a request costs is added for its url, and for all urls with its base
+abbrev pub byte_additions : Bool → List ℕ → ℕ → List Addition
+byte_additions is_first url bytes =
+    (label_of (cost_name is_first) url, bytes) ∷ (label_of (base_name is_first) (base_of url), bytes) ∷ []
+
 abbrev pub url_cost : List RecordedSeen → RowSeen → Known → List Addition
 url_cost rs r known =
     if is_asked_reading r.recorded.reading
-    then (label_of (cost_name known.is_first) (target_of r.recorded), (cost_of rs known r).bytes) ∷ [] else []
+    then byte_additions known.is_first (target_of r.recorded) (cost_of rs known r).bytes else []
 
 abbrev pub url_costs_at : List RecordedSeen → List Known → ℕ × RowSeen → List Addition
 url_costs_at rs known at = option_map_or (url_cost rs at.1) (slice_get known at.0) []
 
--- what the requests of each url cost in the first load and in later ones
+-- what the requests of each url, and of all with its base, cost in the first load and in later ones
 abbrev pub url_costs : List RecordedSeen → List Known → List RowSeen → List Addition
 url_costs rs known rows = flat_map (url_costs_at rs known) (enumerate_from 0 rows)

@@ -29,6 +29,8 @@ use Rattle.http_cache_report.specs.BySize.{IsOrder, rest_text}
 use Rattle.http_cache_report.specs.First.{first_head, line_seen, lines_of, lines_text}
 use Rattle.http_cache_report.specs.Wrong.{IsWrong}
 use Rattle.http_cache_report.specs.Both.{IsBoth}
+use Rattle.http_cache_report.specs.InOrder.{AreInOrder}
+use Rattle.http_cache_report.specs.Plain.{changing_seen, query_lines}
 
 -- ---- what isn't judged
 
@@ -119,6 +121,7 @@ pub record AreTexts (s : SettingsSeen) (rs : List RecordedSeen) (target : Uri) (
   pub guesses : AddsGuesses rs v f.urls.items [] (string_bytes t.guesses)
   pub wrong : IsWrong (short_of f s.hides_queries) rs f.urls.items (string_bytes t.wrong)
   pub both : IsBoth (short_of f s.hides_queries) rs s.options target f.urls.items (string_bytes t.both)
+  pub in_order : AreInOrder (short_of f s.hides_queries) rs f.sums v ps f.urls.items (string_bytes t.in_order)
 
 unfoldable pub visit_head : List ℕ
 visit_head = codes "\nWILL COST ON A LATER VISIT, in an hour, a day, a week, thirty days\n"
@@ -136,10 +139,22 @@ changes_text f base v ps t a =
 unfoldable pub later_text : Visits → Texts → After → List ℕ
 later_text v t a = visit_head ++ (string_bytes t.visits ++ (string_bytes t.guesses ++ end_text v a))
 
+-- the lines of what looks wrong: first those of urls, then those of queries
+abbrev pub wrong_lines : Facts → Texts → After → List ℕ
+wrong_lines f t a =
+    string_bytes t.wrong ++ query_lines (string_bytes f.host) a.costs a.plain f.changing.items
+
+-- what looks wrong, if anything does
+unfoldable pub wrong_section : List ℕ → List ℕ
+wrong_section [] = []
+wrong_section (b ∷ bs) = codes "\nLOOKS WRONG\n" ++ (b ∷ bs)
+
 -- the sections, of texts and of what comes of what is advised
 abbrev pub sections_text : Facts → Base → Visits → List Pick → Texts → After → List ℕ
 sections_text f base v ps t a =
-    changes_text f base v ps t a ++ (later_text v t a ++ (string_bytes t.wrong ++ string_bytes t.both))
+    changes_text f base v ps t a
+    ++ (later_text v t a
+    ++ (wrong_section (wrong_lines f t a) ++ (string_bytes t.both ++ string_bytes t.in_order)))
 
 -- the sections of a recording that has a first load
 pub record AreSections (s : SettingsSeen) (rs : List RecordedSeen) (target : Uri) (f : Facts) (span : Span) (text : List ℕ)
@@ -153,7 +168,9 @@ pub record AreSections (s : SettingsSeen) (rs : List RecordedSeen) (target : Uri
       ArePicks rs f.urls.items (base_of f.sums) (sums_by (base_of f.sums) f.sums visits)
       (all_by (base_of f.sums) f.sums visits) picks
   pub are_texts : AreTexts s rs target f visits picks texts
-  pub is_after : IsAfter rs s.options target (map (remedy_by rs) picks) f.known.items f.repeats.items (span_seen span) after
+  pub is_after :
+      IsAfter rs s.options target (map (remedy_by rs) picks) f.known.items (map changing_seen f.changing.items)
+      f.repeats.items (span_seen span) after
   pub is_text : text ≡ sections_text f (base_of f.sums) visits picks texts after
 
 -- the sections, if the recording has a first load

@@ -27,18 +27,20 @@ send_for w =
     else (if bytes_eq w (codes "; in Cache-Control") then codes "`,` between directives"
     else (if bytes_eq w (codes "no comma between directives") then codes "`,` between directives"
     else (if bytes_eq w (codes "seconds in quotes") then codes "seconds without quotes"
+    else (if bytes_eq w (codes "a max-age that can't be read") then codes "a number of seconds"
     else (if bytes_eq w (codes "no-store beside max-age") then codes "only no-store, or only the lifetime"
     else (if bytes_eq w (codes "public beside private") then codes "private if it is one user's, else public"
     else (if bytes_eq w (codes "Pragma without Cache-Control") then codes "Cache-Control: no-cache"
     else (if bytes_eq w (codes "Expires without Cache-Control") then codes "Cache-Control: max-age=N"
     else (if bytes_eq w (codes "Expires against max-age") then codes "only max-age"
+    else (if bytes_eq w (codes "an Expires that can't be read") then codes "Cache-Control: max-age=N"
     else (if bytes_eq w (codes "an ETag without quotes") then codes "the ETag in quotes"
     else (if bytes_eq w (codes "a Date in the future") then codes "the right time"
     else (if bytes_eq w (codes "an old Date without Age") then codes "Age, from the cache on the way"
     else (if bytes_eq w (codes "Vary: *") then codes "no Vary"
     else (if bytes_eq w (codes "Vary: Cookie") then codes "private if it is one user's, else no Vary"
     else (if bytes_eq w (codes "Vary: User-Agent") then codes "no Vary"
-    else (if bytes_eq w (codes "sent in full to its own validator") then codes "a 304 to If-None-Match" else [])))))))))))))))
+    else (if bytes_eq w (codes "sent in full to its own validator") then codes "a 304 to If-None-Match" else [])))))))))))))))))
 
 -- what looks wrong, as a line
 abbrev pub fault_line : List ℕ → List ℕ → List ℕ
@@ -61,13 +63,8 @@ lines_at s rs us key = option_map_or (fault_lines s rs) (slice_get us key.1) []
 abbrev pub order_text : StyleSeen → List RecordedSeen → List Url → List (ℕ × ℕ) → List ℕ
 order_text s rs us order = flat_map (lines_at s rs us) (take 12 order) ++ rest_text (length order - 12)
 
--- the section, if something looks wrong
-abbrev pub section_text : StyleSeen → List RecordedSeen → List Url → List (ℕ × ℕ) → List ℕ
-section_text s rs us [] = []
-section_text s rs us (k ∷ ks) = codes "\nLOOKS WRONG\n" ++ order_text s rs us (k ∷ ks)
-
--- the text of what looks wrong
+-- the lines of what looks wrong
 pub record IsWrong (s : StyleSeen) (rs : List RecordedSeen) (us : List Url) (text : List ℕ) : Type 0 where
   pub order : List (ℕ × ℕ)
   pub is_order : IsOrder rs us (wrong_of rs us) order
-  pub is_text : text ≡ section_text s rs us order
+  pub is_text : text ≡ order_text s rs us order

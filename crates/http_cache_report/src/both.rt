@@ -42,8 +42,8 @@ fn joined(alloc: Global, texts: &[String]) -> Result<String, AllocError>
     Ok(out)
 }
 
-// Why a response isn't stored.
-fn obstacle_text(
+/// Returns why a response isn't stored.
+pub fn obstacle_text(
     alloc: Global,
     printed: &Printed,
     obstacles: &Obstacles,
@@ -74,8 +74,8 @@ fn received_text(
     }
 }
 
-// What a cache does with the response of a row, or nothing if it received none.
-fn row_text(alloc: Global, row: &Row<'_>) -> Result<String, AllocError>
+/// Returns what a cache does with the response of a row, or nothing if it received none.
+pub fn row_text(alloc: Global, row: &Row<'_>) -> Result<String, AllocError>
     ensures { IfOk result (λ text. string_bytes text ≡ row_text (row_seen row.now)) }
 {
     match &row.verdict {
@@ -84,7 +84,8 @@ fn row_text(alloc: Global, row: &Row<'_>) -> Result<String, AllocError>
     }
 }
 
-fn text_of(alloc: Global, rows: &[Row<'_>], index: usize) -> Result<String, AllocError>
+/// Returns what a cache does with the response of the row at an index.
+pub fn text_of(alloc: Global, rows: &[Row<'_>], index: usize) -> Result<String, AllocError>
     ensures { IfOk result (λ text. string_bytes text ≡ text_of (map row_seen rows.now) index) }
 {
     match rows.get(index) {
@@ -235,7 +236,8 @@ fn both_section(
     Ok(out)
 }
 
-fn differing_order(
+/// Returns the urls that the caches treat differently, in the order of their sizes.
+pub fn differing_order(
     alloc: Global,
     recorded: &[Recorded],
     own: &[Row<'_>],
@@ -249,8 +251,8 @@ fn differing_order(
     order_of(alloc, recorded, urls, listed.as_slice())
 }
 
-// The other kind of cache.
-fn other_cache(options: &CacheOptions) -> CacheOptions
+/// Returns the options of the other kind of cache.
+pub fn other_cache(options: &CacheOptions) -> CacheOptions
     ensures { options_of result ≡ other_cache (options_of options.now) }
 {
     let mut other = *options;

@@ -2,6 +2,7 @@
 ghost use Rattle.std.specs.Prelude.{◌≡◌};
 ghost use Rattle.http_cache_report.specs.Status.{status_of};
 
+use crate::heads::HeadsError;
 use http_cache_recording::ReadingError;
 use thiserror::Error;
 
@@ -17,6 +18,9 @@ pub enum AuditError {
     /// What it gave is no recording.
     #[error("{0}")]
     Recording(ReadingError),
+    /// What it gave begins like heads of responses, and can't be read so.
+    #[error("heads: {0}")]
+    Heads(HeadsError),
     /// The allocator had no memory.
     #[error("out of memory")]
     Memory,
@@ -26,15 +30,19 @@ pub enum AuditError {
 }
 
 impl AuditError {
-    /// The exit status: 2 where the input is no recording, 3 where memory or the output fails.
+    /// Returns the exit status: 2 if the input can't be read as it is, 3 if memory or the output fails.
     pub fn status(&self) -> u8
         ensures { result ≡ status_of self.now }
     {
         match self {
             AuditError::Recording(ReadingError::Memory)
+            | AuditError::Heads(HeadsError::Memory)
             | AuditError::Memory
             | AuditError::NotWritten => 3,
-            AuditError::NotReadable | AuditError::TooLong | AuditError::Recording(_) => 2,
+            AuditError::NotReadable
+            | AuditError::TooLong
+            | AuditError::Recording(_)
+            | AuditError::Heads(_) => 2,
         }
     }
 }

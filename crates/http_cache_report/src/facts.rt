@@ -3,6 +3,7 @@ ghost use Rattle.std.specs.Prelude.{◌≡◌, ◌+◌, ◌/◌, nat_abs, ◌-�
 ghost use Rattle.http_cache_semantics.specs.Options.{options_of};
 ghost use Rattle.http_cache_recording.specs.Entry.{recorded_seen};
 ghost use Rattle.http_cache_audit.specs.Row.{row_seen};
+ghost use Rattle.http_cache_report.specs.Plain.{changing_seen, plain_recorded};
 ghost use Rattle.http_cache_report.specs.Remedy.{remedy_seen, remedied};
 ghost use Rattle.http_cache_report.specs.Visit.{span_seen};
 ghost use Rattle.http_cache_report.specs.Words.{host_of};
@@ -12,6 +13,7 @@ ghost use Rattle.http_cache_report.specs.Facts.{AreCostsWith, IsAfter, AreRepeat
 
 use crate::later::{Visits, visits_of};
 use crate::picks::{known_after, url_costs};
+use crate::plain::{Changing, changing_in, plain_all};
 use crate::queries::{bases_of, changing_of, text_at};
 use crate::remedy::{Remedy, is_still_in_full, remedied_all};
 use crate::top::{first_line, loads_of, page_url};
@@ -43,6 +45,8 @@ pub struct Facts {
     pub costs: Counts,
     /// Its urls.
     pub urls: Vec<Url>,
+    /// Those whose query changes while their response doesn't.
+    pub changing: Vec<Changing>,
     /// The requests that a later visit makes once more.
     pub repeats: Vec<Repeat>,
     /// When the first load began, and when the recording ended.
@@ -56,6 +60,8 @@ pub struct After {
     pub alone: Counts,
     /// What they cost if urls send all that is advised.
     pub costs: Counts,
+    /// What they cost then without the queries that change.
+    pub plain: Counts,
     /// What later visits cost then.
     pub visits: Visits,
 }
@@ -112,7 +118,8 @@ fn facts_by(
     let sums = sums_of(alloc, rows, known.as_slice())?;
     let costs = url_costs(alloc, recorded, rows, known.as_slice())?;
     let urls = urls_in(alloc, recorded, rows, known.as_slice())?;
-    let (repeats, _) = repeats_by(alloc, recorded, rows, known.as_slice(), urls.as_slice())?;
+    let (repeats, bases) = repeats_by(alloc, recorded, rows, known.as_slice(), urls.as_slice())?;
+    let changing = changing_in(alloc, &bases)?;
     let span = span_of(recorded, rows);
     let loads = loads_of(alloc, rows)?;
     let line = first_line(alloc, rows, loads.as_slice(), took(&span), is_shared)?;
@@ -124,6 +131,7 @@ fn facts_by(
         sums,
         costs,
         urls,
+        changing,
         repeats,
         span,
     })
@@ -212,6 +220,22 @@ fn repeats_after(
     Ok(all)
 }
 
+// What a recording costs without the queries that change.
+fn plain_costs(
+    alloc: Global,
+    recorded: Vec<Recorded>,
+    target: &Uri,
+    options: &CacheOptions,
+    known: &[Known],
+    changing: &[Changing],
+) -> Result<Counts, AllocError>
+    ensures { IfOk result (AreUrlCosts (map (plain_recorded (map changing_seen changing.now))
+        (map recorded_seen recorded.items)) (options_of options.now) target.now known.now) }
+{
+    let recorded = plain_all(alloc, recorded, changing)?;
+    costs_of(alloc, recorded.as_slice(), target, options, known)
+}
+
 // What a recording costs with what is advised.
 fn costs_with(
     alloc: Global,
@@ -219,16 +243,18 @@ fn costs_with(
     target: &Uri,
     options: &CacheOptions,
     known: &[Known],
+    changing: &[Changing],
     repeats: &[Repeat],
     span: &Span,
-) -> Result<(Counts, Visits), AllocError>
+) -> Result<(Counts, Counts, Visits), AllocError>
     ensures { IfOk result (AreCostsWith (map recorded_seen recorded.items) (options_of options.now)
-        target.now known.now repeats.now (span_seen span.now)) }
+        target.now known.now (map changing_seen changing.now) repeats.now (span_seen span.now)) }
 {
     let mut recorded = recorded;
     let costs = costs_of(alloc, recorded.as_slice(), target, options, known)?;
     let visits = visits_of(alloc, &mut recorded, repeats, *span, target, *options)?;
-    Ok((costs, visits))
+    let plain = plain_costs(alloc, recorded, target, options, known, changing)?;
+    Ok((costs, plain, visits))
 }
 
 /// Returns what a recording costs if urls do as they are advised.
@@ -246,26 +272,28 @@ pub fn after_of(
     span: &Span,
 ) -> Result<After, AllocError>
     ensures { IfOk result (IsAfter (map recorded_seen recorded.items) (options_of options.now)
-        target.now (map remedy_seen remedies.now) facts.now.known.items facts.now.repeats.items
-        (span_seen span.now)) }
+        target.now (map remedy_seen remedies.now) facts.now.known.items
+        (map changing_seen facts.now.changing.items) facts.now.repeats.items (span_seen span.now)) }
 {
     let known = facts.known.as_slice();
     let repeats = facts.repeats.as_slice();
     let (after, alone) = alone_of(alloc, recorded.as_slice(), target, options, known, remedies)?;
     let repeats = repeats_after(alloc, recorded.as_slice(), remedies, repeats)?;
     let recorded = remedied_all(alloc, recorded, remedies)?;
-    let (costs, visits) = costs_with(
+    let (costs, plain, visits) = costs_with(
         alloc,
         recorded,
         target,
         options,
         after.as_slice(),
+        facts.changing.as_slice(),
         repeats.as_slice(),
         span,
     )?;
     Ok(After {
         alone,
         costs,
+        plain,
         visits,
     })
 }

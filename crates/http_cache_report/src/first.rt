@@ -28,13 +28,15 @@ pub struct Line {
     pub text: String,
 }
 
-fn tag_words(adds_tag: bool) -> &'static str
+/// Returns the words for an ETag that is added, if it is.
+pub fn tag_words(adds_tag: bool) -> &'static str
     ensures { result.now ≡ tag_words adds_tag }
 {
     if adds_tag { ", and an ETag" } else { "" }
 }
 
-fn answer_words(answers_304: bool) -> &'static str
+/// Returns the words for answering a 304, if that is advised.
+pub fn answer_words(answers_304: bool) -> &'static str
     ensures { result.now ≡ answer_words answers_304 }
 {
     if answers_304 {
@@ -120,15 +122,20 @@ pub fn lines_of(
     Ok(all)
 }
 
-fn less(before: &Counts, after: &Counts, name: &str, url: &str) -> Result<u64, AllocError>
+/// Returns how many bytes less a url costs, by two sums under a name.
+///
+/// # Errors
+///
+/// Returns an error only if there is no memory.
+pub fn less(before: &Counts, after: &Counts, name: &str, url: &str) -> Result<u64, AllocError>
     ensures { IfOk result (λ n. n ≡ less before.now after.now name.now url.now) }
 {
     let (before, after) = (before.total_of(name, url)?, after.total_of(name, url)?);
     Ok(before.saturating_sub(after))
 }
 
-// What a url saves in the later loads, or at the visit a day later.
-fn saved_by(
+/// Returns what a url saves in the later loads, or at the visit a day later.
+pub fn saved_by(
     base: Base,
     costs: &Counts,
     visits: &Visits,

@@ -89,22 +89,22 @@ pub fn visits_of(
     })
 }
 
-// Whether the full response of a url is sent again.
-fn is_again(visit: &Counts, url: &str) -> Result<bool, AllocError>
+/// Returns whether the full response of a url is sent again.
+pub fn is_again(visit: &Counts, url: &str) -> Result<bool, AllocError>
     ensures { IfOk result (λ holds. holds ≡ is_again visit.now url.now) }
 {
     Ok(visit.total_of("again", url)? > 0)
 }
 
-// Whether a 304 confirms what is stored for a url.
-fn is_confirmed(visit: &Counts, url: &str) -> Result<bool, AllocError>
+/// Returns whether a 304 confirms what is stored for a url.
+pub fn is_confirmed(visit: &Counts, url: &str) -> Result<bool, AllocError>
     ensures { IfOk result (λ holds. holds ≡ is_confirmed visit.now url.now) }
 {
     Ok(visit.total_of("confirmed", url)? > 0)
 }
 
-// What a visit does with a url, in a word.
-fn act(visit: &Counts, url: &str) -> Result<&'static str, AllocError>
+/// Returns what a visit does with a url: `again`, `304` or `-`.
+pub fn act(visit: &Counts, url: &str) -> Result<&'static str, AllocError>
     ensures { IfOk result (λ word. word.now ≡ act visit.now url.now) }
 {
     let (again, confirmed) = (is_again(visit, url)?, is_confirmed(visit, url)?);
@@ -146,7 +146,8 @@ fn acts_text(alloc: Global, visits: &Visits, url: &str) -> Result<String, AllocE
     format!(in alloc; "{hour:<6}{day:<6}{week:<6}{month:<6}")
 }
 
-fn sum_in(visit: &Counts, name: &str) -> Result<u64, AllocError>
+/// Returns a sum of the whole visit.
+pub fn sum_in(visit: &Counts, name: &str) -> Result<u64, AllocError>
     ensures { IfOk result (λ n. n ≡ sum_in visit.now name.now) }
 {
     visit.total_of("visit", name)
@@ -217,14 +218,15 @@ pub fn size_at(recorded: &[Recorded], index: usize) -> u64
     }
 }
 
-fn is_given(life: Life) -> bool
+/// Returns whether headers say how long a response stays fresh.
+pub fn is_given(life: Life) -> bool
     ensures { result ≡ is_given life }
 {
     matches!(life, Life::Given(_))
 }
 
-// Whether a url is among those to change first.
-fn is_picked(picks: &[Pick], url: &Url) -> bool
+/// Returns whether a url is among those to change first.
+pub fn is_picked(picks: &[Pick], url: &Url) -> bool
     ensures { result ≡ is_picked picks.now url.now }
 {
     picks.iter().any(|pick| pick.entry == url.entry)
@@ -239,8 +241,8 @@ fn is_asked_later(recorded: &[Recorded], visits: &Visits, url: &Url) -> Result<b
     Ok(url.known.is_first && is_given(url.life) && asked)
 }
 
-// Whether a later visit asks for a url that isn't changed first, and isn't small, or fails.
-fn is_listed(
+/// Returns whether a later visit asks for a url that isn't changed first, and isn't small, or fails.
+pub fn is_listed(
     recorded: &[Recorded],
     visits: &Visits,
     picks: &[Pick],
@@ -282,8 +284,8 @@ pub fn listed_of(
     Ok(all)
 }
 
-// What to do about a url.
-fn act_on(recorded: &[Recorded], url: &Url) -> &'static str
+/// Returns what to do about a url.
+pub fn act_on(recorded: &[Recorded], url: &Url) -> &'static str
     ensures { result.now ≡ act_on (map recorded_seen recorded.now) url.now }
 {
     if status_at(recorded, url.full) >= 400 {
@@ -342,8 +344,8 @@ fn guess_in(life: Life) -> Option<u64>
     }
 }
 
-// The guess for a url of the first load that is no failure.
-fn guess_of(recorded: &[Recorded], url: &Url) -> Option<u64>
+/// Returns the guess for a url of the first load that is no failure.
+pub fn guess_of(recorded: &[Recorded], url: &Url) -> Option<u64>
     ensures { result ≡ guess_of (map recorded_seen recorded.now) url.now }
 {
     if url.known.is_first && status_at(recorded, url.full) < 400 {

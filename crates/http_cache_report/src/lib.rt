@@ -1,5 +1,5 @@
-//! What a site's owner changes first, by a recorded session: the report of one screen, and how any audit is
-//! read and written.
+//! What a site's owner changes first, by a recorded session or by heads of responses: the report of one
+//! screen or as a page, what caches do with each response, and how any audit is read and written.
 #![tactic(auto)]
 
 pub mod advice;
@@ -9,11 +9,22 @@ mod copies;
 pub mod error;
 mod facts;
 mod first;
+pub mod heads;
+mod in_order;
 mod later;
 mod numbers;
+pub mod page;
+mod page_changes;
+mod page_requests;
+mod page_three;
+mod page_timeline;
+mod page_visits;
+mod page_wrong;
 mod picks;
+mod plain;
 mod queries;
 mod remedy;
+mod responses;
 pub mod run;
 pub mod screen;
 mod top;

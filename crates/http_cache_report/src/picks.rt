@@ -1,19 +1,20 @@
 //! What to change first: the urls of which most is sent when a page is loaded again, and what their requests
 //! cost.
-ghost use Rattle.std.specs.Prelude.{◌≡◌, ◌++◌, [], map, IfOk, OnOk, option_map};
+ghost use Rattle.std.specs.Prelude.{◌≡◌, ◌++◌, [], ◌∷◌, map, IfOk, OnOk, option_map};
 ghost use Rattle.std.specs.List.{flat_map};
 ghost use Rattle.std.specs.Option.{option_map_or, option_to_list};
 ghost use Rattle.http_cache_semantics.specs.Messages.{response_seen};
 ghost use Rattle.http_cache_recording.specs.Entry.{recorded_seen};
 ghost use Rattle.http_cache_audit.specs.Row.{row_seen};
-ghost use Rattle.http_cache_audit.specs.Counts.{CountsAlso, HoldsCounts, total_in};
+ghost use Rattle.http_cache_audit.specs.Counts.{CountsAlso, HoldsCounts, label_of, total_in};
+ghost use Rattle.http_cache_report.specs.Queries.{base_of};
 ghost use Rattle.http_cache_report.specs.Remedy.{remedy_seen};
 ghost use Rattle.http_cache_report.specs.Picks.{advice_by, advice_in, advice_for, bytes_in, requests_in, is_much, key_by, key_at};
 ghost use Rattle.http_cache_report.specs.Picks.{keys_of, pick_by, pick_of, pick_at, ArePicks, remedy_by, known_with, known_at};
-ghost use Rattle.http_cache_report.specs.Picks.{known_after, cost_name, url_cost, url_costs_at, url_costs};
+ghost use Rattle.http_cache_report.specs.Picks.{known_after, cost_name, base_name, byte_additions, url_cost, url_costs_at, url_costs};
 
 use crate::advice::{Advice, advice_of};
-use crate::queries::text_at;
+use crate::queries::{base_of, text_at};
 use crate::remedy::{Remedy, is_still_in_full};
 use crate::urls::Url;
 use http::response;
@@ -360,6 +361,29 @@ fn cost_name(is_first: bool) -> &'static str
     if is_first { "first_cost" } else { "later_cost" }
 }
 
+fn base_name(is_first: bool) -> &'static str
+    ensures { result.now ≡ base_name is_first }
+{
+    if is_first { "first_base" } else { "later_base" }
+}
+
+fn add_base(counts: &mut Counts, is_first: bool, url: &str, bytes: u64) -> Result<(), AllocError>
+    ensures { OnOk result (CountsAlso ((label_of (base_name is_first) (base_of url.now), bytes) ∷ [])
+        counts.old counts.new) }
+{
+    counts.add(base_name(is_first), base_of(url), bytes)
+}
+
+// Adds what a request costs for its url, and for all urls with its base.
+fn add_bytes(counts: &mut Counts, is_first: bool, url: &str, bytes: u64) -> Result<(), AllocError>
+    ensures { OnOk result (CountsAlso (byte_additions is_first url.now bytes)
+        counts.old counts.new) }
+{
+    counts.add(cost_name(is_first), url, bytes)?;
+    add_base(counts, is_first, url, bytes)?;
+    Ok(())
+}
+
 #[tactic(auto, using(http_cache_audit::proofs::CountsLemmas::also_none))]
 fn add_cost(
     counts: &mut Counts,
@@ -374,11 +398,7 @@ fn add_cost(
         return Ok(());
     }
     let cost = cost_of(recorded, known, row);
-    counts.add(
-        cost_name(known.is_first),
-        target_of(row.recorded),
-        cost.bytes,
-    )
+    add_bytes(counts, known.is_first, target_of(row.recorded), cost.bytes)
 }
 
 #[tactic(auto, using(http_cache_audit::proofs::CountsLemmas::also_none))]
@@ -397,8 +417,8 @@ fn add_cost_at(
     }
 }
 
-/// Returns what the requests of each url cost in the first load and in later ones, by what is known of each
-/// row.
+/// Returns what the requests of each url, and of all with its base, cost in the first load and in later ones,
+/// by what is known of each row.
 ///
 /// # Errors
 ///

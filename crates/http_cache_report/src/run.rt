@@ -1,13 +1,16 @@
-//! From the bytes of a recording to the text of its audit.
-ghost use Rattle.std.specs.Prelude.{◌≡◌, ◌≢◌, List, ℕ, Err, map, IfOk, IfErr, OnOk, OnErr, IfSome, string_bytes};
+//! From the bytes of a recording, or of heads of responses, to the text of its audit.
+ghost use Rattle.std.specs.Prelude.{◌≡◌, ◌≢◌, List, ℕ, Some, Err, map, IfOk, IfErr, OnOk, OnErr, IfSome, string_bytes};
 ghost use Rattle.std.specs.Io.KnownBytes.{Appends};
 ghost use Rattle.http_cache_recording.specs.Entry.{recorded_seen};
-ghost use Rattle.http_cache_recording.specs.Recording.{IsRecording};
 ghost use Rattle.http_cache_audit.specs.Report.{settings_seen};
-ghost use Rattle.http_cache_report.specs.Output.{front_of, any_audited, no_hits, IsOfAll, IsOfForm, IsPrinted, IsAudited, IsRefusal};
+ghost use Rattle.http_cache_report.specs.Output.{front_of, any_audited, no_hits, IsOfAll, IsReport, IsOfForm, IsPrinted, IsAudited, IsRefusal};
+ghost use Rattle.http_cache_report.specs.Output.{IsInput};
 ghost use Rattle.http_cache_audit.specs.Change.{change_seen};
 
 use crate::error::AuditError;
+use crate::heads::{heads_from_bytes, is_heads};
+use crate::page::page;
+use crate::responses::responses_text;
 use crate::screen::screen;
 use http_cache_audit::by_url::by_url;
 use http_cache_audit::change::Change;
@@ -15,7 +18,9 @@ use http_cache_audit::report::{Hits, Settings, audit};
 use http_cache_audit::whatif::what_if;
 use http_cache_recording::recording::{LONGEST, recording_from_bytes};
 use http_cache_recording::{Reading, Recorded};
+use jiff::Timestamp;
 use std::alloc::{AllocError, Global};
+use std::hash::RandomState;
 use std::io::{ErrorKind, Read, Write};
 
 // What a reader has left, as far as one byte past the longest recording.
@@ -51,21 +56,47 @@ fn bytes_of<R: Read>(alloc: Global, reader: &mut R) -> Result<Vec<u8>, AuditErro
     Ok(all)
 }
 
+// What is recorded of bytes, and whether they are heads of responses.
+fn recorded_of(
+    alloc: Global,
+    keys: RandomState,
+    now: Timestamp,
+    bytes: Vec<u8>,
+    ignores_no_cache: bool,
+) -> Result<(Vec<Recorded>, bool), AuditError>
+    ensures read { IfOk result (λ made. IsInput now.nanosecond ignores_no_cache bytes.items made.1
+        (map recorded_seen made.0.items)) }
+    ensures refused { IfErr result (IsRefusal (Some bytes.items)) }
+    ensures no_writer { result ≢ Err AuditError.NotWritten }
+{
+    if is_heads(bytes.as_slice()) {
+        return match heads_from_bytes(alloc, keys, bytes.as_slice(), now) {
+            Ok(recorded) => Ok((recorded, true)),
+            Err(cause) => Err(AuditError::Heads(cause)),
+        };
+    }
+    match recording_from_bytes(alloc, bytes, ignores_no_cache) {
+        Ok(recorded) => Ok((recorded, false)),
+        Err(cause) => Err(AuditError::Recording(cause)),
+    }
+}
+
+// What is recorded of the bytes that a reader has left, and whether they are heads of responses.
 fn recording_of<R: Read>(
     alloc: Global,
+    keys: RandomState,
+    now: Timestamp,
     reader: &mut R,
     ignores_no_cache: bool,
-) -> Result<Vec<Recorded>, AuditError>
-    ensures read { IfOk result (λ rs. IfSome (R.remaining reader.old)
-        (λ bytes. IsRecording ignores_no_cache bytes (map recorded_seen rs.items))) }
+) -> Result<(Vec<Recorded>, bool), AuditError>
+    ensures read { IfOk result (λ made. IfSome (R.remaining reader.old)
+        (λ bytes. IsInput now.nanosecond ignores_no_cache bytes made.1
+        (map recorded_seen made.0.items))) }
     ensures refused { IfErr result (IsRefusal (R.remaining reader.old)) }
     ensures no_writer { result ≢ Err AuditError.NotWritten }
 {
     let bytes = bytes_of(alloc, reader)?;
-    match recording_from_bytes(alloc, bytes, ignores_no_cache) {
-        Ok(recorded) => Ok(recorded),
-        Err(cause) => Err(AuditError::Recording(cause)),
-    }
+    recorded_of(alloc, keys, now, bytes, ignores_no_cache)
 }
 
 fn any_audited(recorded: &[Recorded]) -> bool
@@ -100,6 +131,8 @@ fn no_hits() -> Hits
 pub enum Form {
     /// A report of one screen.
     Report,
+    /// The report as a page of HTML.
+    Html,
     /// All of it: a line or an object for each request, or an object for each url.
     All,
 }
@@ -121,18 +154,38 @@ fn of_all(
     }
 }
 
+// The report of a recording, or the text of responses of which only the heads were read.
+fn report_of(
+    alloc: Global,
+    recorded: Vec<Recorded>,
+    are_heads: bool,
+    settings: Settings,
+) -> Result<(String, Hits), AllocError>
+    ensures { IfOk result (λ made. IsReport are_heads (settings_seen settings)
+        (map recorded_seen recorded.items) made.1 (string_bytes made.0)) }
+{
+    if are_heads {
+        let text = responses_text(alloc, recorded, settings.options)?;
+        Ok((text, no_hits()))
+    } else {
+        screen(alloc, recorded, settings)
+    }
+}
+
 // The report of a recording, or all of it.
 fn of_form(
     alloc: Global,
     recorded: Vec<Recorded>,
+    are_heads: bool,
     form: Form,
     settings: Settings,
 ) -> Result<(String, Hits), AllocError>
-    ensures { IfOk result (λ made. IsOfForm form (settings_seen settings)
+    ensures { IfOk result (λ made. IsOfForm form are_heads (settings_seen settings)
         (map recorded_seen recorded.items) made.1 (string_bytes made.0)) }
 {
     match form {
-        Form::Report => screen(alloc, recorded, settings),
+        Form::Report => report_of(alloc, recorded, are_heads, settings),
+        Form::Html => page(alloc, recorded, settings),
         Form::All => of_all(alloc, recorded.as_slice(), settings),
     }
 }
@@ -141,16 +194,17 @@ fn of_form(
 fn printed(
     alloc: Global,
     recorded: Vec<Recorded>,
+    are_heads: bool,
     form: Form,
     changes: &[Change],
     settings: Settings,
 ) -> Result<(String, Hits), AllocError>
-    ensures { IfOk result (λ made. IsPrinted form (settings_seen settings)
+    ensures { IfOk result (λ made. IsPrinted form are_heads (settings_seen settings)
         (map change_seen changes.now) (map recorded_seen recorded.items) made.1
         (string_bytes made.0)) }
 {
     if changes.is_empty() {
-        return of_form(alloc, recorded, form, settings);
+        return of_form(alloc, recorded, are_heads, form, settings);
     }
     let text = what_if(alloc, recorded, changes, settings)?;
     Ok((text, no_hits()))
@@ -159,36 +213,43 @@ fn printed(
 // The text for what a reader has left, and how the audit ended.
 fn text_of<R: Read>(
     alloc: Global,
+    keys: RandomState,
+    now: Timestamp,
     reader: &mut R,
     form: Form,
     changes: &[Change],
     settings: Settings,
 ) -> Result<(String, Ended), AuditError>
     ensures audited { IfOk result (λ made. IfSome (R.remaining reader.old)
-        (λ bytes. IsAudited form (settings_seen settings)
+        (λ bytes. IsAudited form now.nanosecond (settings_seen settings)
         (map change_seen changes.now) settings.ignores_no_cache bytes made.1
         (string_bytes made.0))) }
     ensures refused { IfErr result (IsRefusal (R.remaining reader.old)) }
     ensures no_writer { result ≢ Err AuditError.NotWritten }
 {
-    let recorded = recording_of(alloc, reader, settings.ignores_no_cache)?;
+    let ignores = settings.ignores_no_cache;
+    let (recorded, are_heads) = recording_of(alloc, keys, now, reader, ignores)?;
     let audited = any_audited(recorded.as_slice());
-    match printed(alloc, recorded, form, changes, settings) {
+    match printed(alloc, recorded, are_heads, form, changes, settings) {
         Ok((text, hits)) => Ok((text, Ended { audited, hits })),
         Err(_) => Err(AuditError::Memory),
     }
 }
 
 /// Reads a recording to its end, writes the text of its audit and nothing else, and returns how it ended.
-/// With changes of headers the text is of what these spare.
+/// With changes of headers the text is of what these spare. Bytes that begin with `HTTP/` are heads of
+/// responses instead, each received at its Date, else `now`. Their names of fields are another's choice, so
+/// `keys` are secret.
 ///
 /// # Errors
 ///
-/// Returns `NotReadable` or `TooLong` if the bytes can't be read, `Recording` if they are no recording, and
-/// `Memory` if there is none: then nothing was written. Returns `NotWritten` if the writer fails: then a
+/// Returns `NotReadable` or `TooLong` if the bytes can't be read, `Recording` or `Heads` if they are neither,
+/// and `Memory` if there is none: then nothing was written. Returns `NotWritten` if the writer fails: then a
 /// beginning of the text may have been written.
 pub fn run<R: Read, W: Write>(
     alloc: Global,
+    keys: RandomState,
+    now: Timestamp,
     reader: &mut R,
     writer: &mut W,
     form: Form,
@@ -196,13 +257,13 @@ pub fn run<R: Read, W: Write>(
     settings: Settings,
 ) -> Result<Ended, AuditError>
     ensures done { IfOk result (λ ended. IfSome (R.remaining reader.old) (λ bytes.
-        (text : List ℕ) × IsAudited form (settings_seen settings)
+        (text : List ℕ) × IsAudited form now.nanosecond (settings_seen settings)
         (map change_seen changes.now) settings.ignores_no_cache bytes ended text
         × Appends (W.contents writer.old) (W.contents writer.new) text)) }
     ensures refused { IfErr result (IsRefusal (R.remaining reader.old)) }
     ensures nothing { result ≢ Err AuditError.NotWritten → OnErr result (writer.new ≡ writer.old) }
 {
-    let (text, ended) = text_of(alloc, reader, form, changes, settings)?;
+    let (text, ended) = text_of(alloc, keys, now, reader, form, changes, settings)?;
     match writer.write_all(text.as_bytes()) {
         Ok(()) => Ok(ended),
         Err(_) => Err(AuditError::NotWritten),

@@ -8,16 +8,18 @@ ghost use Rattle.http_cache_audit.specs.Report.{settings_seen, count_seen};
 ghost use Rattle.http_cache_report.specs.Words.{style_seen};
 ghost use Rattle.http_cache_report.specs.Screen.{bytes_words, kind_line, apart_line, apart_lines, not_judged, base_of, sums_by};
 ghost use Rattle.http_cache_report.specs.Screen.{all_by, top_text, short_of, least_of, visit_at, visit_lines, AreVisitLines, end_text, notes_text};
-ghost use Rattle.http_cache_report.specs.Screen.{AreTexts, change_head, changes_text, visit_head, later_text, sections_text, AreSections, AreSectionsOf, hits_of, screen_text, IsScreen};
+ghost use Rattle.http_cache_report.specs.Screen.{AreTexts, wrong_lines, wrong_section, change_head, changes_text, visit_head, later_text, sections_text, AreSections, AreSectionsOf, hits_of, screen_text, IsScreen};
 ghost use Rattle.http_cache_report.specs.Picks.{ArePicks};
 
 use crate::both::both_text;
 use crate::by_size::{MOST, order_of, push_rest};
 use crate::facts::{After, Facts, after_of, facts_of};
 use crate::first::{Line, lines_of, push_first_head, push_lines};
+use crate::in_order::in_order_text;
 use crate::later::{Visits, listed_of, push_guesses, push_totals, push_visit_text, visits_of};
 use crate::numbers::kilobytes;
 use crate::picks::{Base, Pick, picks_of, remedies_of};
+use crate::plain::push_query_lines;
 use crate::top::push_wire;
 use crate::urls::Url;
 use crate::visit::Span;
@@ -32,7 +34,8 @@ use http_cache_recording::Recorded;
 use std::alloc::{AllocError, Global};
 use std::fmt::Write;
 
-fn bytes_words(alloc: Global, amount: &str, bytes: u64) -> Result<String, AllocError>
+/// Returns an amount in words, or nothing for no bytes.
+pub fn bytes_words(alloc: Global, amount: &str, bytes: u64) -> Result<String, AllocError>
     ensures { IfOk result (λ text. string_bytes text ≡ bytes_words amount.now bytes) }
 {
     if bytes == 0 {
@@ -98,8 +101,8 @@ fn push_not_judged(alloc: Global, out: &mut String, sums: &Counts) -> Result<(),
     out.push_str(lines.as_str())
 }
 
-// A recording of one load: none is later.
-fn base_of(sums: &Counts) -> Result<Base, AllocError>
+/// Returns by which sums urls are ordered: by those of a visit if no load is later.
+pub fn base_of(sums: &Counts) -> Result<Base, AllocError>
     ensures { IfOk result (λ base. base ≡ base_of sums.now) }
 {
     Ok(if sums.total_of("loads", "later_loads")? == 0 {
@@ -119,8 +122,8 @@ fn sums_by<'a>(base: Base, sums: &'a Counts, visits: &'a Visits) -> &'a Counts
     }
 }
 
-// All bytes of the later loads, or of the visit a day later.
-fn all_by(base: Base, sums: &Counts, visits: &Visits) -> Result<u64, AllocError>
+/// Returns all bytes of the later loads, or of the visit a day later.
+pub fn all_by(base: Base, sums: &Counts, visits: &Visits) -> Result<u64, AllocError>
     ensures { IfOk result (λ n. n ≡ all_by base sums.now visits.now) }
 {
     match base {
@@ -129,7 +132,8 @@ fn all_by(base: Base, sums: &Counts, visits: &Visits) -> Result<u64, AllocError>
     }
 }
 
-fn short_of(facts: &Facts, hides_queries: bool) -> UrlStyle<'_>
+/// Returns how urls are printed.
+pub fn short_of(facts: &Facts, hides_queries: bool) -> UrlStyle<'_>
     ensures { style_seen result ≡ short_of facts.now hides_queries }
 {
     UrlStyle {
@@ -147,7 +151,8 @@ fn top_text(alloc: Global, facts: &Facts) -> Result<String, AllocError>
     Ok(out)
 }
 
-fn least_of(sums: &Counts) -> Result<u64, AllocError>
+/// Returns how many bytes a url has at least that is listed.
+pub fn least_of(sums: &Counts) -> Result<u64, AllocError>
     ensures { IfOk result (λ n. n ≡ least_of sums.now) }
 {
     Ok(sums.total_of("sent", "first_load")? / 1_000)
@@ -268,6 +273,8 @@ struct Texts {
     wrong: String,
     // Where the other kind of cache differs.
     both: String,
+    // What is in order.
+    in_order: String,
 }
 
 fn texts_of(
@@ -291,16 +298,19 @@ fn texts_of(
     push_guesses(alloc, &mut guesses, recorded, visits, urls)?;
     let wrong = wrong_text(alloc, &short, recorded, urls)?;
     let both = both_text(alloc, &short, recorded, target, settings.options, urls)?;
+    let in_order = in_order_text(alloc, &short, recorded, &facts.sums, visits, picks, urls)?;
     Ok(Texts {
         lines,
         visits: visit_lines,
         guesses,
         wrong,
         both,
+        in_order,
     })
 }
 
-fn picks_by(
+/// Returns what to change first.
+pub fn picks_by(
     alloc: Global,
     recorded: &[Recorded],
     facts: &Facts,
@@ -374,6 +384,56 @@ fn push_later(
     push_end(out, visits, after)
 }
 
+// The lines of what looks wrong: first those of urls, then those of queries.
+fn wrong_lines(
+    alloc: Global,
+    facts: &Facts,
+    texts: &Texts,
+    after: &After,
+) -> Result<String, AllocError>
+    ensures { IfOk result (λ text. string_bytes text ≡ wrong_lines facts.now texts.now after.now) }
+{
+    let mut out = String::from_str(alloc, texts.wrong.as_str())?;
+    let (host, changing) = (facts.host.as_str(), facts.changing.as_slice());
+    push_query_lines(alloc, &mut out, host, &after.costs, &after.plain, changing)?;
+    Ok(out)
+}
+
+// What looks wrong, if anything does.
+#[tactic(auto, unfolding(crate::specs::Screen::wrong_section))]
+fn wrong_section(alloc: Global, lines: &str) -> Result<String, AllocError>
+    ensures { IfOk result (λ text. string_bytes text ≡ wrong_section lines.now) }
+{
+    if lines.is_empty() {
+        return Ok(String::new(alloc));
+    }
+    format!(in alloc; "\nLOOKS WRONG\n{lines}")
+}
+
+fn push_wrong(
+    alloc: Global,
+    out: &mut String,
+    facts: &Facts,
+    texts: &Texts,
+    after: &After,
+) -> Result<(), AllocError>
+    ensures { OnOk result (string_bytes out.new ≡ string_bytes out.old
+        ++ wrong_section (wrong_lines facts.now texts.now after.now)) }
+{
+    let lines = wrong_lines(alloc, facts, texts, after)?;
+    let section = wrong_section(alloc, lines.as_str())?;
+    out.push_str(section.as_str())
+}
+
+// Where the other kind of cache differs, and what is in order.
+fn push_both(out: &mut String, texts: &Texts) -> Result<(), AllocError>
+    ensures { OnOk result (string_bytes out.new ≡ string_bytes out.old
+        ++ (string_bytes texts.now.both ++ string_bytes texts.now.in_order)) }
+{
+    out.push_str(texts.both.as_str())?;
+    out.push_str(texts.in_order.as_str())
+}
+
 // The sections, of texts and of what comes of what is advised.
 fn sections_text(
     alloc: Global,
@@ -390,8 +450,8 @@ fn sections_text(
     let mut out = String::new(alloc);
     push_changes(alloc, &mut out, facts, base, visits, picks, texts, after)?;
     push_later(&mut out, visits, texts, after)?;
-    out.push_str(texts.wrong.as_str())?;
-    out.push_str(texts.both.as_str())?;
+    push_wrong(alloc, &mut out, facts, texts, after)?;
+    push_both(&mut out, texts)?;
     Ok(out)
 }
 
@@ -460,7 +520,8 @@ fn sections_of(
     }
 }
 
-fn hits_of(sums: &Counts) -> Hits
+/// Returns how many repeated requests a stored response answers.
+pub fn hits_of(sums: &Counts) -> Hits
     ensures { result ≡ hits_of sums.now }
 {
     Hits {
@@ -469,7 +530,8 @@ fn hits_of(sums: &Counts) -> Hits
     }
 }
 
-fn notes_text(alloc: Global, sums: &Counts, recorded: &[Recorded]) -> Result<String, AllocError>
+/// Returns what may mislead.
+pub fn notes_text(alloc: Global, sums: &Counts, recorded: &[Recorded]) -> Result<String, AllocError>
     ensures { IfOk result (λ text. string_bytes text
         ≡ notes_text sums.now (map recorded_seen recorded.now)) }
 {

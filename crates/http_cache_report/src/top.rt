@@ -188,7 +188,8 @@ fn push_took(out: &mut String, seconds: u128) -> Result<(), AllocError>
     write!(out, ", in {seconds} s")
 }
 
-fn cache_text(is_shared: bool) -> &'static str
+/// Returns the words for which cache is asked, with the end of the line.
+pub fn cache_text(is_shared: bool) -> &'static str
     ensures { result.now ≡ cache_text is_shared }
 {
     if is_shared {

@@ -58,8 +58,8 @@ fn load_name(is_first: bool) -> &'static str
     }
 }
 
-// The words for an entry that no store is asked for.
-fn apart_text(recorded: &Recorded) -> &str
+/// Returns the words for an entry that no store is asked for.
+pub fn apart_text(recorded: &Recorded) -> &str
     ensures { result.now ≡ apart_text (recorded_seen recorded.now) }
 {
     match &recorded.reading {
@@ -85,8 +85,8 @@ fn add_apart(counts: &mut Counts, recorded: &Recorded) -> Result<(), AllocError>
     Ok(())
 }
 
-// What a stored response saved that answers.
-fn saved_by(row: &Row<'_>) -> u64
+/// Returns what a stored response saved that answers.
+pub fn saved_by(row: &Row<'_>) -> u64
     ensures { result ≡ saved_by (row_seen row.now) }
 {
     if !is_hit(row) {

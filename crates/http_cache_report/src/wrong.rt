@@ -5,7 +5,7 @@ ghost use Rattle.http_cache_recording.specs.Entry.{recorded_seen, reading_seen};
 ghost use Rattle.http_cache_audit.specs.Lint.{hint};
 ghost use Rattle.http_cache_report.specs.Words.{style_seen};
 ghost use Rattle.http_cache_report.specs.Wrong.{hints_in, hints_at, faults_of, send_for, fault_line, fault_lines, has_faults};
-ghost use Rattle.http_cache_report.specs.Wrong.{wrong_of, lines_at, order_text, section_text, IsWrong};
+ghost use Rattle.http_cache_report.specs.Wrong.{wrong_of, lines_at, order_text, IsWrong};
 
 use crate::by_size::{MOST, order_of, push_rest};
 use crate::urls::Url;
@@ -44,8 +44,8 @@ fn push_in_full(alloc: Global, all: &mut Vec<String>, in_full: bool) -> Result<(
     Ok(())
 }
 
-// What looks wrong of a url: in its headers, and in how its server answers a condition that it meets.
-fn faults_of(alloc: Global, recorded: &[Recorded], url: &Url) -> Result<Vec<String>, AllocError>
+/// Returns what looks wrong of a url: in its headers, and in how its server answers a condition.
+pub fn faults_of(alloc: Global, recorded: &[Recorded], url: &Url) -> Result<Vec<String>, AllocError>
     ensures { IfOk result (λ all. map string_bytes all.items
         ≡ faults_of (map recorded_seen recorded.now) url.now) }
 {
@@ -64,11 +64,13 @@ pub fn send_for(words: &str) -> &'static str
         "; in Cache-Control" => "`,` between directives",
         "no comma between directives" => "`,` between directives",
         "seconds in quotes" => "seconds without quotes",
+        "a max-age that can't be read" => "a number of seconds",
         "no-store beside max-age" => "only no-store, or only the lifetime",
         "public beside private" => "private if it is one user's, else public",
         "Pragma without Cache-Control" => "Cache-Control: no-cache",
         "Expires without Cache-Control" => "Cache-Control: max-age=N",
         "Expires against max-age" => "only max-age",
+        "an Expires that can't be read" => "Cache-Control: max-age=N",
         "an ETag without quotes" => "the ETag in quotes",
         "a Date in the future" => "the right time",
         "an old Date without Age" => "Age, from the cache on the way",
@@ -112,15 +114,16 @@ fn push_url(
     push_faults(out, short.url_text(recorded, url.entry), faults.as_slice())
 }
 
-fn has_faults(alloc: Global, recorded: &[Recorded], url: &Url) -> Result<bool, AllocError>
+/// Returns whether something looks wrong of a url.
+pub fn has_faults(alloc: Global, recorded: &[Recorded], url: &Url) -> Result<bool, AllocError>
     ensures { IfOk result (λ holds. holds ≡ has_faults (map recorded_seen recorded.now) url.now) }
 {
     let faults = faults_of(alloc, recorded, url)?;
     Ok(!faults.is_empty())
 }
 
-// For each url, whether something looks wrong.
-fn wrong_of(alloc: Global, recorded: &[Recorded], urls: &[Url]) -> Result<Vec<bool>, AllocError>
+/// Returns for each url whether something looks wrong.
+pub fn wrong_of(alloc: Global, recorded: &[Recorded], urls: &[Url]) -> Result<Vec<bool>, AllocError>
     ensures { IfOk result (λ all. all.items ≡ wrong_of (map recorded_seen recorded.now) urls.now) }
 {
     let mut all = Vec::with_capacity(alloc, urls.len())?;
@@ -182,26 +185,22 @@ fn push_order(
     push_rest(out, order.len().saturating_sub(MOST))
 }
 
-fn section_text(
+fn order_text(
     alloc: Global,
     short: &UrlStyle<'_>,
     recorded: &[Recorded],
     urls: &[Url],
     order: &[(u64, usize)],
 ) -> Result<String, AllocError>
-    ensures { IfOk result (λ text. string_bytes text ≡ section_text (style_seen short.now)
+    ensures { IfOk result (λ text. string_bytes text ≡ order_text (style_seen short.now)
         (map recorded_seen recorded.now) urls.now order.now) }
 {
     let mut out = String::new(alloc);
-    if order.is_empty() {
-        return Ok(out);
-    }
-    out.push_str("\nLOOKS WRONG\n")?;
     push_order(alloc, &mut out, short, recorded, urls, order)?;
     Ok(out)
 }
 
-/// Returns the section of what looks wrong: of twelve urls at most, those of which most bytes were sent.
+/// Returns the lines of what looks wrong: of twelve urls at most, those of which most bytes were sent.
 ///
 /// # Errors
 ///
@@ -217,5 +216,5 @@ pub fn wrong_text(
 {
     let wrong = wrong_of(alloc, recorded, urls)?;
     let order = order_of(alloc, recorded, urls, wrong.as_slice())?;
-    section_text(alloc, short, recorded, urls, order.as_slice())
+    order_text(alloc, short, recorded, urls, order.as_slice())
 }

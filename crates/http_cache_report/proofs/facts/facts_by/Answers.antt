@@ -10,7 +10,8 @@ use Rattle.http_cache_report.proofs.facts.facts_by.Goals as goal
 pub returns : goal.returns
 returns c =
     record {
-      bases = c.in_ok-repeats.field-0-1;
+      bases = c.in_ok-repeats.bases;
+      are_changing = c.in_ok-changing.ensures;
       are_known = c.in_ok-known.ensures;
       are_sums = rw c.as_slice.ensures.value at c.in_ok-sums.ensures;
       are_costs = rw c.as_slice-2.ensures.value at c.in_ok-costs.ensures;

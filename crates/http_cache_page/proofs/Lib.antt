@@ -1,0 +1,4 @@
+-- The lemmas about a page.
+pub mod EscapeLemmas
+pub mod ConstantLemmas
+pub mod TagLemmas

@@ -1,0 +1,160 @@
+//! The section of what to change first.
+ghost use Rattle.std.specs.Prelude.{◌≡◌};
+ghost use Rattle.http_cache_page.specs.Constants.{changes_text};
+
+/// A fixed text of what to change first.
+#[derive(Clone, Copy)]
+pub enum ChangeText {
+    /// The section begins.
+    Head,
+    /// What the table is of: later loads.
+    Later,
+    /// What the table is of: a later visit.
+    Visit,
+    /// The table begins.
+    Table,
+    /// A row begins with its url.
+    Url,
+    /// The number of requests follows.
+    Requests,
+    /// What was sent follows.
+    Bytes,
+    /// Its bar begins.
+    Bar,
+    /// What the response says now follows.
+    Now,
+    /// What to send follows.
+    Send,
+    /// What to send ends.
+    SendEnd,
+    /// It gets an ETag.
+    Tag,
+    /// It is answered by a 304.
+    Answer,
+    /// What that saves follows.
+    Saves,
+    /// What it saves ends.
+    SavesEnd,
+    /// What it saves in the first load follows.
+    InFirst,
+    /// What it saves in the first load ends.
+    InFirstEnd,
+    /// What answers 304 save follows.
+    Alone,
+    /// What answers 304 save ends.
+    AloneEnd,
+    /// A row ends.
+    RowEnd,
+    /// The row of all begins.
+    Total,
+    /// What it is a part of follows.
+    TotalOf,
+    /// What all save follows.
+    TotalSaves,
+    /// The table and the section end.
+    End,
+    /// The section ends without a table.
+    Nothing,
+}
+
+const HEAD: &str = "<section aria-labelledby=\"s1\"><h2 id=\"s1\">Change first</h2>\n";
+
+const LATER: &str =
+    r##"<p class="lead">The URLs of which later loads sent most. The bar is what they sent; hatched,
+what the headers spare of it. A click on a header selects it.</p>
+"##;
+
+const VISIT: &str =
+    r##"<p class="lead">The URLs of which a visit a day later sends most. The bar is what it sends;
+hatched, what the headers spare of it. A click on a header selects it.</p>
+"##;
+
+const TABLE: &str = r##"<table class="first"><thead><tr><th scope="col">URL</th>
+<th scope="col" class="n">Requests</th>
+<th scope="col">Sent</th>
+<th scope="col">Sent now</th>
+<th scope="col">Send instead</th>
+<th scope="col" class="n">Saves</th></tr></thead>
+<tbody>
+"##;
+
+const URL: &str = "<tr><th scope=\"row\" class=\"u\"><code>";
+
+const REQUESTS: &str = "</code></th><td class=\"n r\">";
+
+const BYTES: &str = "</td><td class=\"b\"><span class=\"big\">";
+
+const BAR: &str = r##"</span><svg class="bar" aria-hidden="true">
+<rect class="p" height="100%" width="100%"/>"##;
+
+const NOW: &str = "</svg></td><td class=\"now\"><code class=\"set\">";
+
+const SEND: &str = "</code></td><td class=\"new\"><code class=\"set\">Cache-Control: ";
+
+const SEND_END: &str = "</code>";
+
+const TAG: &str = "<small>and an ETag, a text that changes with the content</small>";
+
+const ANSWER: &str = "<small>and answer 304 to its ETag</small>";
+
+const SAVES: &str = "</td><td class=\"n s\"><span class=\"big\">";
+
+const SAVES_END: &str = "</span>";
+
+const IN_FIRST: &str = "<small> + ";
+
+const IN_FIRST_END: &str = " in the first load</small>";
+
+const ALONE: &str = "<small> ";
+
+const ALONE_END: &str = " by the 304s alone</small>";
+
+const ROW_END: &str = "</td></tr>\n";
+
+const TOTAL: &str = r##"</tbody>
+<tfoot><tr><th scope="row" class="u">all of them</th><td class="n r"></td>
+<td class="b"><span class="big">"##;
+
+const TOTAL_OF: &str = "</span><small>of ";
+
+const TOTAL_SAVES: &str =
+    r##" that a cache could answer</small></td><td class="now"></td><td class="new"></td>
+<td class="n s"><span class="big">"##;
+
+const END: &str = "</span></td></tr></tfoot></table>\n</section>\n";
+
+const NOTHING: &str =
+    "<p class=\"lead\">Nothing: no URL takes 1 % of what is sent.</p>\n</section>\n";
+
+/// Returns the text.
+pub fn text_of(text: ChangeText) -> &'static str
+    ensures { result.now ≡ changes_text text }
+{
+    match text {
+        ChangeText::Head => HEAD,
+        ChangeText::Later => LATER,
+        ChangeText::Visit => VISIT,
+        ChangeText::Table => TABLE,
+        ChangeText::Url => URL,
+        ChangeText::Requests => REQUESTS,
+        ChangeText::Bytes => BYTES,
+        ChangeText::Bar => BAR,
+        ChangeText::Now => NOW,
+        ChangeText::Send => SEND,
+        ChangeText::SendEnd => SEND_END,
+        ChangeText::Tag => TAG,
+        ChangeText::Answer => ANSWER,
+        ChangeText::Saves => SAVES,
+        ChangeText::SavesEnd => SAVES_END,
+        ChangeText::InFirst => IN_FIRST,
+        ChangeText::InFirstEnd => IN_FIRST_END,
+        ChangeText::Alone => ALONE,
+        ChangeText::AloneEnd => ALONE_END,
+        ChangeText::RowEnd => ROW_END,
+        ChangeText::Total => TOTAL,
+        ChangeText::TotalOf => TOTAL_OF,
+        ChangeText::TotalSaves => TOTAL_SAVES,
+        ChangeText::End => END,
+        ChangeText::Nothing => NOTHING,
+    }
+}

@@ -1,0 +1,11 @@
+-- What is made so far with what is left is all.
+use Rattle.std.proofs.Common.{◌≡◌, ◌++◌, map}
+use Rattle.http_cache_recording.specs.Entry.{recorded_seen}
+use Rattle.http_cache_report.specs.Plain.{changing_seen, plain_recorded}
+use Rattle.http_cache_report.proofs.plain.plain_all.Given as goal
+
+abbrev pub invariant-loop-one : goal.invariant-loop-one
+invariant-loop-one l =
+    let change = plain_recorded (map changing_seen l.changing) in
+    map recorded_seen l.all.items ++ map change (map recorded_seen l.one-iterator.rest.items)
+    ≡ map change (map recorded_seen l.initial.one-iterator.rest.items)

@@ -1,0 +1,78 @@
+-- Queries that change while the response doesn't, and a recording without them.
+use Rattle.std.specs.Prelude.{ℕ, ◌-◌, ◌==◌, ◌&&◌, nat_lt, nat_eq, Bool, List, [], ◌∷◌, ◌++◌, length, map, take, drop, codes, decimal, bytes_eq, string_bytes, option_map, if◌then◌else◌}
+use Rattle.std.specs.List.{flat_map, list_any, starts_with, before_first}
+use Rattle.http_cache_recording.specs.Entry.{RecordedSeen}
+use Rattle.http_cache_audit.specs.declared.counts.Counts.{Counts}
+use Rattle.http_cache_audit.specs.Counts.{label_of, total_in}
+use Rattle.http_cache_audit.specs.Report.{CountSeen, count_seen}
+use Rattle.http_cache_report.specs.declared.plain.Changing.{Changing}
+use Rattle.http_cache_report.specs.BySize.{rest_text}
+use Rattle.http_cache_report.specs.First.{less}
+use Rattle.http_cache_report.specs.Numbers.{kilobytes}
+use Rattle.http_cache_report.specs.Queries.{base_of}
+use Rattle.http_cache_report.specs.Words.{short, left}
+
+-- ---- which there are
+
+-- a base, and how many urls have it
+abbrev pub changing_seen : Changing → List ℕ × ℕ
+changing_seen c = (string_bytes c.base, c.urls)
+
+-- the base in front of a mark
+abbrev pub front_of : List ℕ → List ℕ
+front_of marked = before_first (λ b. b == 10) marked
+
+-- so many urls have a base with one mark, and none has it with another one
+abbrev pub changing_if : (List ℕ → ℕ) → List ℕ → ℕ → List (List ℕ × ℕ)
+changing_if sum base n =
+    if nat_lt 1 n && (sum (label_of (codes "base") base) == n) then (base, n) ∷ [] else []
+
+abbrev pub marks : List ℕ
+marks = codes "marked/"
+
+abbrev pub changing_at : (List ℕ → ℕ) → CountSeen → List (List ℕ × ℕ)
+changing_at sum l = if starts_with nat_eq l.0 marks then changing_if sum (front_of (drop 7 l.0)) l.1 else []
+
+-- the urls whose query changes while their response doesn't, by their bases
+abbrev pub changing_in : Counts → List (List ℕ × ℕ)
+changing_in bases = flat_map (changing_at (total_in bases)) (map count_seen bases.by_label.entries)
+
+-- ---- a recording without them
+
+abbrev pub has_base : List ℕ → List ℕ × ℕ → Bool
+has_base base one = bytes_eq one.0 base
+
+abbrev pub is_base : List (List ℕ × ℕ) → List ℕ → Bool
+is_base cs base = list_any (has_base base) cs
+
+-- a url without its query, if that changes
+abbrev pub plain : List (List ℕ × ℕ) → List ℕ → List ℕ
+plain cs url = if is_base cs (base_of url) then base_of url else url
+
+abbrev pub plain_recorded : List (List ℕ × ℕ) → RecordedSeen → RecordedSeen
+plain_recorded cs r = record r { printed = record r.printed { url = option_map (plain cs) r.printed.url } }
+
+-- ---- what that saves
+
+abbrev pub saved_words : List ℕ → ℕ → List ℕ
+saved_words amount n = if nat_lt 0 n then codes " (saves " ++ (amount ++ codes ")") else []
+
+-- what the later loads save without the queries of some urls
+abbrev pub saved_by : Counts → Counts → List ℕ × ℕ → List ℕ
+saved_by costs plain one =
+    let bytes = less costs plain (codes "later_base") one.0 in saved_words (kilobytes bytes) bytes
+
+abbrev pub query_words : List ℕ → ℕ → List ℕ
+query_words url n =
+    codes "  " ++ (left 34 url ++ (decimal n ++ codes " urls, one response -> leave the query out"))
+
+abbrev pub query_line : List ℕ → Counts → Counts → List ℕ × ℕ → List ℕ
+query_line host costs plain one =
+    query_words (short host one.0) one.1 ++ (saved_by costs plain one ++ codes "\n")
+
+unfoldable pub lines_of : List ℕ → Counts → Counts → List Changing → List ℕ
+lines_of host costs plain cs = flat_map (query_line host costs plain) (map changing_seen cs)
+
+-- a line for the urls of each changing query, of the first twelve, and how many there are more
+abbrev pub query_lines : List ℕ → Counts → Counts → List Changing → List ℕ
+query_lines host costs plain cs = lines_of host costs plain (take 12 cs) ++ rest_text (length cs - 12)

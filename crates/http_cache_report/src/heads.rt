@@ -1,0 +1,461 @@
+//! Heads of responses, as `curl -sI`, `curl -sIL` and `curl -si` print them, as a recording.
+//!
+//! It finds the heads, makes each one of HTTP/1.1, which http_heads reads, and knows nothing of caching.
+ghost use Rattle.std.specs.Prelude.{◌≡◌, ◌<◌, ◌≤◌, ◌++◌, map, length, option_map, option_copied, codes, IfOk, IfErr, OnOk, IsErrOf};
+ghost use Rattle.std.specs.List.{prefix_len, list_all};
+ghost use Rattle.std.specs.Char.{is_ascii_digit};
+ghost use Rattle.http_heads.specs.Heads.{IsResponse, IsNoResponse, OverfillsResponse};
+ghost use Rattle.http_cache_fields.specs.Headers.{headers_of};
+ghost use Rattle.http_cache_rules.specs.Conditions.{only_text};
+ghost use Rattle.http_cache_rules.specs.Dates.{first_date};
+ghost use Rattle.http_cache_rules.specs.Lifetimes.{server_date};
+ghost use Rattle.http_cache_recording.specs.Entry.{printed_seen, entry_seen, recorded_seen};
+ghost use Rattle.http_cache_report.specs.Heads.{is_heads, is_end, front_of, is_last, text_len, text_of, end_len, head_len, next_of};
+ghost use Rattle.http_cache_report.specs.Heads.{after_version, as_http1, closing, whole, IsHead, line_of, IsFault, IsCause};
+ghost use Rattle.http_cache_report.specs.Heads.{is_of_proxy, is_skipped, is_digits, size_of, content_length};
+ghost use Rattle.http_cache_report.specs.Heads.{printed_of, entry_of, recorded_of, with_head, IsHeads};
+ghost use Rattle.http_cache_report.specs.declared.heads.HeadsError.TheVariants.{Memory};
+
+use http::header::{CONTENT_LENGTH, DATE};
+use http::{HeaderMap, Method, response};
+use http_cache_fields::headers::first_text;
+use http_cache_fields::text::number;
+use http_cache_recording::{Answer, Entry, Kind, Printed, Reading, Recorded};
+use http_cache_rules::dates::read_date;
+use http_heads::{HeadError, response_from_bytes};
+use jiff::Timestamp;
+use std::alloc::{AllocError, Global};
+use std::hash::RandomState;
+use thiserror::Error;
+
+/// Why bytes are no heads of responses.
+#[derive(Clone, Copy, Debug, PartialEq, Eq, Error)]
+pub enum HeadsError {
+    /// What begins like a head isn't the head of a response (RFC 9112, section 4).
+    #[error("not a response head at line {line}")]
+    NotAHead {
+        /// The line at which it begins, from 1.
+        line: usize,
+    },
+    /// A head has more fields than a header map holds.
+    #[error("too many fields in the response head at line {line}")]
+    TooLong {
+        /// The line at which it begins, from 1.
+        line: usize,
+    },
+    /// There is no head, or all are skipped.
+    #[error("no response head")]
+    NoHead,
+    /// The allocator had no memory.
+    #[error("out of memory")]
+    Memory,
+}
+
+impl From<AllocError> for HeadsError {
+    ghost from_gives = { λ _ e. e ≡ Memory };
+
+    fn from(_e: AllocError) -> HeadsError {
+        HeadsError::Memory
+    }
+}
+
+// A head of the input.
+#[derive(Drop)]
+struct Head {
+    // What it says.
+    parts: response::Parts,
+    // How many bytes it took, with its empty line.
+    length: u64,
+    // Another head follows it.
+    followed: bool,
+}
+
+// The head at the front of some bytes, before it is read.
+#[derive(Clone, Copy)]
+struct Cut<'a> {
+    // Its status line and field lines.
+    text: &'a [u8],
+    // How many bytes it takes, with its empty line.
+    length: usize,
+    // Where the next head would begin.
+    next: &'a [u8],
+}
+
+/// Returns whether bytes begin as the head of a response does.
+pub fn is_heads(bytes: &[u8]) -> bool
+    ensures { result ≡ is_heads bytes.now }
+{
+    bytes.starts_with(b"HTTP/")
+}
+
+// How many bytes of line ends come first: each CR and LF is one.
+fn ends_len(bytes: &[u8]) -> usize
+    ensures value { result ≡ prefix_len is_end bytes.now }
+    ensures within { result ≤ length bytes.now }
+{
+    bytes
+        .iter()
+        .take_while(|b| **b == b'\r' || **b == b'\n')
+        .count()
+}
+
+// The bytes without the line ends at the front.
+fn front_of(bytes: &[u8]) -> &[u8]
+    ensures { result.now ≡ front_of bytes.now }
+{
+    &bytes[ends_len(bytes)..]
+}
+
+// Whether the bytes begin with the LF of a line that an empty one follows.
+fn is_last(bytes: &[u8]) -> bool
+    ensures { result ≡ is_last bytes.now }
+{
+    bytes.starts_with(b"\n\n") || bytes.starts_with(b"\n\r\n")
+}
+
+// How many bytes the lines of the head at the front take.
+fn text_len(front: &[u8]) -> usize
+    ensures value { result ≡ text_len front.now }
+    ensures within { result ≤ length front.now }
+{
+    for index in 0..front.len() {
+        if is_last(&front[index..]) {
+            return index + 1;
+        }
+    }
+    front.len()
+}
+
+// How long the line end at the front is.
+fn end_len(bytes: &[u8]) -> usize
+    ensures value { result ≡ end_len bytes.now }
+    ensures within { result ≤ length bytes.now }
+{
+    if bytes.starts_with(b"\r\n") {
+        2
+    } else if bytes.starts_with(b"\n") {
+        1
+    } else {
+        0
+    }
+}
+
+fn cut_of(front: &[u8]) -> Cut<'_>
+    ensures text { result.text.now ≡ text_of front.now }
+    ensures length { result.length ≡ head_len front.now }
+    ensures next { result.next.now ≡ next_of front.now }
+{
+    let (text, rest) = front.split_at(text_len(front));
+    let end = end_len(rest);
+    Cut {
+        text,
+        length: text.len() + end,
+        next: front_of(&rest[end..]),
+    }
+}
+
+// What follows the version, if that is HTTP/2 or HTTP/3.
+fn after_version(text: &[u8]) -> Option<&[u8]>
+    ensures { option_map (λ t. t.now) result ≡ after_version text.now }
+{
+    if let Some(rest) = text.strip_prefix(b"HTTP/2.0") {
+        return Some(rest);
+    }
+    if let Some(rest) = text.strip_prefix(b"HTTP/2") {
+        return Some(rest);
+    }
+    text.strip_prefix(b"HTTP/3")
+}
+
+// Adds the text with HTTP/1.1 as its version, if that is HTTP/2 or HTTP/3.
+#[tactic(auto, unfolding(crate::specs::Heads::as_http1))]
+fn push_as_http1(out: &mut Vec<u8>, text: &[u8]) -> Result<(), AllocError>
+    ensures { OnOk result (out.new.items ≡ out.old.items ++ as_http1 text.now) }
+{
+    let Some(rest) = after_version(text) else {
+        return out.extend_from_slice(text);
+    };
+    out.extend_from_slice(b"HTTP/1.1")?;
+    out.extend_from_slice(rest)
+}
+
+// What ends a head after its lines. The input may end within a line, or between CR and LF.
+#[tactic(auto, unfolding(crate::specs::Heads::closing))]
+fn closing(text: &[u8]) -> &'static str
+    ensures { result.now ≡ closing text.now }
+{
+    if text.ends_with(b"\n") || text.ends_with(b"\n\r") {
+        "\n"
+    } else {
+        "\n\n"
+    }
+}
+
+// The head of HTTP/1.1 for the lines of a head.
+fn whole(alloc: Global, text: &[u8]) -> Result<Vec<u8>, AllocError>
+    ensures { IfOk result (λ bytes. bytes.items ≡ whole text.now) }
+{
+    let mut out = Vec::new(alloc);
+    push_as_http1(&mut out, text)?;
+    out.extend_from_slice(closing(text).as_bytes())?;
+    Ok(out)
+}
+
+// The response of the lines of a head.
+fn response_of(alloc: Global, keys: RandomState, text: &[u8]) -> Result<response::Parts, HeadError>
+    ensures found { IfOk result (IsResponse (whole text.now)) }
+    ensures malformed { IsErrOf result HeadError.Malformed → IsNoResponse (whole text.now) }
+    ensures full { IsErrOf result HeadError.HeaderMapFull → OverfillsResponse (whole text.now) }
+{
+    let bytes = whole(alloc, text)?;
+    response_from_bytes(alloc, keys, bytes.as_slice())
+}
+
+// The line at which the last of the bytes begin.
+fn line_of(bytes: &[u8], front: &[u8]) -> usize
+    requires { length front.now ≤ length bytes.now }
+    ensures { result ≡ line_of bytes.now front.now }
+{
+    let before = &bytes[..bytes.len() - front.len()];
+    before.iter().filter(|b| **b == b'\n').count() + 1
+}
+
+// The head at the front of what is left of the bytes.
+fn head_of(
+    alloc: Global,
+    keys: RandomState,
+    bytes: &[u8],
+    front: &[u8],
+    cut: Cut<'_>,
+) -> Result<Head, HeadsError>
+    requires within { length front.now ≤ length bytes.now }
+    requires text { cut.text.now ≡ text_of front.now }
+    requires length { cut.length ≡ head_len front.now }
+    requires next { cut.next.now ≡ next_of front.now }
+    ensures found { IfOk result (IsHead front.now) }
+    ensures fault { IfErr result (IsFault bytes.now front.now) }
+{
+    match response_of(alloc, keys, cut.text) {
+        Ok(parts) => Ok(Head {
+            parts,
+            length: cut.length as u64,
+            followed: is_heads(cut.next),
+        }),
+        Err(HeadError::Malformed) => Err(HeadsError::NotAHead {
+            line: line_of(bytes, front),
+        }),
+        Err(HeadError::HeaderMapFull) => Err(HeadsError::TooLong {
+            line: line_of(bytes, front),
+        }),
+        Err(HeadError::Memory) => Err(HeadsError::Memory),
+    }
+}
+
+// Whether a head is a proxy's `200 Connection established` (RFC 9110, section 9.3.6).
+fn is_of_proxy(head: &Head) -> bool
+    ensures { result ≡ is_of_proxy head.now }
+{
+    head.parts.status.as_u16() == 200 && head.followed && head.parts.headers.is_empty()
+}
+
+// Whether a head isn't of a final response of the origin server (RFC 9110, section 15.2).
+#[tactic(auto, unfolding(crate::specs::Heads::is_skipped))]
+fn is_skipped(head: &Head) -> bool
+    ensures { result ≡ is_skipped head.now }
+{
+    head.parts.status.as_u16() < 200 || is_of_proxy(head)
+}
+
+fn are_digits(text: &[u8]) -> bool
+    ensures { result ≡ list_all is_ascii_digit text.now }
+{
+    text.iter().all(|b| b.is_ascii_digit())
+}
+
+fn is_digits(text: &str) -> bool
+    ensures { result ≡ is_digits text.now }
+{
+    !text.is_empty() && are_digits(text.as_bytes())
+}
+
+// The number of digits, as far as 64 bits hold it, and 0 of any other text.
+fn size_of(text: &str) -> u64
+    ensures { result ≡ size_of text.now }
+{
+    if is_digits(text) {
+        number(text).unwrap_or(u64::MAX)
+    } else {
+        0
+    }
+}
+
+// The only Content-Length, if it is text.
+fn only_length(headers: &HeaderMap) -> Option<&str>
+    ensures { option_copied result ≡ only_text (headers_of headers.now) (codes "content-length") }
+{
+    let mut lines = headers.get_all(CONTENT_LENGTH).iter();
+    let Some(only) = lines.next() else {
+        return None;
+    };
+    match lines.next() {
+        Some(_) => None,
+        None => only.to_str().ok(),
+    }
+}
+
+// The number in the only Content-Length.
+fn content_length(headers: &HeaderMap) -> u64
+    ensures { result ≡ content_length (headers_of headers.now) }
+{
+    match only_length(headers) {
+        Some(text) => size_of(text),
+        None => 0,
+    }
+}
+
+// The first Date.
+fn first_date(alloc: Global, headers: &HeaderMap) -> Result<Option<Timestamp>, AllocError>
+    ensures { IfOk result (λ date. option_map (λ d. d.nanosecond) date
+        ≡ first_date (headers_of headers.now) (codes "date")) }
+{
+    match first_text(headers, DATE) {
+        Some(text) => read_date(alloc, text),
+        None => Ok(None),
+    }
+}
+
+// When a response was sent, by its Date, if that isn't before 1970.
+fn sent_at(alloc: Global, headers: &HeaderMap, now: Timestamp) -> Result<Timestamp, AllocError>
+    ensures { IfOk result (λ date. date.nanosecond
+        ≡ server_date (headers_of headers.now) now.nanosecond) }
+{
+    match first_date(alloc, headers)? {
+        Some(date) if date.as_nanosecond() >= 0 => Ok(date),
+        _ => Ok(now),
+    }
+}
+
+// What is printed of the head of a number.
+#[tactic(auto, unfolding(crate::specs::Heads::printed_of))]
+fn printed_of(alloc: Global, number: usize, head: &Head) -> Result<Printed, AllocError>
+    ensures { IfOk result (λ p. printed_seen p ≡ printed_of number head.now) }
+{
+    Ok(Printed {
+        method: Some(String::from_str(alloc, "GET")?),
+        url: Some(format!(in alloc; "head {number}")?),
+        status: head.parts.status.as_u16() as u64,
+        browser: None,
+        error: None,
+        sent: head
+            .length
+            .saturating_add(content_length(&head.parts.headers)),
+        head: head.length,
+        page: None,
+    })
+}
+
+// A request without headers, and the head as the response to it.
+#[tactic(auto, unfolding(crate::specs::Heads::entry_of))]
+fn entry_of(alloc: Global, now: Timestamp, head: Head) -> Result<Entry, AllocError>
+    ensures { IfOk result (λ e. entry_seen e ≡ entry_of now.nanosecond head) }
+{
+    let date = sent_at(alloc, &head.parts.headers, now)?;
+    Ok(Entry {
+        kind: Kind::Asked,
+        started: date,
+        received: date,
+        method: Method::GET,
+        headers: HeaderMap::new(alloc),
+        answer: Answer::Received(head.parts),
+        body: None,
+    })
+}
+
+fn recorded_of(
+    alloc: Global,
+    now: Timestamp,
+    number: usize,
+    head: Head,
+) -> Result<Recorded, AllocError>
+    ensures { IfOk result (λ r. recorded_seen r ≡ recorded_of now.nanosecond (number, head)) }
+{
+    let printed = printed_of(alloc, number, &head)?;
+    let entry = entry_of(alloc, now, head)?;
+    Ok(Recorded {
+        printed,
+        reading: Reading::Entry(entry),
+    })
+}
+
+// Adds a head, unless it is skipped.
+fn add_head(
+    alloc: Global,
+    rows: &mut Vec<Recorded>,
+    now: Timestamp,
+    head: Head,
+) -> Result<(), AllocError>
+    ensures { OnOk result (map recorded_seen rows.new.items
+        ≡ with_head now.nanosecond (map recorded_seen rows.old.items) head) }
+{
+    if is_skipped(&head) {
+        return Ok(());
+    }
+    let row = recorded_of(alloc, now, rows.len() + 1, head)?;
+    rows.push(row)?;
+    Ok(())
+}
+
+// What is recorded of the heads of the bytes.
+fn recorded_all(
+    alloc: Global,
+    keys: RandomState,
+    bytes: &[u8],
+    now: Timestamp,
+) -> Result<Vec<Recorded>, HeadsError>
+    ensures found { IfOk result (λ rs. IsHeads now.nanosecond bytes.now
+        (map recorded_seen rs.items)) }
+    ensures cause { IfErr result (IsCause bytes.now) }
+{
+    let mut rows = Vec::new(alloc);
+    let mut front = front_of(bytes);
+    while is_heads(front) {
+        let cut = cut_of(front);
+        let head = head_of(alloc, keys, bytes, front, cut)?;
+        add_head(alloc, &mut rows, now, head)?;
+        front = cut.next;
+    }
+    Ok(rows)
+}
+
+/// Returns what is recorded of heads of responses that follow one another: each is the response to a request
+/// for a target of its own, `head 1` and so on, at the time of its Date, else `now`.
+///
+/// A head is a status line of HTTP/1, HTTP/2 or HTTP/3, field lines, and an empty line, which may be absent or
+/// cut off at the end of the input. Lines end in CRLF or LF, and a head with any other CR isn't read (RFC 9112,
+/// section 2.2). Each CR and LF after a head is skipped, and what follows is a body, which ends the heads,
+/// unless it begins with `HTTP/`. Heads of status 1xx are skipped, and those of status 200 without fields
+/// before another head, with which proxies answer CONNECT. A Date before 1970 counts as none.
+///
+/// Another party chose the names, so the header maps take secret keys against collisions.
+///
+/// # Errors
+///
+/// Returns `NotAHead` or `TooLong` if a head can't be read, `NoHead` if there is none but those that are
+/// skipped, and `Memory` if there is none.
+pub fn heads_from_bytes(
+    alloc: Global,
+    keys: RandomState,
+    bytes: &[u8],
+    now: Timestamp,
+) -> Result<Vec<Recorded>, HeadsError>
+    ensures found { IfOk result (λ rs. IsHeads now.nanosecond bytes.now
+        (map recorded_seen rs.items)) }
+    ensures some { IfOk result (λ rs. 0 < length rs.items) }
+    ensures cause { IfErr result (IsCause bytes.now) }
+{
+    let rows = recorded_all(alloc, keys, bytes, now)?;
+    if rows.is_empty() {
+        return Err(HeadsError::NoHead);
+    }
+    Ok(rows)
+}

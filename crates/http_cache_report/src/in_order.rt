@@ -1,0 +1,313 @@
+//! What is in order: urls of the first load of which nothing has to be changed.
+ghost use Rattle.std.specs.Prelude.{◌≡◌, ◌++◌, [], map, fold, IfOk, OnOk, string_bytes};
+ghost use Rattle.http_cache_recording.specs.Entry.{recorded_seen};
+ghost use Rattle.http_cache_report.specs.Words.{style_seen, with_piece};
+ghost use Rattle.http_cache_report.specs.BySize.{IsOrder};
+ghost use Rattle.http_cache_report.specs.InOrder.{is_no_cache, is_only_confirmed, needs_nothing, is_kept, is_checked, kept_of, checked_of};
+ghost use Rattle.http_cache_report.specs.InOrder.{each_bytes, each_words, piece_of, with_piece_at, pieces, more_words, line_of, kept_head, checked_head, IsLine, section_if, AreInOrder};
+
+use crate::by_size::{MOST, order_of};
+use crate::later::{Visits, any_asks, is_again, is_confirmed, is_given, is_picked};
+use crate::numbers::kilobytes;
+use crate::picks::Pick;
+use crate::queries::text_at;
+use crate::urls::{Life, Url};
+use crate::words::{UrlStyle, push_piece};
+use crate::wrong::has_faults;
+use http_cache_audit::counts::Counts;
+use http_cache_recording::Recorded;
+use std::alloc::{AllocError, Global};
+
+fn is_no_cache(life: Life) -> bool
+    ensures { result ≡ is_no_cache life }
+{
+    matches!(life, Life::NoCache)
+}
+
+// Whether a 304 confirms what is stored for a url, at each of its requests.
+fn is_only_confirmed(visit: &Counts, url: &str) -> Result<bool, AllocError>
+    ensures { IfOk result (λ holds. holds ≡ is_only_confirmed visit.now url.now) }
+{
+    Ok(is_confirmed(visit, url)? && !is_again(visit, url)?)
+}
+
+// Whether a url of the first load isn't to be changed first, and nothing looks wrong in it.
+fn needs_nothing(
+    alloc: Global,
+    recorded: &[Recorded],
+    picks: &[Pick],
+    url: &Url,
+) -> Result<bool, AllocError>
+    ensures { IfOk result (λ holds. holds
+        ≡ needs_nothing (map recorded_seen recorded.now) picks.now url.now) }
+{
+    let wrong = has_faults(alloc, recorded, url)?;
+    Ok(url.known.is_first && !is_picked(picks, url) && !wrong)
+}
+
+// Whether a url states a lifetime, and no visit asks for it.
+fn is_kept(
+    alloc: Global,
+    recorded: &[Recorded],
+    visits: &Visits,
+    picks: &[Pick],
+    url: &Url,
+) -> Result<bool, AllocError>
+    ensures { IfOk result (λ holds. holds
+        ≡ is_kept (map recorded_seen recorded.now) visits.now picks.now url.now) }
+{
+    let needs_nothing = needs_nothing(alloc, recorded, picks, url)?;
+    let asked = any_asks(visits, text_at(recorded, url.entry))?;
+    Ok(needs_nothing && is_given(url.life) && !asked)
+}
+
+// Whether a url says `no-cache`, and a 304 confirms it a day later.
+fn is_checked(
+    alloc: Global,
+    recorded: &[Recorded],
+    visits: &Visits,
+    picks: &[Pick],
+    url: &Url,
+) -> Result<bool, AllocError>
+    ensures { IfOk result (λ holds. holds
+        ≡ is_checked (map recorded_seen recorded.now) visits.now picks.now url.now) }
+{
+    let needs_nothing = needs_nothing(alloc, recorded, picks, url)?;
+    let confirmed = is_only_confirmed(&visits.day, text_at(recorded, url.entry))?;
+    Ok(needs_nothing && is_no_cache(url.life) && confirmed)
+}
+
+// For each url, whether it is kept.
+fn kept_of(
+    alloc: Global,
+    recorded: &[Recorded],
+    visits: &Visits,
+    picks: &[Pick],
+    urls: &[Url],
+) -> Result<Vec<bool>, AllocError>
+    ensures { IfOk result (λ all. all.items
+        ≡ kept_of (map recorded_seen recorded.now) visits.now picks.now urls.now) }
+{
+    let mut all = Vec::with_capacity(alloc, urls.len())?;
+    for url in urls {
+        all.push(is_kept(alloc, recorded, visits, picks, url)?)?;
+    }
+    Ok(all)
+}
+
+// For each url, whether it is checked.
+fn checked_of(
+    alloc: Global,
+    recorded: &[Recorded],
+    visits: &Visits,
+    picks: &[Pick],
+    urls: &[Url],
+) -> Result<Vec<bool>, AllocError>
+    ensures { IfOk result (λ all. all.items
+        ≡ checked_of (map recorded_seen recorded.now) visits.now picks.now urls.now) }
+{
+    let mut all = Vec::with_capacity(alloc, urls.len())?;
+    for url in urls {
+        all.push(is_checked(alloc, recorded, visits, picks, url)?)?;
+    }
+    Ok(all)
+}
+
+// What a later load sent for each of its requests for a url, rounded down.
+fn each_bytes(sums: &Counts, url: &str) -> Result<u64, AllocError>
+    ensures { IfOk result (λ n. n ≡ each_bytes sums.now url.now) }
+{
+    let requests = sums.total_of("later_requests", url)?;
+    if requests == 0 {
+        return Ok(0);
+    }
+    Ok(sums.total_of("later_bytes", url)? / requests)
+}
+
+fn each_words(alloc: Global, amount: &str, bytes: u64) -> Result<String, AllocError>
+    ensures { IfOk result (λ text. string_bytes text ≡ each_words amount.now bytes) }
+{
+    if bytes == 0 {
+        return Ok(String::new(alloc));
+    }
+    format!(in alloc; " ({amount})")
+}
+
+// A url, and what a later load sent for a request.
+fn piece_of(
+    alloc: Global,
+    short: &UrlStyle<'_>,
+    recorded: &[Recorded],
+    sums: &Counts,
+    url: &Url,
+) -> Result<String, AllocError>
+    ensures { IfOk result (λ text. string_bytes text ≡ piece_of (style_seen short.now)
+        (map recorded_seen recorded.now) sums.now url.now) }
+{
+    let text = short.url_text(recorded, url.entry);
+    let bytes = each_bytes(sums, text_at(recorded, url.entry))?;
+    let amount = kilobytes(alloc, bytes)?;
+    let words = each_words(alloc, amount.as_str(), bytes)?;
+    format!(in alloc; "{text}{words}")
+}
+
+fn push_piece_at(
+    alloc: Global,
+    out: &mut String,
+    short: &UrlStyle<'_>,
+    recorded: &[Recorded],
+    sums: &Counts,
+    urls: &[Url],
+    key: (u64, usize),
+) -> Result<(), AllocError>
+    ensures { OnOk result (string_bytes out.new ≡ with_piece_at (style_seen short.now)
+        (map recorded_seen recorded.now) sums.now urls.now (string_bytes out.old) key) }
+{
+    match urls.get(key.1) {
+        Some(url) => {
+            let piece = piece_of(alloc, short, recorded, sums, url)?;
+            push_piece(out, piece.as_str())
+        }
+        None => Ok(()),
+    }
+}
+
+// The urls of an order, with commas between them.
+fn pieces(
+    alloc: Global,
+    short: &UrlStyle<'_>,
+    recorded: &[Recorded],
+    sums: &Counts,
+    urls: &[Url],
+    order: &[(u64, usize)],
+) -> Result<String, AllocError>
+    ensures { IfOk result (λ text. string_bytes text ≡ pieces (style_seen short.now)
+        (map recorded_seen recorded.now) sums.now urls.now order.now) }
+{
+    let mut out = String::new(alloc);
+    for key in order {
+        push_piece_at(alloc, &mut out, short, recorded, sums, urls, *key)?;
+    }
+    Ok(out)
+}
+
+fn more_words(alloc: Global, count: usize) -> Result<String, AllocError>
+    ensures { IfOk result (λ text. string_bytes text ≡ more_words count) }
+{
+    if count == 0 {
+        return Ok(String::new(alloc));
+    }
+    format!(in alloc; ", and {count} more")
+}
+
+// The line of some urls: the first twelve, and how many there are more.
+fn line_of(
+    alloc: Global,
+    head: &str,
+    short: &UrlStyle<'_>,
+    recorded: &[Recorded],
+    sums: &Counts,
+    urls: &[Url],
+    order: &[(u64, usize)],
+) -> Result<String, AllocError>
+    ensures { IfOk result (λ text. string_bytes text ≡ line_of head.now (style_seen short.now)
+        (map recorded_seen recorded.now) sums.now urls.now order.now) }
+{
+    if order.is_empty() {
+        return Ok(String::new(alloc));
+    }
+    let len = order.len().min(MOST);
+    let names = pieces(alloc, short, recorded, sums, urls, &order[..len])?;
+    let more = more_words(alloc, order.len().saturating_sub(MOST))?;
+    format!(in alloc; "  {head}: {names}{more}\n")
+}
+
+// The line of the urls that no visit asks for.
+fn kept_line(
+    alloc: Global,
+    short: &UrlStyle<'_>,
+    recorded: &[Recorded],
+    sums: &Counts,
+    visits: &Visits,
+    picks: &[Pick],
+    urls: &[Url],
+) -> Result<String, AllocError>
+    ensures { IfOk result (λ text. IsLine kept_head (style_seen short.now)
+        (map recorded_seen recorded.now) sums.now urls.now
+        (kept_of (map recorded_seen recorded.now) visits.now picks.now urls.now)
+        (string_bytes text)) }
+{
+    let kept = kept_of(alloc, recorded, visits, picks, urls)?;
+    let order = order_of(alloc, recorded, urls, kept.as_slice())?;
+    line_of(
+        alloc,
+        "nothing is asked for thirty days",
+        short,
+        recorded,
+        sums,
+        urls,
+        order.as_slice(),
+    )
+}
+
+// The line of the urls that a 304 confirms.
+fn checked_line(
+    alloc: Global,
+    short: &UrlStyle<'_>,
+    recorded: &[Recorded],
+    sums: &Counts,
+    visits: &Visits,
+    picks: &[Pick],
+    urls: &[Url],
+) -> Result<String, AllocError>
+    ensures { IfOk result (λ text. IsLine checked_head (style_seen short.now)
+        (map recorded_seen recorded.now) sums.now urls.now
+        (checked_of (map recorded_seen recorded.now) visits.now picks.now urls.now)
+        (string_bytes text)) }
+{
+    let checked = checked_of(alloc, recorded, visits, picks, urls)?;
+    let order = order_of(alloc, recorded, urls, checked.as_slice())?;
+    line_of(
+        alloc,
+        "no-cache, and answered by a 304",
+        short,
+        recorded,
+        sums,
+        urls,
+        order.as_slice(),
+    )
+}
+
+fn section_if(alloc: Global, lines: &str) -> Result<String, AllocError>
+    ensures { IfOk result (λ text. string_bytes text ≡ section_if lines.now) }
+{
+    if lines.is_empty() {
+        return Ok(String::new(alloc));
+    }
+    format!(in alloc; "\nIN ORDER\n{lines}")
+}
+
+/// Returns the section of the urls of the first load of which nothing has to be changed: those that state a
+/// lifetime and that no later visit asks for, and those that say `no-cache` and that a 304 confirms. Each line
+/// has twelve at most, those of which most bytes were sent.
+///
+/// # Errors
+///
+/// Returns an error only if there is no memory.
+pub fn in_order_text(
+    alloc: Global,
+    short: &UrlStyle<'_>,
+    recorded: &[Recorded],
+    sums: &Counts,
+    visits: &Visits,
+    picks: &[Pick],
+    urls: &[Url],
+) -> Result<String, AllocError>
+    ensures { IfOk result (λ text. AreInOrder (style_seen short.now) (map recorded_seen recorded.now)
+        sums.now visits.now picks.now urls.now (string_bytes text)) }
+{
+    let mut lines = kept_line(alloc, short, recorded, sums, visits, picks, urls)?;
+    let checked = checked_line(alloc, short, recorded, sums, visits, picks, urls)?;
+    lines.push_str(checked.as_str())?;
+    section_if(alloc, lines.as_str())
+}

@@ -1,0 +1,212 @@
+//! The report as one page of HTML. Which pieces it has is decided here and in the modules `page_*`; how a
+//! piece is written, `http_cache_page` says.
+ghost use Rattle.std.specs.Prelude.{◌≡◌, map, IfOk, string_bytes};
+ghost use Rattle.http_cache_recording.specs.Entry.{recorded_seen};
+ghost use Rattle.http_cache_audit.specs.Report.{settings_seen};
+ghost use Rattle.http_cache_report.specs.PageOf.{IsPage};
+
+use crate::facts::{After, Facts, after_of, facts_of};
+use crate::later::{Visits, visits_of};
+use crate::page_changes::{Change, changes_of, put_changes};
+use crate::page_requests::requests_of;
+use crate::page_three::put_three;
+use crate::page_visits::{put_visits, visit_table};
+use crate::page_wrong::{Wrong, both_page, put_wrong, wrong_in};
+use crate::picks::{Base, Pick, remedies_of};
+use crate::screen::{base_of, hits_of, notes_text, picks_by, short_of};
+use crate::visit::Span;
+use http::Uri;
+use http_cache_audit::report::{Hits, Settings, no_target};
+use http_cache_page::constant::Constant;
+use http_cache_page::frame::FrameText;
+use http_cache_page::piece::{Page, page_text};
+use http_cache_recording::Recorded;
+use std::alloc::{AllocError, Global};
+
+fn put(page: &mut Page, text: FrameText) -> Result<(), AllocError> {
+    page.put(Constant::Frame(text))
+}
+
+// What may mislead, if anything does.
+fn put_notes(page: &mut Page, notes: &str) -> Result<(), AllocError> {
+    if notes.is_empty() {
+        return Ok(());
+    }
+    put(page, FrameText::Warning)?;
+    for line in notes.split_terminator('\n') {
+        page.text(line)?;
+        page.put(Constant::Frame(FrameText::Blank))?;
+    }
+    put(page, FrameText::ParagraphEnd)
+}
+
+// All before the sections.
+fn put_head(
+    page: &mut Page,
+    facts: &Facts,
+    is_shared: bool,
+    notes: &str,
+) -> Result<(), AllocError> {
+    put(page, FrameText::Head)?;
+    put(page, FrameText::Style)?;
+    put(page, FrameText::Title)?;
+    page.text(facts.host.as_str())?;
+    put(page, FrameText::Body)?;
+    page.text(facts.host.as_str())?;
+    put(
+        page,
+        if is_shared {
+            FrameText::Cdn
+        } else {
+            FrameText::Browser
+        },
+    )?;
+    page.text(facts.line.as_str().trim_end())?;
+    put(page, FrameText::Main)?;
+    put_notes(page, notes)
+}
+
+// All after them.
+fn put_end(page: &mut Page) -> Result<(), AllocError> {
+    put(page, FrameText::Footer)?;
+    put(page, FrameText::Script)?;
+    put(page, FrameText::End)
+}
+
+// What is made before the recording is changed.
+#[derive(Drop)]
+struct Parts {
+    // What to change first.
+    changes: Vec<Change>,
+    // What later visits ask for.
+    visits: Page,
+    // What looks wrong in headers.
+    wrong: Wrong,
+    // Where the other kind of cache differs.
+    both: Page,
+}
+
+fn parts_of(
+    alloc: Global,
+    recorded: &[Recorded],
+    target: &Uri,
+    settings: &Settings,
+    facts: &Facts,
+    visits: &Visits,
+    picks: &[Pick],
+) -> Result<Parts, AllocError> {
+    let short = short_of(facts, settings.hides_queries);
+    let urls = facts.urls.as_slice();
+    Ok(Parts {
+        changes: changes_of(alloc, &short, recorded, picks)?,
+        visits: visit_table(alloc, &short, recorded, visits, picks, facts)?,
+        wrong: wrong_in(alloc, &short, recorded, urls)?,
+        both: both_page(alloc, &short, recorded, target, settings.options, urls)?,
+    })
+}
+
+fn put_parts(
+    page: &mut Page,
+    facts: &Facts,
+    base: Base,
+    visits: &Visits,
+    parts: &mut Parts,
+    after: &After,
+) -> Result<(), AllocError> {
+    let changes = parts.changes.as_slice();
+    put_three(page, facts, base, visits, changes, after)?;
+    put(page, FrameText::Navigation)?;
+    put_changes(page, facts, base, visits, changes, after)?;
+    put_visits(page, visits, &after.visits)?;
+    page.append(&mut parts.visits)?;
+    put_wrong(page, facts, &mut parts.wrong, after)?;
+    page.append(&mut parts.both)
+}
+
+// The sections of a recording that has a first load.
+fn put_sections(
+    page: &mut Page,
+    recorded: Vec<Recorded>,
+    target: &Uri,
+    settings: Settings,
+    facts: &Facts,
+    span: Span,
+) -> Result<(), AllocError> {
+    let (alloc, options) = (page.alloc(), settings.options);
+    let mut recorded = recorded;
+    let repeats = facts.repeats.as_slice();
+    let visits = visits_of(alloc, &mut recorded, repeats, span, target, options)?;
+    let base = base_of(&facts.sums)?;
+    let picks = picks_by(alloc, recorded.as_slice(), facts, &visits, base)?;
+    let remedies = remedies_of(alloc, recorded.as_slice(), picks.as_slice())?;
+    let mut parts = parts_of(
+        alloc,
+        recorded.as_slice(),
+        target,
+        &settings,
+        facts,
+        &visits,
+        picks.as_slice(),
+    )?;
+    let after = after_of(
+        alloc,
+        recorded,
+        target,
+        &options,
+        remedies.as_slice(),
+        facts,
+        &span,
+    )?;
+    put_parts(page, facts, base, &visits, &mut parts, &after)
+}
+
+fn put_sections_of(
+    page: &mut Page,
+    recorded: Vec<Recorded>,
+    target: &Uri,
+    settings: Settings,
+    facts: &Facts,
+) -> Result<(), AllocError> {
+    match facts.span {
+        Some(span) => put_sections(page, recorded, target, settings, facts, span),
+        None => Ok(()),
+    }
+}
+
+fn page_of(
+    alloc: Global,
+    recorded: Vec<Recorded>,
+    target: &Uri,
+    settings: Settings,
+    facts: &Facts,
+) -> Result<Page, AllocError> {
+    let mut page = Page::new(alloc);
+    let notes = notes_text(alloc, &facts.sums, recorded.as_slice())?;
+    let mut requests = requests_of(alloc, recorded.as_slice(), target, &settings, facts)?;
+    put_head(&mut page, facts, settings.options.shared, notes.as_str())?;
+    put_sections_of(&mut page, recorded, target, settings, facts)?;
+    page.append(&mut requests)?;
+    put_end(&mut page)?;
+    Ok(page)
+}
+
+/// Returns the report of a recording as one page of HTML, and how many repeated requests a stored response
+/// answers.
+///
+/// # Errors
+///
+/// Returns an error only if there is no memory.
+pub fn page(
+    alloc: Global,
+    recorded: Vec<Recorded>,
+    settings: Settings,
+) -> Result<(String, Hits), AllocError>
+    ensures { IfOk result (λ made. IsPage (settings_seen settings)
+        (map recorded_seen recorded.items) made.1 (string_bytes made.0)) }
+{
+    let target = no_target(alloc)?;
+    let facts = facts_of(alloc, recorded.as_slice(), &target, settings.options)?;
+    let page = page_of(alloc, recorded, &target, settings, &facts)?;
+    let text = page_text(alloc, page.pieces.as_slice())?;
+    Ok((text, hits_of(&facts.sums)))
+}

@@ -1,0 +1,244 @@
+//! Queries that change while the response doesn't: which there are, a recording without them, and what that
+//! saves.
+ghost use Rattle.std.specs.Prelude.{◌≡◌, ◌++◌, map, IfOk, OnOk, option_map, string_bytes};
+ghost use Rattle.http_cache_recording.specs.Entry.{recorded_seen, text_seen};
+ghost use Rattle.http_cache_audit.specs.Counts.{total_in};
+ghost use Rattle.http_cache_report.specs.Plain.{changing_seen, front_of, changing_if, changing_at, changing_in, is_base, plain, plain_recorded};
+ghost use Rattle.http_cache_report.specs.Plain.{saved_by, saved_words, query_words, query_line, lines_of, query_lines};
+
+use crate::by_size::{MOST, push_rest};
+use crate::first::less;
+use crate::numbers::kilobytes;
+use crate::queries::base_of;
+use crate::words::short;
+use http_cache_audit::counts::Counts;
+use http_cache_recording::{Printed, Recorded};
+use std::alloc::{AllocError, Global};
+
+/// Urls that differ in their query alone, and have one response.
+#[derive(Drop)]
+pub struct Changing {
+    /// Each of them up to its query.
+    pub base: String,
+    /// How many they are.
+    pub urls: u64,
+}
+
+// The base in front of a mark.
+fn front_of(marked: &str) -> &str
+    ensures { result.now ≡ front_of marked.now }
+{
+    match marked.split_once('\n') {
+        Some((base, _)) => base,
+        None => marked,
+    }
+}
+
+// Adds a base if so many urls have it with a mark, and none has it with another one.
+fn push_marked(
+    alloc: Global,
+    all: &mut Vec<Changing>,
+    bases: &Counts,
+    marked: &str,
+    count: u64,
+) -> Result<(), AllocError>
+    ensures { OnOk result (map changing_seen all.new.items ≡ map changing_seen all.old.items
+        ++ changing_if (total_in bases.now) (front_of marked.now) count) }
+{
+    let base = front_of(marked);
+    if count > 1 && bases.total_of("base", base)? == count {
+        all.push(Changing {
+            base: String::from_str(alloc, base)?,
+            urls: count,
+        })?;
+    }
+    Ok(())
+}
+
+fn push_changing(
+    alloc: Global,
+    all: &mut Vec<Changing>,
+    bases: &Counts,
+    label: &str,
+    count: u64,
+) -> Result<(), AllocError>
+    ensures { OnOk result (map changing_seen all.new.items ≡ map changing_seen all.old.items
+        ++ changing_at (total_in bases.now) (label.now, count)) }
+{
+    match label.strip_prefix("marked/") {
+        Some(marked) => push_marked(alloc, all, bases, marked, count),
+        None => Ok(()),
+    }
+}
+
+/// Returns the urls whose query changes while their response doesn't, by their bases.
+///
+/// # Errors
+///
+/// Returns an error only if there is no memory.
+pub fn changing_in(alloc: Global, bases: &Counts) -> Result<Vec<Changing>, AllocError>
+    ensures { IfOk result (λ all. map changing_seen all.items ≡ changing_in bases.now) }
+{
+    let mut all = Vec::new(alloc);
+    for (label, count) in bases.by_label.iter() {
+        push_changing(alloc, &mut all, bases, label.as_str(), *count)?;
+    }
+    Ok(all)
+}
+
+fn is_base(changing: &[Changing], base: &str) -> bool
+    ensures { result ≡ is_base (map changing_seen changing.now) base.now }
+{
+    changing.iter().any(|one| one.base.as_str() == base)
+}
+
+// A url without its query, if that changes.
+fn plain(alloc: Global, changing: &[Changing], url: String) -> Result<String, AllocError>
+    ensures { IfOk result (λ u. string_bytes u
+        ≡ plain (map changing_seen changing.now) (string_bytes url)) }
+{
+    let base = base_of(url.as_str());
+    if is_base(changing, base) {
+        String::from_str(alloc, base)
+    } else {
+        Ok(url)
+    }
+}
+
+fn plain_url(
+    alloc: Global,
+    changing: &[Changing],
+    url: Option<String>,
+) -> Result<Option<String>, AllocError>
+    ensures { IfOk result (λ u. text_seen u
+        ≡ option_map (plain (map changing_seen changing.now)) (text_seen url)) }
+{
+    match url {
+        Some(url) => Ok(Some(plain(alloc, changing, url)?)),
+        None => Ok(None),
+    }
+}
+
+fn plain_recorded(
+    alloc: Global,
+    recorded: Recorded,
+    changing: &[Changing],
+) -> Result<Recorded, AllocError>
+    ensures { IfOk result (λ r. recorded_seen r
+        ≡ plain_recorded (map changing_seen changing.now) (recorded_seen recorded)) }
+{
+    let printed = recorded.printed;
+    let url = plain_url(alloc, changing, printed.url)?;
+    Ok(Recorded {
+        printed: Printed { url, ..printed },
+        reading: recorded.reading,
+    })
+}
+
+/// Returns a recording without the queries that change.
+///
+/// # Errors
+///
+/// Returns an error only if there is no memory.
+pub fn plain_all(
+    alloc: Global,
+    recorded: Vec<Recorded>,
+    changing: &[Changing],
+) -> Result<Vec<Recorded>, AllocError>
+    ensures { IfOk result (λ all. map recorded_seen all.items
+        ≡ map (plain_recorded (map changing_seen changing.now)) (map recorded_seen recorded.items)) }
+{
+    let mut all = Vec::with_capacity(alloc, recorded.len())?;
+    for one in recorded {
+        all.push(plain_recorded(alloc, one, changing)?)?;
+    }
+    Ok(all)
+}
+
+fn saved_words(alloc: Global, amount: &str, bytes: u64) -> Result<String, AllocError>
+    ensures { IfOk result (λ text. string_bytes text ≡ saved_words amount.now bytes) }
+{
+    if bytes == 0 {
+        return Ok(String::new(alloc));
+    }
+    format!(in alloc; " (saves {amount})")
+}
+
+// What the later loads save without the queries of some urls.
+fn saved_by(
+    alloc: Global,
+    costs: &Counts,
+    plain: &Counts,
+    one: &Changing,
+) -> Result<String, AllocError>
+    ensures { IfOk result (λ text. string_bytes text
+        ≡ saved_by costs.now plain.now (changing_seen one.now)) }
+{
+    let bytes = less(costs, plain, "later_base", one.base.as_str())?;
+    let amount = kilobytes(alloc, bytes)?;
+    saved_words(alloc, amount.as_str(), bytes)
+}
+
+fn query_words(alloc: Global, url: &str, count: u64) -> Result<String, AllocError>
+    ensures { IfOk result (λ text. string_bytes text ≡ query_words url.now count) }
+{
+    format!(in alloc; "  {url:<34}{count} urls, one response -> leave the query out")
+}
+
+fn query_line(
+    alloc: Global,
+    host: &str,
+    costs: &Counts,
+    plain: &Counts,
+    one: &Changing,
+) -> Result<String, AllocError>
+    ensures { IfOk result (λ text. string_bytes text
+        ≡ query_line host.now costs.now plain.now (changing_seen one.now)) }
+{
+    let mut line = query_words(alloc, short(host, one.base.as_str()), one.urls)?;
+    let saved = saved_by(alloc, costs, plain, one)?;
+    line.push_str(saved.as_str())?;
+    line.push_str("\n")?;
+    Ok(line)
+}
+
+#[tactic(auto, unfolding(crate::specs::Plain::lines_of))]
+fn push_lines(
+    alloc: Global,
+    out: &mut String,
+    host: &str,
+    costs: &Counts,
+    plain: &Counts,
+    changing: &[Changing],
+) -> Result<(), AllocError>
+    ensures { OnOk result (string_bytes out.new ≡ string_bytes out.old
+        ++ lines_of host.now costs.now plain.now changing.now) }
+{
+    for one in changing {
+        let line = query_line(alloc, host, costs, plain, one)?;
+        out.push_str(line.as_str())?;
+    }
+    Ok(())
+}
+
+/// Adds a line for the urls of each changing query, at most twelve: what the later loads save without it, by
+/// what requests cost with these queries and without.
+///
+/// # Errors
+///
+/// Returns an error only if there is no memory.
+pub fn push_query_lines(
+    alloc: Global,
+    out: &mut String,
+    host: &str,
+    costs: &Counts,
+    plain: &Counts,
+    changing: &[Changing],
+) -> Result<(), AllocError>
+    ensures { OnOk result (string_bytes out.new ≡ string_bytes out.old
+        ++ query_lines host.now costs.now plain.now changing.now) }
+{
+    let len = changing.len().min(MOST);
+    push_lines(alloc, out, host, costs, plain, &changing[..len])?;
+    push_rest(out, changing.len().saturating_sub(MOST))
+}

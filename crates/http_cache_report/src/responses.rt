@@ -1,0 +1,574 @@
+//! What caches do with each response of which only the head was read, what later visits ask for, and what to
+//! send instead.
+//!
+//! Each response is a recording of its own, so that its visits count from its own time.
+ghost use Rattle.std.specs.Prelude.{◌≡◌, ◌++◌, [], ◌∷◌, length, map, slice_get, IfOk, OnOk, string_bytes};
+ghost use Rattle.std.specs.List.{flat_map, AllZip};
+ghost use Rattle.http_cache_semantics.specs.Options.{options_of};
+ghost use Rattle.http_cache_recording.specs.Entry.{recorded_seen};
+ghost use Rattle.http_cache_audit.specs.Row.{row_seen, lifetime_seen, kept_seen, received_seen};
+ghost use Rattle.http_cache_report.specs.Remedy.{remedy_seen};
+ghost use Rattle.http_cache_report.specs.Visit.{span_seen};
+ghost use Rattle.http_cache_report.specs.Responses.{line_text, cache_of, is_directive, source_text, age_text, kept_text};
+ghost use Rattle.http_cache_report.specs.Responses.{age_of, received_text, row_text, first_text, IsCacheText, act_text};
+ghost use Rattle.http_cache_report.specs.Responses.{visits_text, fault_line, fault_lines, seen_text, send_text, weight};
+ghost use Rattle.http_cache_report.specs.Responses.{weights, remedies_for, AreVisitsWith, asks_less, send_line, sent_line};
+ghost use Rattle.http_cache_report.specs.Responses.{IsAdvised, IsSent};
+ghost use Rattle.http_cache_report.specs.Responses.{IsSentBy, IsLaterOf, IsLaterBy, head_line, lines_text, IsResponse};
+ghost use Rattle.http_cache_report.specs.Responses.{heads_word, first_line, AreResponses};
+
+use crate::advice::{Advice, control_of};
+use crate::both::obstacle_text;
+use crate::facts::{Facts, after_of, facts_of};
+use crate::first::{answer_words, tag_words};
+use crate::later::{Visits, is_again, is_confirmed, visits_of};
+use crate::numbers::{duration, kilobytes};
+use crate::picks::advice_for;
+use crate::queries::text_at;
+use crate::remedy::Remedy;
+use crate::top::cache_text as asked_text;
+use crate::urls::Url;
+use crate::visit::Span;
+use crate::wrong::{faults_of, send_for};
+use http::Uri;
+use http_cache_audit::cost::response_of;
+use http_cache_audit::counts::Counts;
+use http_cache_audit::order::target_of;
+use http_cache_audit::report::{no_target, push_printed};
+use http_cache_audit::row::{Kept, Lifetime, Received, Row};
+use http_cache_audit::walk::rows_of;
+use http_cache_recording::Recorded;
+use http_cache_rules::lifetime::received_age;
+use http_cache_semantics::CacheOptions;
+use std::alloc::{AllocError, Global};
+
+// Adds a line: its name, and a text, with `?` for each control character.
+fn push_line(alloc: Global, out: &mut String, name: &str, text: &str) -> Result<(), AllocError>
+    ensures { OnOk result (string_bytes out.new ≡ string_bytes out.old
+        ++ line_text name.now text.now) }
+{
+    let line = format!(in alloc; "  {name:<10}{text}")?;
+    push_printed(out, line.as_str())
+}
+
+// The same cache, for one user or for many.
+fn cache_of(options: &CacheOptions, is_shared: bool) -> CacheOptions
+    ensures { options_of result ≡ cache_of (options_of options.now) is_shared }
+{
+    let mut cache = *options;
+    cache.shared = is_shared;
+    cache
+}
+
+// Whether a lifetime is set by a directive that can be read.
+fn is_directive(by: &str) -> bool
+    ensures { result ≡ is_directive by.now }
+{
+    by == "max-age" || by == "s-maxage"
+}
+
+// What sets a lifetime: a directive as it was written, or words for it, with the text if there is one.
+fn source_text(alloc: Global, lifetime: &Lifetime) -> Result<String, AllocError>
+    ensures { IfOk result (λ text. string_bytes text ≡ source_text (lifetime_seen lifetime.now)) }
+{
+    let by = lifetime.by;
+    match &lifetime.source {
+        None => String::from_str(alloc, by),
+        Some(source) => if is_directive(by) {
+            String::from_str(alloc, source.as_str())
+        } else {
+            format!(in alloc; "{by} ({source})")
+        },
+    }
+}
+
+// The age at the receipt, and what is left of the lifetime then, if there is an age.
+fn age_text(alloc: Global, age: u64, left: u64) -> Result<String, AllocError>
+    ensures { IfOk result (λ text. string_bytes text ≡ age_text age left) }
+{
+    if age == 0 {
+        return Ok(String::new(alloc));
+    }
+    let (age, left) = (duration(alloc, age)?, duration(alloc, left)?);
+    format!(in alloc; ", age {age}, {left} left")
+}
+
+// How long a response that is stored stays fresh.
+fn kept_text(alloc: Global, age: u64, kept: &Kept) -> Result<String, AllocError>
+    ensures { IfOk result (λ text. string_bytes text ≡ kept_text age (kept_seen kept.now)) }
+{
+    let life = duration(alloc, kept.lifetime.seconds)?;
+    let source = source_text(alloc, &kept.lifetime)?;
+    let age = age_text(alloc, age, kept.time_to_live)?;
+    format!(in alloc; "{life} by {source}{age}")
+}
+
+// The age that a response was received with.
+fn age_of(recorded: &Recorded) -> u64
+    ensures { result ≡ age_of (recorded_seen recorded.now) }
+{
+    match response_of(recorded) {
+        Some(response) => received_age(&response.headers),
+        None => 0,
+    }
+}
+
+// What a cache does with a response. Neither a 304 nor what isn't received is stored.
+fn received_text(
+    alloc: Global,
+    recorded: &Recorded,
+    received: &Received,
+) -> Result<String, AllocError>
+    ensures { IfOk result (λ text. string_bytes text
+        ≡ received_text (recorded_seen recorded.now) (received_seen received.now)) }
+{
+    match received {
+        Received::Stored(kept) | Received::Updated(kept) | Received::UpdatedOther(kept) => {
+            kept_text(alloc, age_of(recorded), kept)
+        }
+        Received::NotStorable(obstacles) => obstacle_text(alloc, &recorded.printed, obstacles),
+        _ => {
+            let status = recorded.printed.status;
+            format!(in alloc; "not stored: status {status}")
+        }
+    }
+}
+
+fn row_text(alloc: Global, row: &Row<'_>) -> Result<String, AllocError>
+    ensures { IfOk result (λ text. string_bytes text ≡ row_text (row_seen row.now)) }
+{
+    match &row.verdict {
+        Some(verdict) => received_text(alloc, row.recorded, &verdict.received),
+        None => Ok(String::new(alloc)),
+    }
+}
+
+fn first_text(alloc: Global, rows: &[Row<'_>]) -> Result<String, AllocError>
+    ensures { IfOk result (λ text. string_bytes text ≡ first_text (map row_seen rows.now)) }
+{
+    match rows.first() {
+        Some(row) => row_text(alloc, row),
+        None => Ok(String::new(alloc)),
+    }
+}
+
+// What a cache does with the only response of a recording.
+fn cache_text(
+    alloc: Global,
+    recorded: &[Recorded],
+    target: &Uri,
+    cache: CacheOptions,
+) -> Result<String, AllocError>
+    ensures { IfOk result (λ text. IsCacheText (map recorded_seen recorded.now) (options_of cache)
+        target.now (string_bytes text)) }
+{
+    let rows = rows_of(alloc, recorded, target, cache)?;
+    first_text(alloc, rows.as_slice())
+}
+
+// What a visit does with a url, in a word.
+fn act_text(visit: &Counts, url: &str) -> Result<&'static str, AllocError>
+    ensures { IfOk result (λ word. word.now ≡ act_text visit.now url.now) }
+{
+    let (again, confirmed) = (is_again(visit, url)?, is_confirmed(visit, url)?);
+    Ok(if again {
+        "again"
+    } else if confirmed {
+        "304"
+    } else {
+        "nothing"
+    })
+}
+
+fn visits_text(alloc: Global, visits: &Visits, url: &str) -> Result<String, AllocError>
+    ensures { IfOk result (λ text. string_bytes text ≡ visits_text visits.now url.now) }
+{
+    let hour = act_text(&visits.hour, url)?;
+    let day = act_text(&visits.day, url)?;
+    let week = act_text(&visits.week, url)?;
+    format!(in alloc; "{hour} in an hour, {day} in a day, {week} in a week")
+}
+
+fn push_fault(alloc: Global, out: &mut String, words: &str) -> Result<(), AllocError>
+    ensures { OnOk result (string_bytes out.new ≡ string_bytes out.old ++ fault_line words.now) }
+{
+    let send = send_for(words);
+    let text = format!(in alloc; "{words} -> {send}")?;
+    push_line(alloc, out, "wrong:", text.as_str())
+}
+
+fn push_faults(alloc: Global, out: &mut String, faults: &[String]) -> Result<(), AllocError>
+    ensures { OnOk result (string_bytes out.new ≡ string_bytes out.old
+        ++ fault_lines (map string_bytes faults.now)) }
+{
+    for words in faults {
+        push_fault(alloc, out, words.as_str())?;
+    }
+    Ok(())
+}
+
+// What visits do with a response, and what looks wrong in it.
+fn seen_text(
+    alloc: Global,
+    recorded: &[Recorded],
+    visits: &Visits,
+    url: &Url,
+) -> Result<String, AllocError>
+    ensures { IfOk result (λ text. string_bytes text
+        ≡ seen_text (map recorded_seen recorded.now) visits.now url.now) }
+{
+    let mut out = String::new(alloc);
+    let acts = visits_text(alloc, visits, text_at(recorded, url.entry))?;
+    let faults = faults_of(alloc, recorded, url)?;
+    push_line(alloc, &mut out, "a visit:", acts.as_str())?;
+    push_faults(alloc, &mut out, faults.as_slice())?;
+    Ok(out)
+}
+
+fn send_text(alloc: Global, advice: Advice) -> Result<String, AllocError>
+    ensures { IfOk result (λ text. string_bytes text ≡ send_text advice) }
+{
+    let (control, tag) = (control_of(advice), tag_words(advice.adds_tag));
+    let answer = answer_words(advice.answers_304);
+    format!(in alloc; "Cache-Control: {control}{tag}{answer}")
+}
+
+// What a visit asks for: a full response weighs more than a 304 at each of three visits.
+fn weight(visit: &Counts, url: &str) -> Result<u64, AllocError>
+    ensures { IfOk result (λ n. n ≡ weight visit.now url.now) }
+{
+    let (again, confirmed) = (is_again(visit, url)?, is_confirmed(visit, url)?);
+    Ok(if again {
+        4
+    } else if confirmed {
+        1
+    } else {
+        0
+    })
+}
+
+// What the three visits ask for.
+fn weights(visits: &Visits, url: &str) -> Result<u64, AllocError>
+    ensures { IfOk result (λ n. n ≡ weights visits.now url.now) }
+{
+    let hour = weight(&visits.hour, url)?;
+    let day = weight(&visits.day, url)?;
+    let week = weight(&visits.week, url)?;
+    Ok(hour + day + week)
+}
+
+fn remedies_for(alloc: Global, url: &str, advice: Advice) -> Result<Vec<Remedy>, AllocError>
+    ensures { IfOk result (λ all. map remedy_seen all.items ≡ remedies_for url.now advice) }
+{
+    let mut all = Vec::new(alloc);
+    all.push(Remedy {
+        url: String::from_str(alloc, url)?,
+        advice,
+    })?;
+    Ok(all)
+}
+
+// What visits cost if a url does as it is advised.
+fn visits_with(
+    alloc: Global,
+    recorded: Vec<Recorded>,
+    target: &Uri,
+    options: &CacheOptions,
+    facts: &Facts,
+    span: &Span,
+    url: &str,
+    advice: Advice,
+) -> Result<Visits, AllocError>
+    ensures { IfOk result (AreVisitsWith (map recorded_seen recorded.items) (options_of options.now)
+        target.now facts.now (span_seen span.now) url.now advice) }
+{
+    let remedies = remedies_for(alloc, url, advice)?;
+    let after = after_of(
+        alloc,
+        recorded,
+        target,
+        options,
+        remedies.as_slice(),
+        facts,
+        span,
+    )?;
+    Ok(after.visits)
+}
+
+// Whether visits ask for less than others.
+fn asks_less(after: &Visits, visits: &Visits, url: &str) -> Result<bool, AllocError>
+    ensures { IfOk result (λ holds. holds ≡ asks_less after.now visits.now url.now) }
+{
+    let (after, before) = (weights(after, url)?, weights(visits, url)?);
+    Ok(after < before)
+}
+
+fn send_line(alloc: Global, advice: Advice) -> Result<String, AllocError>
+    ensures { IfOk result (λ text. string_bytes text ≡ send_line advice) }
+{
+    let mut out = String::new(alloc);
+    let text = send_text(alloc, advice)?;
+    push_line(alloc, &mut out, "send:", text.as_str())?;
+    Ok(out)
+}
+
+// The line of what to send, if visits ask for less then.
+fn sent_line(
+    alloc: Global,
+    advice: Advice,
+    url: &str,
+    visits: &Visits,
+    after: &Visits,
+) -> Result<String, AllocError>
+    ensures { IfOk result (λ text. string_bytes text
+        ≡ sent_line advice url.now visits.now after.now) }
+{
+    if asks_less(after, visits, url)? {
+        send_line(alloc, advice)
+    } else {
+        Ok(String::new(alloc))
+    }
+}
+
+fn advised_text(
+    alloc: Global,
+    recorded: Vec<Recorded>,
+    target: &Uri,
+    options: &CacheOptions,
+    facts: &Facts,
+    span: &Span,
+    url: &str,
+    visits: &Visits,
+    advice: Advice,
+) -> Result<String, AllocError>
+    ensures { IfOk result (λ text. IsAdvised (map recorded_seen recorded.items)
+        (options_of options.now) target.now facts.now (span_seen span.now) url.now visits.now advice
+        (string_bytes text)) }
+{
+    let after = visits_with(alloc, recorded, target, options, facts, span, url, advice)?;
+    sent_line(alloc, advice, url, visits, &after)
+}
+
+// The same, if there is an advice.
+fn sent_by(
+    alloc: Global,
+    recorded: Vec<Recorded>,
+    target: &Uri,
+    options: &CacheOptions,
+    facts: &Facts,
+    span: &Span,
+    url: &str,
+    visits: &Visits,
+    advice: Option<Advice>,
+) -> Result<String, AllocError>
+    ensures { IfOk result (λ text. IsSentBy (map recorded_seen recorded.items)
+        (options_of options.now) target.now facts.now (span_seen span.now) url.now visits.now advice
+        (string_bytes text)) }
+{
+    match advice {
+        Some(advice) => {
+            advised_text(
+                alloc, recorded, target, options, facts, span, url, visits, advice,
+            )
+        }
+        None => Ok(String::new(alloc)),
+    }
+}
+
+// What to send instead, if a url has an advice by which visits ask for less.
+fn sent_text(
+    alloc: Global,
+    recorded: Vec<Recorded>,
+    target: &Uri,
+    options: &CacheOptions,
+    facts: &Facts,
+    span: &Span,
+    url: &Url,
+    visits: &Visits,
+) -> Result<String, AllocError>
+    ensures { IfOk result (λ text. IsSent (map recorded_seen recorded.items) (options_of options.now)
+        target.now facts.now (span_seen span.now) url.now visits.now (string_bytes text)) }
+{
+    let advice = advice_for(recorded.as_slice(), url);
+    let text = String::from_str(alloc, text_at(recorded.as_slice(), url.entry))?;
+    let name = text.as_str();
+    sent_by(
+        alloc, recorded, target, options, facts, span, name, visits, advice,
+    )
+}
+
+// What later visits do with a response, what looks wrong in it, and what to send instead.
+fn later_text(
+    alloc: Global,
+    recorded: Vec<Recorded>,
+    target: &Uri,
+    options: &CacheOptions,
+    facts: &Facts,
+    url: &Url,
+    span: &Span,
+) -> Result<String, AllocError>
+    ensures { IfOk result (λ text. IsLaterOf (map recorded_seen recorded.items)
+        (options_of options.now) target.now facts.now url.now (span_seen span.now)
+        (string_bytes text)) }
+{
+    let mut recorded = recorded;
+    let (repeats, when) = (facts.repeats.as_slice(), *span);
+    let visits = visits_of(alloc, &mut recorded, repeats, when, target, *options)?;
+    let mut out = seen_text(alloc, recorded.as_slice(), &visits, url)?;
+    let sent = sent_text(alloc, recorded, target, options, facts, span, url, &visits)?;
+    out.push_str(sent.as_str())?;
+    Ok(out)
+}
+
+// The same, if a store could answer for the response.
+fn later_by(
+    alloc: Global,
+    recorded: Vec<Recorded>,
+    target: &Uri,
+    options: &CacheOptions,
+    facts: &Facts,
+    url: Option<Url>,
+    span: Option<Span>,
+) -> Result<String, AllocError>
+    ensures { IfOk result (λ text. IsLaterBy (map recorded_seen recorded.items)
+        (options_of options.now) target.now facts.now url span (string_bytes text)) }
+{
+    match (url, span) {
+        (Some(url), Some(span)) => later_text(alloc, recorded, target, options, facts, &url, &span),
+        _ => Ok(String::new(alloc)),
+    }
+}
+
+// The name, the status and the bytes of a response.
+fn head_line(alloc: Global, recorded: &Recorded) -> Result<String, AllocError>
+    ensures { IfOk result (λ text. string_bytes text ≡ head_line (recorded_seen recorded.now)) }
+{
+    let (url, status) = (target_of(recorded), recorded.printed.status);
+    let size = kilobytes(alloc, recorded.printed.sent)?;
+    format!(in alloc; "\n{url}, status {status}, {size}\n")
+}
+
+// The lines of a response: what each kind of cache does with it, and then those of later visits.
+fn lines_text(
+    alloc: Global,
+    head: &str,
+    browser: &str,
+    cdn: &str,
+    later: &str,
+) -> Result<String, AllocError>
+    ensures { IfOk result (λ text. string_bytes text
+        ≡ lines_text head.now browser.now cdn.now later.now) }
+{
+    let mut out = String::from_str(alloc, head)?;
+    push_line(alloc, &mut out, "browser:", browser)?;
+    push_line(alloc, &mut out, "CDN:", cdn)?;
+    out.push_str(later)?;
+    Ok(out)
+}
+
+fn only_of(alloc: Global, recorded: Recorded) -> Result<Vec<Recorded>, AllocError>
+    ensures { IfOk result (λ all. map recorded_seen all.items ≡ recorded_seen recorded ∷ []) }
+{
+    let mut all = Vec::new(alloc);
+    all.push(recorded)?;
+    Ok(all)
+}
+
+fn first_url(facts: &Facts) -> Option<Url>
+    ensures { result ≡ slice_get facts.now.urls.items 0 }
+{
+    match facts.urls.as_slice().first() {
+        Some(url) => Some(*url),
+        None => None,
+    }
+}
+
+// What is written of a response.
+fn response_text(
+    alloc: Global,
+    recorded: Recorded,
+    target: &Uri,
+    options: &CacheOptions,
+) -> Result<String, AllocError>
+    ensures { IfOk result (λ text. IsResponse (options_of options.now) target.now
+        (recorded_seen recorded) (string_bytes text)) }
+{
+    let head = head_line(alloc, &recorded)?;
+    let only = only_of(alloc, recorded)?;
+    let browser = cache_text(alloc, only.as_slice(), target, cache_of(options, false))?;
+    let cdn = cache_text(alloc, only.as_slice(), target, cache_of(options, true))?;
+    let facts = facts_of(alloc, only.as_slice(), target, *options)?;
+    let url = first_url(&facts);
+    let later = later_by(alloc, only, target, options, &facts, url, facts.span)?;
+    lines_text(
+        alloc,
+        head.as_str(),
+        browser.as_str(),
+        cdn.as_str(),
+        later.as_str(),
+    )
+}
+
+// What is written of each response.
+fn texts_of(
+    alloc: Global,
+    recorded: Vec<Recorded>,
+    target: &Uri,
+    options: &CacheOptions,
+) -> Result<Vec<String>, AllocError>
+    ensures { IfOk result (λ all. AllZip (IsResponse (options_of options.now) target.now)
+        (map recorded_seen recorded.items) (map string_bytes all.items)) }
+{
+    let mut all = Vec::with_capacity(alloc, recorded.len())?;
+    for one in recorded {
+        all.push(response_text(alloc, one, target, options)?)?;
+    }
+    Ok(all)
+}
+
+fn heads_word(count: usize) -> &'static str
+    ensures { result.now ≡ heads_word count }
+{
+    if count == 1 { " head" } else { " heads" }
+}
+
+// How many heads there are, and which cache is asked.
+fn first_line(alloc: Global, recorded: &[Recorded], is_shared: bool) -> Result<String, AllocError>
+    ensures { IfOk result (λ text. string_bytes text
+        ≡ first_line (length (map recorded_seen recorded.now)) is_shared) }
+{
+    let count = recorded.len();
+    let (word, cache) = (heads_word(count), asked_text(is_shared));
+    format!(in alloc; "{count}{word}{cache}")
+}
+
+fn push_texts(out: &mut String, texts: &[String]) -> Result<(), AllocError>
+    ensures { OnOk result (string_bytes out.new ≡ string_bytes out.old
+        ++ flat_map (λ t. t) (map string_bytes texts.now)) }
+{
+    for text in texts {
+        out.push_str(text.as_str())?;
+    }
+    Ok(())
+}
+
+/// Returns the text of responses: what a browser's cache and a CDN's do with each, what visits an hour, a day
+/// and a week later ask the server for, what looks wrong, and what to send if visits ask for less then.
+///
+/// # Errors
+///
+/// Returns an error only if there is no memory.
+pub fn responses_text(
+    alloc: Global,
+    recorded: Vec<Recorded>,
+    options: CacheOptions,
+) -> Result<String, AllocError>
+    ensures { IfOk result (λ text. AreResponses (options_of options)
+        (map recorded_seen recorded.items) (string_bytes text)) }
+{
+    let target = no_target(alloc)?;
+    let mut out = first_line(alloc, recorded.as_slice(), options.shared)?;
+    let texts = texts_of(alloc, recorded, &target, &options)?;
+    push_texts(&mut out, texts.as_slice())?;
+    Ok(out)
+}
