@@ -19,7 +19,8 @@ use std::{env, io};
 
 const USAGE: &str =
     "usage: cacheaudit [--private | --shared] [--heuristic N/D] [--html | --lines | --json | --by-url]
-                  [--no-query] [--ignore-request-no-cache] [--with 'PATTERN: HEADER: VALUE'].. [--fail-under N] [FILE]
+                  [--no-query] [--ignore-request-no-cache] [--with 'PATTERN: HEADER: VALUE']..
+                  [--fail-under N] [FILE]
 reports of a recorded session (HAR 1.2) what to change first, what later visits cost, and what looks wrong;
 or of responses (the heads that curl -sI, -sIL or -si prints) what caches do with each, and what to send
     --html                     the report of a recorded session as one page of HTML, which needs nothing else

@@ -31,9 +31,9 @@ pub enum Constant {
     Timeline(TimelineText),
     /// Of the table of all requests.
     Request(RequestText),
-    /// An item of the timeline, by what came of its request.
+    /// An item of the timeline, by what became of its request.
     Item(Mark),
-    /// The letter for what came of a request.
+    /// The letter for what became of a request.
     Letter(Mark),
     /// That letter, and its words.
     Named(Mark),

@@ -47,8 +47,8 @@ pub enum FrameText {
 const HEAD: &str = r##"<!DOCTYPE html>
 <html lang="en"><head><meta charset="utf-8">
 <meta http-equiv="Content-Security-Policy" content="default-src 'none'; img-src data:;
-style-src 'sha256-dbf4eEzFoHPhsTMphERom+vuDaGGpI0OrjpvoAnPFSo=';
-script-src 'sha256-lIT66tDteDBdMFgqfhuofWYFOTq3opH++cmIZkxV5nI=';
+style-src 'sha256-Mal1TnTGeFmMC+KVPCuRmQlobINJ1QQLyh4H9V0YD94=';
+script-src 'sha256-OuhFVIRvkE6FlXzqOOJcn73XFeuPvjYjM6cS/xA9QA0=';
 base-uri 'none'; form-action 'none'">
 <meta name="viewport" content="width=device-width"><meta name="referrer" content="no-referrer">
 <link rel="icon" href="data:,">
@@ -93,8 +93,8 @@ const NAVIGATION: &str = r##"<nav aria-label="sections"><a href="#s1">Change fir
 
 const FOOTER: &str = r##"</main>
 <footer><p>kB is 1000 bytes. A request costs nothing while what is stored is fresh, its headers where a 304
-answers, else all of it. This page asks for nothing and runs nothing but its own script; texts of the recording are
-only text in it, and [U+202E] and the like stand for characters that aren't seen.</p>
+answers, else all of it. This page asks for nothing and runs nothing but its own script; texts of the recording
+are only text in it, and [U+202E] and the like stand for characters that aren't seen.</p>
 <p>Each request as a line: <code>--lines</code>. What a changed header gives:
 <code>--with 'PATTERN: HEADER: VALUE'</code>. For tools: <code>--json</code>.
 As a CDN's cache: <code>--shared</code>.</p></footer>

@@ -1,8 +1,8 @@
-//! What came of a request, by a letter that is read without colours, and its words.
+//! What became of a request, by a letter that is read without colours, and its words.
 ghost use Rattle.std.specs.Prelude.{◌≡◌};
 ghost use Rattle.http_cache_page.specs.Mark.{item_text, letter_text, named_text};
 
-/// What came of a request.
+/// What became of a request.
 #[derive(Clone, Copy, PartialEq, Eq)]
 pub enum Mark {
     /// A stored response answers, and nothing is sent.

@@ -19,7 +19,7 @@ pub enum RequestText {
     UrlAfter,
     /// The status follows.
     Status,
-    /// What came of it follows.
+    /// What became of it follows.
     Mark,
     /// The reason follows.
     Why,
@@ -46,10 +46,11 @@ pub enum RequestText {
 }
 
 const HEAD: &str = r##"<section aria-labelledby="s6"><h2 id="s6">All requests</h2>
-<p class="lead">With the reason of each, and behind it what --lines prints. No cookie and no credential is shown.</p>
+<p class="lead">With the reason of each, and after it what --lines prints. No cookie and no credential is
+shown.</p>
 <div class="tools" id="tools" role="search" hidden>
 <label>find <input id="find" type="search" autocomplete="off"></label>
-<label>what came of it <select id="mark"><option value="">all</option></select></label>
+<label>what became of it <select id="mark"><option value="">all</option></select></label>
 <label>load <select id="load"><option value="">all</option></select></label>
 <label class="narrow">sort by <select id="by"></select></label>
 <output id="count" aria-live="polite"></output></div>
@@ -57,7 +58,7 @@ const HEAD: &str = r##"<section aria-labelledby="s6"><h2 id="s6">All requests</h
 <th scope="col">Load</th>
 <th scope="col">URL</th>
 <th scope="col">Status</th>
-<th scope="col">What came of it</th>
+<th scope="col">What became of it</th>
 <th scope="col">Why</th>
 <th scope="col" class="n down">Sent</th>
 <th scope="col" class="n down">Spared</th></tr></thead>

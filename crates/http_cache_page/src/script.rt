@@ -5,7 +5,8 @@ pub const SCRIPT: &str = r##"<script>
 "use strict";
 (function () {
   var d = document, at = function (id) { return d.getElementById(id); };
-  var body = at("all").tBodies[0], heads = Array.from(at("all").tHead.rows[0].cells), rows = Array.from(body.rows);
+  var body = at("all").tBodies[0], rows = Array.from(body.rows);
+  var heads = Array.from(at("all").tHead.rows[0].cells);
   var tip = at("tip"), shown = null, touched = false;
   var find = at("find"), mark = at("mark"), load = at("load"), by = at("by");
 
@@ -65,7 +66,8 @@ pub const SCRIPT: &str = r##"<script>
       row.hidden = !isFound(row, words);
       if (!row.hidden) { count++; sent += key(row, 6); }
     });
-    at("count").textContent = count + " of " + rows.length + " requests, " + (sent / 1000).toFixed(1) + " kB sent";
+    var kilobytes = (sent / 1000).toFixed(1);
+    at("count").textContent = count + " of " + rows.length + " requests, " + kilobytes + " kB sent";
   }
   [find, mark, load].forEach(function (field) { field.addEventListener("input", filter); });
   at("tools").hidden = false;

@@ -2,15 +2,16 @@
 
 /// The style, in its element.
 pub const STYLE: &str = r##"<style>
-:root{color-scheme:light dark;--paper:#fff;--ink:#1b1b19;--soft:#5c5b56;--line:#dcdad2;--wash:#f5f4ef;
- --bad:#a8380b;--badwash:#f6d9c9;--good:#12627a;--goodwash:#cfe5ec;--need:#8d8b83;--needwash:#e6e4dc;--on:#fff}
+:root{color-scheme:light dark;--ground:#fff;--ink:#1b1b19;--soft:#5c5b56;--line:#dcdad2;--wash:#f5f4ef;
+ --bad:#a8380b;--badwash:#f6d9c9;--good:#12627a;--goodwash:#cfe5ec;--need:#8d8b83;--needwash:#e6e4dc;
+ --on:#fff}
 @media (prefers-color-scheme:dark){
-:root{--paper:#16171a;--ink:#ebe9e3;--soft:#a9a79f;--line:#3a3b3f;--wash:#202126;--bad:#ff9a66;
+:root{--ground:#16171a;--ink:#ebe9e3;--soft:#a9a79f;--line:#3a3b3f;--wash:#202126;--bad:#ff9a66;
  --badwash:#5b2f1a;--good:#6fc3dc;--goodwash:#1d4350;--need:#8a8880;--needwash:#3b3a38;--on:#16171a}
 }
 *{box-sizing:border-box}
 html{-webkit-text-size-adjust:100%}
-body{margin:0;background:var(--paper);color:var(--ink);
+body{margin:0;background:var(--ground);color:var(--ink);
  font:15px/1.45 -apple-system,"Segoe UI",Roboto,"Helvetica Neue","Liberation Sans",Arial,sans-serif;
  font-variant-numeric:tabular-nums;overflow-wrap:anywhere}
 header,main,footer{max-width:1200px;margin:0 auto;padding:0 28px}
@@ -19,7 +20,7 @@ code,pre{font:.88em/1.45 ui-monospace,SFMono-Regular,Menlo,Consolas,"Liberation 
 a{color:inherit}
 :focus-visible{outline:2px solid var(--good);outline-offset:2px}
 .skip{position:absolute;left:-99em}
-.skip:focus{left:8px;top:8px;background:var(--paper);padding:6px 10px;z-index:3}
+.skip:focus{left:8px;top:8px;background:var(--ground);padding:6px 10px;z-index:3}
 header{padding-top:26px}
 .from{margin:0;color:var(--soft)}
 .from b{color:var(--ink)}
@@ -49,7 +50,7 @@ svg{display:block;overflow:hidden;forced-color-adjust:none}
 .g{fill:var(--good)}
 .w{fill:url(#hatch)}
 .hb{fill:var(--bad)}
-.hl{stroke:var(--paper);stroke-width:1.2}
+.hl{stroke:var(--ground);stroke-width:1.2}
 .defs{position:absolute;width:0;height:0}
 table{border-collapse:collapse;width:100%}
 th,td{text-align:left;vertical-align:top;padding:8px 14px 8px 0;border-bottom:1px solid var(--line);
@@ -107,8 +108,8 @@ dl.d .be code{color:var(--good)}
 .key{list-style:none;display:flex;flex-wrap:wrap;gap:5px 20px;padding:0;margin:0 0 6px;font-size:14px}
 .key i{color:var(--soft);font-style:normal}
 .key b,.lane b,.all b{display:inline-block;min-width:18px;height:18px;line-height:15px;text-align:center;
- font-size:12px;font-weight:700;border:1.5px solid;border-radius:3px;color:var(--ink);border-color:transparent;
- vertical-align:1px}
+ font-size:12px;font-weight:700;border:1.5px solid;border-radius:3px;color:var(--ink);
+ border-color:transparent;vertical-align:1px}
 .F b{background:var(--good);color:var(--on);border-color:var(--good)}
 .V b{border-color:var(--good);color:var(--good)}
 .B b{border-color:var(--good);border-style:dotted;color:var(--good)}
@@ -123,16 +124,16 @@ dl.d .be code{color:var(--good)}
 .lane svg{width:12px;margin:0 auto 2px;background:var(--need)}
 .lane .F svg,.lane .V svg,.lane .B svg{background:var(--good)}
 .lane .N svg,.lane .S svg,.lane .Y svg{
- background:repeating-linear-gradient(135deg,var(--bad) 0 2.4px,var(--paper) 2.4px 3.4px)}
+ background:repeating-linear-gradient(135deg,var(--bad) 0 2.4px,var(--ground) 2.4px 3.4px)}
 .lane .E svg,.lane .A svg{background:var(--needwash);border:1px solid var(--need)}
 .lane a:hover b,.lane a:focus b{outline:2px solid var(--ink)}
-#tip{position:absolute;z-index:2;max-width:min(420px,92vw);background:var(--ink);color:var(--paper);
+#tip{position:absolute;z-index:2;max-width:min(420px,92vw);background:var(--ink);color:var(--ground);
  padding:9px 12px;border-radius:4px;font-size:14px}
 #tip p{margin:0}
 .tools{display:flex;flex-wrap:wrap;gap:10px 18px;align-items:end;margin:0 0 12px;padding:10px 12px;
  background:var(--wash)}
 .tools label{font-size:13px;color:var(--soft);display:flex;flex-direction:column;gap:3px}
-.tools input,.tools select{font:inherit;font-size:15px;color:var(--ink);background:var(--paper);
+.tools input,.tools select{font:inherit;font-size:15px;color:var(--ink);background:var(--ground);
  border:1px solid var(--need);border-radius:3px;padding:5px 8px;min-height:34px;max-width:100%}
 .tools input{width:17em}
 .tools select{width:15em}
@@ -226,11 +227,11 @@ td:before{color:var(--soft);font-size:13px}
 .narrow{display:none!important}
 }
 @media screen{
-.first .u code,.when .u code,.two .u code{display:-webkit-box;-webkit-box-orient:vertical;-webkit-line-clamp:6;
- overflow:hidden}
+.first .u code,.when .u code,.two .u code{display:-webkit-box;-webkit-box-orient:vertical;
+ -webkit-line-clamp:6;overflow:hidden}
 }
 @media print{
-:root{--paper:#fff;--ink:#000;--soft:#444;--line:#bbb;--wash:#f5f4ef;--bad:#a8380b;--badwash:#f6d9c9;
+:root{--ground:#fff;--ink:#000;--soft:#444;--line:#bbb;--wash:#f5f4ef;--bad:#a8380b;--badwash:#f6d9c9;
  --good:#12627a;--goodwash:#cfe5ec;--need:#777;--needwash:#ddd;--on:#fff}
 *{-webkit-print-color-adjust:exact;print-color-adjust:exact}
 @page{margin:12mm}

@@ -34,7 +34,7 @@ pub enum TimelineText {
 }
 
 const HEAD: &str = r##"<section aria-labelledby="s5" id="timeline"><h2 id="s5">Timeline</h2>
-<p class="lead">Each request in the order in which it started; a letter says what came of it. Above it the
+<p class="lead">Each request in the order in which it started; a letter says what became of it. Above it the
 bytes sent, as the square root; hatched where they could have been spared. Each leads to its row below.
 <span id="hint" hidden>Point at one, tap it or go along with the arrow keys for its reason.</span></p>
 <ul class="key" aria-label="letters">

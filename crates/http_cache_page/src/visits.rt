@@ -76,8 +76,8 @@ pub enum VisitText {
 }
 
 const HEAD: &str = r##"<section aria-labelledby="s2"><h2 id="s2">Will cost on a later visit</h2>
-<p class="lead">The first load, asked again by the same cache: what is still fresh costs nothing, a 304 its headers.
-Now: as it is; then: with the headers above changed.</p>
+<p class="lead">The first load, asked again by the same cache: what is still fresh costs nothing, a 304 its
+headers. Now: as it is; then: with the headers above changed.</p>
 <ul class="mult" aria-label="the whole page, asked again">
 "##;
 
