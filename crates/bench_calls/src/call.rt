@@ -9,7 +9,7 @@ use std::alloc::Global;
 
 /// A call on the exchange of a script.
 #[derive(Clone, Copy)]
-pub enum Call<'a> {
+pub enum TimedCall<'a> {
     NewOptions,
     TryClone,
     FreshAt(&'a request::Parts, Timestamp),
@@ -17,20 +17,20 @@ pub enum Call<'a> {
     AfterResponse(&'a request::Parts, &'a response::Parts, Timestamp),
 }
 
-impl Call<'_> {
-    /// The name of the call.
+impl TimedCall<'_> {
+    /// Returns the name of the call.
     pub fn name(&self) -> &'static str {
         match self {
-            Call::NewOptions => "new_options",
-            Call::TryClone => "try_clone",
-            Call::FreshAt(..) => "fresh_at",
-            Call::BeforeRequest(..) => "before_request",
-            Call::AfterResponse(..) => "after_response",
+            TimedCall::NewOptions => "new_options",
+            TimedCall::TryClone => "try_clone",
+            TimedCall::FreshAt(..) => "fresh_at",
+            TimedCall::BeforeRequest(..) => "before_request",
+            TimedCall::AfterResponse(..) => "after_response",
         }
     }
 }
 
-// What a call makes, of which something is added up, so that no call can be left out.
+// The weights of the results are summed, so that no call can be optimized away.
 trait Weight {
     fn weight(&self) -> u64;
 }
@@ -68,7 +68,6 @@ impl Weight for Choice {
     }
 }
 
-// Drops what a call made, and returns its weight.
 fn weight_of<T: Weight + Drop>(made: Result<T, CacheError>) -> Result<u64, CacheError> {
     Ok(made?.weight())
 }
@@ -78,27 +77,27 @@ fn once(
     alloc: Global,
     script: &Script,
     policy: &CachePolicy,
-    call: &Call<'_>,
+    call: &TimedCall<'_>,
 ) -> Result<u64, CacheError> {
     match call {
-        Call::NewOptions => weight_of(script.policy(alloc)),
-        Call::TryClone => weight_of(policy.try_clone(alloc)),
-        Call::FreshAt(request, now) => Ok(u64::from(policy.fresh_at(*request, *now))),
-        Call::BeforeRequest(request, now) => {
+        TimedCall::NewOptions => weight_of(script.policy(alloc)),
+        TimedCall::TryClone => weight_of(policy.try_clone(alloc)),
+        TimedCall::FreshAt(request, now) => Ok(u64::from(policy.fresh_at(*request, *now))),
+        TimedCall::BeforeRequest(request, now) => {
             weight_of(policy.before_request(alloc, *request, *now))
         }
-        Call::AfterResponse(request, response, now) => {
+        TimedCall::AfterResponse(request, response, now) => {
             weight_of(policy.after_response(alloc, *request, *response, *now))
         }
     }
 }
 
-/// Makes a call so many times, and sums up what its answers weigh; nothing where one is refused.
+/// Makes a call so many times, and returns the sum of the results' weights, or `None` if one fails.
 pub fn repeat(
     alloc: Global,
     script: &Script,
     policy: &CachePolicy,
-    call: &Call<'_>,
+    call: &TimedCall<'_>,
     count: u64,
 ) -> Option<u64> {
     let mut sum = 0u64;
@@ -108,7 +107,7 @@ pub fn repeat(
     Some(sum)
 }
 
-// Whether a value was added. One that wasn't is dropped.
+// A value that wasn't added is dropped.
 fn is_added<T: Drop>(added: Result<(), (T, CacheError)>) -> Result<(), CacheError> {
     match added {
         Ok(()) => Ok(()),
@@ -120,7 +119,7 @@ fn add(variants: &mut Variants, policy: Result<CachePolicy, CacheError>) -> Resu
     is_added(variants.add(policy?))
 }
 
-/// So many copies of a policy.
+/// Returns so many copies of a policy.
 pub fn copies_of(alloc: Global, policy: &CachePolicy, len: u64) -> Result<Variants, CacheError> {
     let mut variants = Variants::new(alloc);
     for _ in 0..len {
@@ -139,7 +138,7 @@ fn choice_weight(
     weight_of(variants.choose(alloc, request, now))
 }
 
-/// Chooses so many times, and sums up what the choices weigh; nothing where one is refused.
+/// Chooses so many times, and returns the sum of the choices' weights, or `None` if one fails.
 pub fn repeat_choice(
     alloc: Global,
     variants: &Variants,

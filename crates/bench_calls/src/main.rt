@@ -1,15 +1,15 @@
-//! Tells how long the library's calls take on this machine.
+//! Measures how long the library's calls take on this machine.
 //!
-//! `bench_calls COUNT < SCRIPT` makes a policy of the script's exchange and prints, for each call on it,
-//! the mean nanoseconds of so many runs, and then that of a choice among 1, 10, 100 and 1,000 copies
-//! of the policy of which none matches, in as many tests, but of no more copies than runs. Without a
-//! count it prints nothing.
+//! `bench_calls COUNT < SCRIPT` makes a policy of the script's exchange, and prints the mean
+//! nanoseconds of `COUNT` runs of each call. Then it prints the mean of a choice among 1, 10, 100
+//! and 1,000 copies of the policy, of which none matches. The choices test `COUNT` policies, and
+//! longer lists are left out. Without a count it prints nothing.
 #![tactic(auto)]
 
 mod call;
 
 use cache_script::{Script, ScriptStep, Step, script_from_bytes};
-use call::{Call, copies_of, repeat, repeat_choice};
+use call::{TimedCall, copies_of, repeat, repeat_choice};
 use http::{Method, request};
 use http_cache_semantics::{CachePolicy, Variants};
 use jiff::Timestamp;
@@ -18,7 +18,7 @@ use std::process::ExitCode;
 use std::time::Instant;
 use std::{env, io};
 
-// The status where the input is no script, or a call was refused.
+// The exit status if the input is no script, or a call fails.
 const NOTHING_TIMED: u8 = 2;
 
 fn count_of(rt: &HostRuntime) -> io::Result<u64> {
@@ -36,12 +36,11 @@ fn input(rt: &HostRuntime) -> io::Result<Vec<u8>> {
     Ok(bytes)
 }
 
-// Prints how long a call takes, where it isn't refused.
 fn tell(
     rt: &HostRuntime,
     script: &Script,
     policy: &CachePolicy,
-    call: &Call<'_>,
+    call: &TimedCall<'_>,
     count: u64,
 ) -> io::Result<bool> {
     let start = Instant::now(rt)?;
@@ -65,8 +64,8 @@ fn tell_step(
 ) -> io::Result<bool> {
     match step {
         Step::Ask { request, moment } => {
-            let verdict = Call::FreshAt(request, *moment);
-            let answer = Call::BeforeRequest(request, *moment);
+            let verdict = TimedCall::FreshAt(request, *moment);
+            let answer = TimedCall::BeforeRequest(request, *moment);
             Ok(
                 tell(rt, script, policy, &verdict, count)?
                     && tell(rt, script, policy, &answer, count)?,
@@ -77,15 +76,14 @@ fn tell_step(
             response,
             moment,
         } => {
-            let after = Call::AfterResponse(request, response, *moment);
+            let after = TimedCall::AfterResponse(request, response, *moment);
             tell(rt, script, policy, &after, count)
         }
         Step::Restart => Ok(true),
     }
 }
 
-// Prints how long a choice takes, where it isn't refused.
-fn tell_choice(
+fn print_choice(
     rt: &HostRuntime,
     variants: &Variants,
     request: &request::Parts,
@@ -111,23 +109,23 @@ fn tell_copies(
     now: Timestamp,
     count: u64,
 ) -> io::Result<bool> {
-    let mut told = true;
+    let mut reported = true;
     for len in [1u64, 10, 100, 1000] {
         if len > count {
             break;
         }
         let variants = copies_of(rt.alloc(), policy, len);
-        told = told
+        reported = reported
             && match &variants {
-                Ok(variants) => tell_choice(rt, variants, request, now, count.div_ceil(len))?,
+                Ok(variants) => print_choice(rt, variants, request, now, count.div_ceil(len))?,
                 Err(_) => false,
             };
     }
-    Ok(told)
+    Ok(reported)
 }
 
-// A request that differs from the stored one in its method alone.
-fn tell_choices(
+// The request differs from the stored one only in its method.
+fn print_choices(
     rt: &HostRuntime,
     script: &Script,
     policy: &CachePolicy,
@@ -154,12 +152,12 @@ fn tell_all(
     policy: &CachePolicy,
     count: u64,
 ) -> io::Result<bool> {
-    let mut told = tell(rt, script, policy, &Call::NewOptions, count)?
-        && tell(rt, script, policy, &Call::TryClone, count)?;
+    let mut reported = tell(rt, script, policy, &TimedCall::NewOptions, count)?
+        && tell(rt, script, policy, &TimedCall::TryClone, count)?;
     for step in script.steps.as_slice() {
-        told = told && tell_step(rt, script, policy, step, count)?;
+        reported = reported && tell_step(rt, script, policy, step, count)?;
     }
-    Ok(told && tell_choices(rt, script, policy, count)?)
+    Ok(reported && print_choices(rt, script, policy, count)?)
 }
 
 fn tell_script(rt: &HostRuntime, script: &Script, count: u64) -> io::Result<bool> {
@@ -182,7 +180,7 @@ fn main(rt: HostRuntime) -> ExitCode {
     match run(&rt) {
         Ok(true) => ExitCode::SUCCESS,
         _ => {
-            // Where the text can't be written, the status still tells.
+            // If the text can't be written, the status still reports it.
             let _ = eprintln!(rt; "timing: the input is no script, or a call was refused");
             ExitCode::from(NOTHING_TIMED)
         }

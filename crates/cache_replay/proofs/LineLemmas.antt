@@ -1,4 +1,4 @@
--- Lines that are passed over.
+-- Lines that are skipped.
 use Rattle.std.proofs.Common.{◌≡◌, ◌≢◌, ℕ, ◌-◌, ◌+◌, ◌&&◌, true, false, true≢false}
 use Rattle.std.proofs.Common.{All, List, [], ◌∷◌, length, get_or, Option, Some, None}
 use Rattle.std.proofs.Common.{lt-ltb, sym, ap, ap₂, subst, ◌∙◌, arith, take_all, eq-eqb}
@@ -8,7 +8,6 @@ use Rattle.std.specs.Io.KnownBytes.{Consumes}
 use Rattle.std.specs.Io.BufRead.{ends_with_byte, drop_through, DropsThrough}
 use Rattle.std.proofs.BufReadLemmas.{drop_through-append}
 
--- bytes that stop at a line feed, and don't end in one, have none
 none_fed : (bytes : List ℕ) → StopsAt bytes 10 → ends_with_byte 10 bytes ≡ false → All (λ b. b ≢ 10) bytes
 none_fed [] stops e = All-nil (λ b. b ≢ 10)
 none_fed (b ∷ bytes) stops e =
@@ -19,7 +18,7 @@ none_fed (b ∷ bytes) stops e =
     subst (All (λ x. x ≢ 10)) (take_all (length all - 1 + 1) all (omega arith))
     (All-more (λ x. x ≢ 10) all (length all - 1) 0 (omega arith) stops last)
 
--- what was taken without a line feed and what was skipped behind it is one line
+-- the bytes read without a line feed, and those skipped after them, are one line
 pub passed_over : (old mid new : Option (List ℕ)) (bytes : List ℕ) → Consumes old mid bytes → StopsAt bytes 10
     → ends_with_byte 10 bytes ≡ false → DropsThrough mid new 10 → DropsThrough old new 10
 passed_over None mid new bytes taken stops ends skipped = tt

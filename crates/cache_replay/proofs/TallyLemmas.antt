@@ -3,14 +3,14 @@ use Rattle.std.proofs.Common.{◌≡◌, ◌≢◌, ℕ, ◌+◌, ◌-◌, ◌^�
 use Rattle.std.proofs.Common.{Option, Some, None, IfSome, refl, sym, ap, ◌∙◌, subst, arith}
 use Rattle.std.proofs.lemmas.List.Sums.{sum_by-append}
 use Rattle.std.specs.Io.BufRead.{first_piece, drop_through, DropsThrough}
-use Rattle.http_cache_stored.proofs.ZipLemmas.{zip_push}
+use Rattle.http_cache_json.proofs.ZipLemmas.{zip_push}
 use Rattle.cache_replay.specs.declared.run.Tally.{Tally}
-use Rattle.cache_replay.specs.declared.run.Verdict.{Verdict}
-use Rattle.cache_replay.specs.declared.run.Verdict.TheVariants.{Agrees, Differs, Unreadable, Answered}
+use Rattle.cache_replay.specs.declared.run.LineVerdict.{LineVerdict}
+use Rattle.cache_replay.specs.declared.run.LineVerdict.TheVariants.{Agrees, Differs, Unreadable, Answered}
 use Rattle.cache_replay.specs.Lines.{AreFirstLines}
 use Rattle.cache_replay.specs.Verdicts.{HasVerdict, agreeing, differing, IsTallyTo}
 
--- where the bytes are known, those that were read have the tally
+-- if the bytes are known, the bytes that were read have the tally
 abbrev pub HasTally : Option (List ℕ) → Option (List ℕ) → Tally → Type 0
 HasTally None rest tally = Unit {0}
 HasTally (Some bytes) None tally = ⊥
@@ -30,14 +30,13 @@ one_more_line bytes [] rest read some =
 one_more_line bytes (line ∷ lines) rest read some =
     (read.0, read.1, one_more_line (drop_through 10 bytes) lines rest read.2 some)
 
--- no verdict counts for more than one line
-pub one_at_most : (v : Verdict) → agreeing v + differing v < 2
+pub one_at_most : (v : LineVerdict) → agreeing v + differing v < 2
 one_at_most Agrees = omega arith
 one_at_most Differs = omega arith
 one_at_most Unreadable = omega arith
 one_at_most Answered = omega arith
 
-pub next_tally : (known before after : Option (List ℕ)) (v : Verdict) (old new : Tally)
+pub next_tally : (known before after : Option (List ℕ)) (v : LineVerdict) (old new : Tally)
     → HasTally known before old
     → IfSome before (λ rest. (rest ≢ []) × HasVerdict (first_piece 10 rest) v) → DropsThrough before after 10
     → old.agree + old.differ < 2 ^ 64 - 2

@@ -1,15 +1,15 @@
-//! Recorded answers, and where another answer differs from one.
+//! Compares a text with a recorded answer.
 ghost use Rattle.std.specs.Prelude.{◌≡◌, ◌↔◌, map, option_map, Some, IsNone, IsSome, IsTrue};
 ghost use Rattle.serde_json.specs.View.{view};
 ghost use Rattle.serde_json.specs.Find.{as_str};
-ghost use Rattle.cache_replay.specs.Compare.{are_texts, recorded_of, AreLinesOf};
+ghost use Rattle.cache_replay.specs.Compare.{are_texts, recorded_answer_of, AreLinesOf};
 
-use http_cache_stored::form::has_members;
+use http_cache_json::form::has_members;
 use serde_json::Value;
 
-/// A script, and the lines that were recorded for it.
+/// A script, and its recorded lines.
 #[derive(Clone, Copy)]
-pub struct Recorded<'a> {
+pub struct RecordedAnswer<'a> {
     /// The script.
     pub script: &'a Value,
     /// The lines, each of them a text.
@@ -22,42 +22,41 @@ fn are_texts(values: &[Value]) -> bool
     values.iter().all(|value| value.is_string())
 }
 
-/// The recorded answer that a value is: an object with `script` and a list of texts `answer` alone.
-#[tactic(auto, unfolding(crate::specs::Compare::recorded_of))]
-pub fn recorded_from(value: &Value) -> Option<Recorded<'_>>
+/// Returns the recorded answer of an object with only `script` and a list of texts `answer`.
+#[tactic(auto, unfolding(crate::specs::Compare::recorded_answer_of))]
+pub fn recorded_answer_from(value: &Value) -> Option<RecordedAnswer<'_>>
     ensures { option_map (λ r. record {
       script = view r.script.now;
       lines = map view r.lines.now;
-    }) result ≡ recorded_of (view value.now) }
+    }) result ≡ recorded_answer_of (view value.now) }
 {
     let script = value.get("script")?;
     let lines = value.get("answer")?.as_array()?.as_slice();
     if has_members(value, 2) && are_texts(lines) {
-        Some(Recorded { script, lines })
+        Some(RecordedAnswer { script, lines })
     } else {
         None
     }
 }
 
-/// The first place at which two answers differ.
+/// The first index at which two answers differ.
 #[derive(Clone, Copy)]
 pub struct Difference<'a> {
-    /// How many lines are the same before it.
-    pub place: usize,
-    /// The line that is recorded there, if there is one.
+    /// The number of equal lines before it.
+    pub position: usize,
+    /// The recorded line at the index, if there is one.
     pub wanted: Option<&'a str>,
-    /// The line that the other answer has there, if there is one.
+    /// The other answer's line at the index, if there is one.
     pub got: Option<&'a str>,
 }
 
-// The difference in front of the recorded lines that are left.
 fn difference_at<'a>(
     recorded: &'a [Value],
     rest: &'a [Value],
     got: Option<&'a str>,
 ) -> Difference<'a> {
     Difference {
-        place: recorded.len().saturating_sub(rest.len()),
+        position: recorded.len().saturating_sub(rest.len()),
         wanted: match rest.first() {
             Some(value) => value.as_str(),
             None => None,
@@ -75,8 +74,8 @@ fn is_text(value: &Value, text: &str) -> bool
     }
 }
 
-/// The first place at which a text differs from recorded lines. There is none exactly where they
-/// are its lines.
+/// Returns the first index at which a text differs from recorded lines, or None if they are its
+/// lines.
 pub fn first_difference<'a>(recorded: &'a [Value], text: &'a str) -> Option<Difference<'a>>
     ensures same { IsNone result → AreLinesOf (map view recorded.now) text.now }
     ensures other { IsSome result → AreLinesOf (map view recorded.now) text.now → ⊥ }

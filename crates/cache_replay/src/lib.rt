@@ -1,5 +1,5 @@
-//! Replays scripts by the library's public calls, tells their full answers as text, and compares
-//! recorded answers.
+//! Replays scripts by the library's public calls, writes their full answers, and compares recorded
+//! ones.
 #![tactic(auto)]
 
 mod compare;

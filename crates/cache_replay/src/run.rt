@@ -6,7 +6,7 @@ ghost use Rattle.serde_json.specs.View.{view};
 ghost use Rattle.cache_replay.specs.Verdicts.{IsComparison, IsVerdictOn, IsLineVerdict, HasVerdict, agreeing};
 ghost use Rattle.cache_replay.specs.Verdicts.{differing, IsTallyOf};
 
-use crate::compare::{Difference, Recorded, first_difference, recorded_from};
+use crate::compare::{Difference, RecordedAnswer, first_difference, recorded_answer_from};
 use crate::full_answer::{End, write_full_answer};
 use crate::reader::{Line, LineReader};
 use cache_script::{script_from_bytes, script_from_value};
@@ -15,25 +15,25 @@ use std::alloc::Global;
 use std::io;
 use std::io::{BufRead, ErrorKind, Write};
 
-/// How many lines had the recorded answer, and how many hadn't or couldn't be read.
+/// The numbers of lines that have the recorded answer, and that differ or couldn't be read.
 #[derive(Clone, Copy, Debug, Default, PartialEq, Eq)]
 pub struct Tally {
-    /// Lines that had it.
+    /// The number of lines that have the recorded answer.
     pub agree: u64,
-    /// Lines that hadn't.
+    /// The number of lines that differ or couldn't be read.
     pub differ: u64,
 }
 
 impl Tally {
-    /// The exit status: 1 where a line differs.
-    pub fn status(&self) -> u8
+    /// Returns the exit status, 1 if a line differs.
+    pub fn exit_status(&self) -> u8
         ensures none { self.now.differ ≡ 0 → result ≡ 0 }
         ensures some { 0 < self.now.differ → result ≡ 1 }
     {
         if self.differ == 0 { 0 } else { 1 }
     }
 
-    fn add(&mut self, verdict: Verdict)
+    fn add(&mut self, verdict: LineVerdict)
         ensures agree { self.new.agree ≡ min (self.old.agree + agreeing verdict) (2 ^ 64 - 1) }
         ensures differ { self.new.differ ≡ min (self.old.differ + differing verdict) (2 ^ 64 - 1) }
     {
@@ -43,22 +43,20 @@ impl Tally {
 }
 
 #[derive(Clone, Copy)]
-enum Verdict {
+enum LineVerdict {
     Agrees,
     Differs,
-    // It has an answer that isn't a recorded one, or couldn't be read.
     Unreadable,
-    // There was nothing to compare.
     Answered,
 }
 
-impl Verdict {
+impl LineVerdict {
     fn agreeing(self) -> u64
         ensures { result ≡ agreeing self }
     {
         match self {
-            Verdict::Agrees => 1,
-            Verdict::Differs | Verdict::Unreadable | Verdict::Answered => 0,
+            LineVerdict::Agrees => 1,
+            LineVerdict::Differs | LineVerdict::Unreadable | LineVerdict::Answered => 0,
         }
     }
 
@@ -66,8 +64,8 @@ impl Verdict {
         ensures { result ≡ differing self }
     {
         match self {
-            Verdict::Differs | Verdict::Unreadable => 1,
-            Verdict::Agrees | Verdict::Answered => 0,
+            LineVerdict::Differs | LineVerdict::Unreadable => 1,
+            LineVerdict::Agrees | LineVerdict::Answered => 0,
         }
     }
 }
@@ -77,10 +75,10 @@ fn write_difference<W: Write>(
     number: u64,
     difference: &Difference<'_>,
 ) -> io::Result<()> {
-    let place = difference.place.saturating_add(1);
+    let position = difference.position.saturating_add(1);
     writeln!(
         writer,
-        "line {number} differs at line {place} of its answer"
+        "line {number} differs at line {position} of its answer"
     )?;
     match difference.wanted {
         Some(line) => writeln!(writer, "  wanted: {line}")?,
@@ -92,14 +90,14 @@ fn write_difference<W: Write>(
     }
 }
 
-// Replays a script and compares its full answer. How it ended is a line of it where it was refused.
+// A script that ended with an error has that as its last line.
 fn compare<W: Write>(
     alloc: Global,
     writer: &mut W,
     number: u64,
-    recorded: Recorded<'_>,
+    recorded: RecordedAnswer<'_>,
     text: &mut String,
-) -> io::Result<Verdict>
+) -> io::Result<LineVerdict>
     ensures { IfOk result
         (IsComparison (map view recorded.entry.lines.now) (string_bytes text.new)) }
 {
@@ -108,27 +106,26 @@ fn compare<W: Write>(
         add_end(text, end)?;
     }
     match first_difference(recorded.lines, text.as_str()) {
-        None => Ok(Verdict::Agrees),
+        None => Ok(LineVerdict::Agrees),
         Some(difference) => {
             write_difference(writer, number, &difference)?;
-            Ok(Verdict::Differs)
+            Ok(LineVerdict::Differs)
         }
     }
 }
 
-// Replays a script and writes its full answer and how it ended.
 fn answer<W: Write>(
     alloc: Global,
     writer: &mut W,
     line: &[u8],
     text: &mut String,
-) -> io::Result<Verdict>
-    ensures { IfOk result (λ verdict. verdict ≡ Verdict.Answered) }
+) -> io::Result<LineVerdict>
+    ensures { IfOk result (λ verdict. verdict ≡ LineVerdict.Answered) }
 {
     let end = write_full_answer(alloc, text, script_from_bytes(alloc, line));
     add_end(text, end)?;
     writer.write_all(text.as_bytes())?;
-    Ok(Verdict::Answered)
+    Ok(LineVerdict::Answered)
 }
 
 fn add_end(text: &mut String, end: End) -> io::Result<()> {
@@ -137,11 +134,11 @@ fn add_end(text: &mut String, end: End) -> io::Result<()> {
     Ok(())
 }
 
-fn refuse<W: Write>(writer: &mut W, number: u64, why: &str) -> io::Result<Verdict>
-    ensures { IfOk result (λ verdict. verdict ≡ Verdict.Unreadable) }
+fn refuse<W: Write>(writer: &mut W, number: u64, why: &str) -> io::Result<LineVerdict>
+    ensures { IfOk result (λ verdict. verdict ≡ LineVerdict.Unreadable) }
 {
     writeln!(writer, "line {number} {why}")?;
-    Ok(Verdict::Unreadable)
+    Ok(LineVerdict::Unreadable)
 }
 
 fn judge<W: Write>(
@@ -151,13 +148,13 @@ fn judge<W: Write>(
     line: &[u8],
     value: &Value,
     text: &mut String,
-) -> io::Result<Verdict>
+) -> io::Result<LineVerdict>
     ensures { IfOk result (IsVerdictOn (view value.now) (string_bytes text.new)) }
 {
     if value.get("answer").is_none() {
         return answer(alloc, writer, line, text);
     }
-    match recorded_from(value) {
+    match recorded_answer_from(value) {
         Some(recorded) => compare(alloc, writer, number, recorded, text),
         None => refuse(writer, number, "has no recorded answer"),
     }
@@ -169,7 +166,7 @@ fn replay_line<W: Write>(
     number: u64,
     line: &[u8],
     text: &mut String,
-) -> io::Result<Verdict>
+) -> io::Result<LineVerdict>
     ensures { IfOk result (IsLineVerdict line.now (string_bytes text.new)) }
 {
     text.clear();
@@ -185,7 +182,6 @@ fn replay_line<W: Write>(
     }
 }
 
-// The verdict on the next line, if there is one.
 fn next_verdict<R: BufRead, W: Write>(
     alloc: Global,
     lines: &mut LineReader<R>,
@@ -193,7 +189,7 @@ fn next_verdict<R: BufRead, W: Write>(
     number: u64,
     line: &mut Vec<u8>,
     text: &mut String,
-) -> io::Result<Option<Verdict>>
+) -> io::Result<Option<LineVerdict>>
     ensures some { IfOk result (λ verdict. IfSome verdict (λ v.
         IfSome (R.remaining lines.old.inner) (λ rest.
         (rest ≢ []) × HasVerdict (first_piece 10 rest) v))) }

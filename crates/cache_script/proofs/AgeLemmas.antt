@@ -16,16 +16,14 @@ use Rattle.http_cache_policy.proofs.FreshLemmas.{one_age_and_date}
 use Rattle.http_cache_fields.proofs.NumberLemmas.{text_of-decimal}
 use Rattle.cache_script.specs.Lines.{HasAge}
 
--- an age has no more seconds than the greatest duration
 seconds_fit : (e : Exchange) (now : ℤ) → age_at e now / 1_000_000_000 < 2 ^ 64
 unfolding age_at
 seconds_fit e now = omega arith
 
--- the one value of the age is its text
 first_age : (e : Exchange) (now : ℤ) (h : Headers) → HasOneAgeAndDate e now h
     → first_text h (codes "age") ≡ Some (age_text e now)
-first_age e now h told =
-    ap (λ vs. option_and_then text_of (slice_get vs 0)) told.age
+first_age e now h one =
+    ap (λ vs. option_and_then text_of (slice_get vs 0)) one.age
     ∙ text_of-decimal (age_at e now / 1_000_000_000) (seconds_fit e now)
 
 step-has_age : (e : Exchange) (step : StepSeen) (o : Outcome) (f : Exchange)

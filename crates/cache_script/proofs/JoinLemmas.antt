@@ -8,23 +8,22 @@ use Rattle.http_cache_policy.specs.Exchange.{Exchange}
 use Rattle.http_cache_policy.specs.Steps.{StepSeen, OutcomeSeen, outcome_seen}
 use Rattle.http_cache_policy.specs.Run.{IsRun}
 use Rattle.http_cache_policy.specs.declared.steps.Outcome.{Outcome}
-use Rattle.http_cache_stored.proofs.ZipLemmas.{zip_push, up_to_next}
+use Rattle.http_cache_json.proofs.ZipLemmas.{zip_push, up_to_next}
 use Rattle.cache_script.specs.Script.{ScriptSeen, start_of}
-use Rattle.cache_script.specs.Lines.{first_line, IsLine, HasAge, HasLineBehind, AreLinesBehind}
+use Rattle.cache_script.specs.Lines.{first_line, IsLine, HasAge, HasLineAfter, AreLinesAfter}
 use Rattle.cache_script.specs.Output.{IsOutput}
 
--- the outcome at a place has an age, where each does
-pub age_at_place : (os : List Outcome) (i : ℕ) (o : Outcome) → i < length os → o ≡ get_or os i o
+pub age_at_index : (os : List Outcome) (i : ℕ) (o : Outcome) → i < length os → o ≡ get_or os i o
     → AllByRecursion HasAge (map outcome_seen os) → HasAge (outcome_seen o)
-age_at_place [] i o h e all = absurd (omega arith)
-age_at_place (p ∷ os) zero o h e all = subst (λ (q : Outcome). HasAge (outcome_seen q)) (sym e) all.0
-age_at_place (p ∷ os) (suc i) o h e all = age_at_place os i o (omega arith) e all.1
+age_at_index [] i o h e all = absurd (omega arith)
+age_at_index (p ∷ os) zero o h e all = subst (λ (q : Outcome). HasAge (outcome_seen q)) (sym e) all.0
+age_at_index (p ∷ os) (suc i) o h e all = age_at_index os i o (omega arith) e all.1
 
--- the line of the next outcome goes behind those before it
+-- the next outcome's line is added after those before it
 pub one_more : (os : List Outcome) (i : ℕ) (o : Outcome) (before text after : List ℕ) → i < length os
-    → o ≡ get_or os i o → AreLinesBehind (map outcome_seen (take i os)) before text
-    → HasLineBehind (outcome_seen o) text after
-    → AreLinesBehind (map outcome_seen (take (i + 1) os)) before after
+    → o ≡ get_or os i o → AreLinesAfter (map outcome_seen (take i os)) before text
+    → HasLineAfter (outcome_seen o) text after
+    → AreLinesAfter (map outcome_seen (take (i + 1) os)) before after
 one_more os i o before text after lt is so_far one =
     let lines = so_far.lines.lines in
     record {
@@ -47,18 +46,10 @@ one_more os i o before text after lt is so_far one =
           ∙ append_assoc before so_far.rest one.line;
     }
 
--- before the first outcome nothing stands behind the text
-pub none_behind : (before : List ℕ) → AreLinesBehind [] before before
-none_behind before = record {
-  rest = [];
-  lines = record { lines = []; each = tt; joined = refl };
-  behind = sym (append-nil before);
-}
-
--- the lines of a run of a script's steps behind the first line are its output
+-- the first line, and the lines of a run, are the script's output
 pub output_of : (s : ScriptSeen) (e : Exchange) (steps : List StepSeen) (os : List Outcome) (last : Exchange)
     (text : List ℕ) → e ≡ start_of s → steps ≡ s.steps → IsRun e steps os last
-    → AreLinesBehind (map outcome_seen os) (first_line e s.received) text → IsOutput s text
+    → AreLinesAfter (map outcome_seen os) (first_line e s.received) text → IsOutput s text
 output_of s e steps os last text from same run behind = record {
   rest = behind.rest;
   lines = record {

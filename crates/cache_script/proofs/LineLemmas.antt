@@ -5,7 +5,6 @@ use Rattle.std.proofs.lemmas.List.{append-nil}
 use Rattle.std.specs.Fmt.{format_spec, styled_decimal, padded_integral, char_count}
 use Rattle.cache_script.specs.Lines.{truth, nine_digits, storable_line, updated_line}
 
--- a number of a width of nine, with zeros in front
 pub nine : (n : ℕ) → styled_decimal (format_spec 32 0 4 9 18446744073709551615) n ≡ nine_digits n
 unfolding padded_integral char_count
 nine n =
@@ -15,7 +14,6 @@ nine n =
 regroup : (a b d e f g k : List ℕ) → a ++ (b ++ (d ++ (e ++ (f ++ (g ++ k))))) ≡ a ++ b ++ d ++ (e ++ f ++ g) ++ k
 regroup a b d e f g k = simp append_assoc refl
 
--- the pieces of a line are the line
 pub line_of_pieces : (storable : Bool) (seconds nanos left : ℕ)
     → seconds ≡ left / 1_000_000_000 → nanos ≡ left % 1_000_000_000
     → codes "storable "
@@ -35,13 +33,12 @@ line_of_pieces storable seconds nanos left e f =
     ∙ regroup (codes "storable ") (truth storable) (codes " ttl ") (decimal (left / 1_000_000_000))
     (codes ".") (nine_digits (left % 1_000_000_000)) (codes "\n")
 
--- the pieces of the line of an answer to a response are the line
-pub not_modified_line : (not_modified : Bool) (told status : ℕ) → not_modified ≡ true → told ≡ status
-    → codes "not-modified status " ++ (decimal told ++ codes "\n") ≡ updated_line not_modified status
+pub not_modified_line : (not_modified : Bool) (printed status : ℕ) → not_modified ≡ true → printed ≡ status
+    → codes "not-modified status " ++ (decimal printed ++ codes "\n") ≡ updated_line not_modified status
 unfolding updated_line
-not_modified_line not_modified told status e f = rw (e, f) refl
+not_modified_line not_modified printed status e f = rw (e, f) refl
 
-pub modified_line : (not_modified : Bool) (told status : ℕ) → not_modified ≡ false → told ≡ status
-    → codes "modified status " ++ (decimal told ++ codes "\n") ≡ updated_line not_modified status
+pub modified_line : (not_modified : Bool) (printed status : ℕ) → not_modified ≡ false → printed ≡ status
+    → codes "modified status " ++ (decimal printed ++ codes "\n") ≡ updated_line not_modified status
 unfolding updated_line
-modified_line not_modified told status e f = rw (e, f) refl
+modified_line not_modified printed status e f = rw (e, f) refl

@@ -1,11 +1,11 @@
--- A script has one output at most.
+-- A script has at most one output.
 use Rattle.std.proofs.Common.{◌≡◌, ℕ, ◌++◌, List, Option, Some, None, IsSomeAnd, map, sym, ap, ◌∙◌, subst}
 use Rattle.std.specs.List.{concat}
 use Rattle.http_cache_policy.specs.Headers.{first_text}
 use Rattle.http_cache_policy.specs.Exchange.{Exchange}
 use Rattle.http_cache_policy.specs.Steps.{StepSeen, OutcomeSeen, uses, sends, renews, replaces, restarted, outcome_seen}
 use Rattle.http_cache_policy.proofs.RunLemmas.{run-unique}
-use Rattle.http_cache_stored.proofs.ZipLemmas.{zip_same}
+use Rattle.http_cache_json.proofs.ZipLemmas.{zip_same}
 use Rattle.cache_script.specs.Script.{ScriptSeen, start_of}
 use Rattle.cache_script.specs.Lines.{first_line, age_line}
 use Rattle.cache_script.specs.Lines.{IsLine, AreLines}

@@ -1,4 +1,4 @@
--- A value, and so a text, is one script at most.
+-- A value, and hence a text, is at most one script.
 use Rattle.std.proofs.Common.{◌≡◌, ℕ, ℤ, List, Option, Some, None, IsSomeAnd, codes, inl, inr, refl}
 use Rattle.std.proofs.Common.{sym, ap, ◌∙◌, subst}
 use Rattle.std.proofs.lemmas.Bool.{cases_Bool}
@@ -6,9 +6,9 @@ use Rattle.serde_json.specs.Data.{Data}
 use Rattle.serde_json.specs.Read.{read as read_text}
 use Rattle.http_uri.specs.Uri.{uri_eq}
 use Rattle.http_cache_policy.specs.Headers.{Headers}
-use Rattle.http_cache_stored.proofs.TargetLemmas.{Spells-one_target}
-use Rattle.http_cache_stored.specs.Form.{has_members}
-use Rattle.http_cache_stored.specs.Pairs.{Pair, HoldsPairs}
+use Rattle.http_cache_json.proofs.TargetLemmas.{Spells-one_target}
+use Rattle.http_cache_json.specs.Form.{has_members}
+use Rattle.http_cache_json.specs.Pairs.{Pair, HoldsPairs}
 use Rattle.cache_script.specs.Pairs.{IsPair, IsHeaderList}
 use Rattle.http_cache_policy.specs.Messages.{RequestSeen, ResponseSeen}
 use Rattle.cache_script.specs.Messages.{RequestForm, ResponseForm, request_form, response_form}
@@ -16,13 +16,12 @@ use Rattle.cache_script.specs.Messages.{IsRequestOf, IsResponseOf, IsRequest, Is
 use Rattle.http_cache_policy.specs.Steps.{StepSeen, asks, receives, restarts}
 use Rattle.cache_script.specs.Steps.{ask_form, receive_form, AskForm, ReceiveForm, IsAskOf, IsReceiveOf, IsStep}
 use Rattle.cache_script.specs.Script.{ScriptSeen, ScriptForm, script_form, IsScriptOf, IsScriptData, IsScript}
-use Rattle.http_cache_stored.proofs.SomeLemmas.{some_same}
-use Rattle.http_cache_stored.proofs.ZipLemmas.{IsListOf-unique}
-use Rattle.http_cache_stored.proofs.HeldLemmas.{HoldsPairs-unique}
+use Rattle.http_cache_json.proofs.SomeLemmas.{some_same}
+use Rattle.http_cache_json.proofs.ZipLemmas.{IsListOf-unique}
+use Rattle.http_cache_json.proofs.HeldLemmas.{HoldsPairs-unique}
 use Rattle.cache_script.proofs.PairLemmas.{IsPair-unique}
 use Rattle.cache_script.proofs.StepLemmas.{text_asks_not, text_receives_not, two_receive_not, other_asks_not}
 
--- there is no value where there is none
 none_holds : {A : Type 0} (o : Option A) (P : A → Type 0) → o ≡ None → IsSomeAnd o P → ⊥
 none_holds None P e h = h
 none_holds (Some x) P e h = cc
@@ -59,7 +58,6 @@ IsResponseOf-unique form r s h k =
 pub IsResponse-unique : (d : Data) (r s : ResponseSeen) → IsResponse d r → IsResponse d s → r ≡ s
 IsResponse-unique d r s h k = some_same IsResponseOf IsResponseOf-unique (response_form d) r s h k
 
--- what asks doesn't receive
 asks_receives : (d : Data) (r q : RequestSeen) (a : ResponseSeen) (m n : ℤ)
     → IsStep d (asks r m) → IsStep d (receives q a n) → ⊥
 asks_receives d r q a m n h k =
@@ -68,7 +66,6 @@ asks_receives d r q a m n h k =
       | inr other ↦ none_holds (ask_form d) (λ form. IsAskOf form r m) (other_asks_not d other) h
     ]
 
--- what asks is no restart, and neither is what receives
 asks_restarts : (d : Data) (r : RequestSeen) (m : ℤ) → IsStep d (asks r m) → IsStep d restarts → ⊥
 asks_restarts d r m h k =
     none_holds (ask_form d) (λ form. IsAskOf form r m) (text_asks_not d (codes "restart") (sym k)) h
@@ -126,6 +123,5 @@ IsScriptOf-unique form s t h k =
 pub IsScriptData-unique : (d : Data) (s t : ScriptSeen) → IsScriptData d s → IsScriptData d t → s ≡ t
 IsScriptData-unique d s t h k = some_same IsScriptOf IsScriptOf-unique (script_form d) s t h k
 
--- the bytes are one script at most
 pub IsScript-unique : (bytes : List ℕ) (s t : ScriptSeen) → IsScript bytes s → IsScript bytes t → s ≡ t
 IsScript-unique bytes s t h k = some_same IsScriptData IsScriptData-unique (read_text bytes) s t h.of k.of

@@ -1,4 +1,4 @@
--- All that is written for a script, and when nothing is.
+-- The output of a script, and when there is none.
 use Rattle.std.specs.Prelude.{◌≡◌, ◌<◌, ℕ, List, Option, ◌++◌, length, map, take}
 use Rattle.std.specs.Io.KnownBytes.{Appends}
 use Rattle.http_cache_policy.specs.Exchange.{Exchange}
@@ -10,39 +10,35 @@ use Rattle.cache_script.specs.Script.{ScriptSeen, start_of, IsScript}
 use Rattle.cache_script.specs.Lines.{first_line}
 use Rattle.cache_script.specs.Lines.{AreLines}
 
--- the lines of the outcomes that the steps have
 pub record AreStepLines (e : Exchange) (steps : List StepSeen) (text : List ℕ) : Type 0 where
   pub outcomes : List Outcome
   pub last : Exchange
   pub run : IsRun e steps outcomes last
   pub lines : AreLines (map outcome_seen outcomes) text
 
--- the first line, and the lines of the steps behind it
+-- the first line, and then the lines of the steps
 pub record IsOutput (s : ScriptSeen) (text : List ℕ) : Type 0 where
   pub rest : List ℕ
   pub lines : AreStepLines (start_of s) s.steps rest
   pub whole : text ≡ first_line (start_of s) s.received ++ rest
 
--- the text is the output, and no other text is
 pub record IsOnlyOutput (s : ScriptSeen) (text : List ℕ) : Type 0 where
   pub output : IsOutput s text
   pub alone : (other : List ℕ) → IsOutput s other → other ≡ text
 
--- the bytes are a script, and what is told holds of each script that they are
-pub record IsScriptThat (Told : ScriptSeen → Type 0) (bytes : List ℕ) : Type 0 where
+-- the bytes are a script, and P holds of each script that they are
+pub record IsScriptThat (P : ScriptSeen → Type 0) (bytes : List ℕ) : Type 0 where
   pub script : ScriptSeen
   pub is_script : IsScript bytes script
-  pub told : (s : ScriptSeen) → IsScript bytes s → Told s
+  pub holds : (s : ScriptSeen) → IsScript bytes s → P s
 
--- bytes that are a script, whose only output the text is
 abbrev pub IsAnswered : List ℕ → List ℕ → Type 0
 IsAnswered bytes text = IsScriptThat (λ s. IsOnlyOutput s text) bytes
 
--- bytes that are a script, whose steps stop for the cause
 abbrev pub IsRefusedScript : (Exchange → StepSeen → Type 0) → List ℕ → Type 0
 IsRefusedScript Cause = IsScriptThat (λ s. StopsFor Cause (start_of s) s.steps)
 
--- of what a writer held before and holds after: a beginning of the text went out, and not all of it
+-- between before and after, a beginning of the text was written, but not all of it
 pub record IsBegun (before after : Option (List ℕ)) (text : List ℕ) : Type 0 where
   pub count : ℕ
   pub short : count < length text

@@ -1,4 +1,4 @@
-//! What is written for a script.
+//! Answers a script with its output.
 ghost use Rattle.std.specs.Prelude.{◌≡◌, ◌≢◌, Err, map, IfOk, IsErrOf, string_bytes};
 ghost use Rattle.http_cache_policy.specs.RunStops.{RefusesStep, HasUndatedStep, LosesTarget, StopsFor};
 ghost use Rattle.cache_script.specs.Steps.{script_step_seen};
@@ -41,7 +41,7 @@ fn output(alloc: Global, script: &Script) -> Result<String, CacheError>
     text_of(alloc, &policy, script)
 }
 
-/// All that is written for the script that the bytes are.
+/// Returns the output of the script in the bytes.
 pub fn answer(alloc: Global, bytes: &[u8]) -> Result<String, ScriptError>
     ensures found { IfOk result (λ text. IsAnswered bytes.now (string_bytes text)) }
     ensures none { IsErrOf result ScriptError.NotReadable → IsNoScript bytes.now }

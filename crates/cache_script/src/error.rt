@@ -1,14 +1,14 @@
-//! Why a script was not answered.
+//! Why a script wasn't answered.
 use http_cache_fields::CacheError;
 use thiserror::Error;
 
-/// Why a script was not answered.
+/// Why a script wasn't answered.
 #[derive(Debug, Drop, Error)]
 pub enum ScriptError {
-    /// The reader failed, or what it gave is no script.
+    /// The reader failed, or its bytes are no script.
     #[error("script: not readable")]
     NotReadable,
-    /// The cache was refused something.
+    /// A call of the cache failed.
     #[error("{0}")]
     Cache(CacheError),
     /// The writer failed.
@@ -18,11 +18,11 @@ pub enum ScriptError {
 
 impl ScriptError {
     ghost use Rattle.std.specs.Prelude.{◌≡◌};
-    ghost use Rattle.cache_script.specs.Status.{status_of};
+    ghost use Rattle.cache_script.specs.Status.{exit_status_of};
 
-    /// The exit status.
-    pub fn status(&self) -> u8
-        ensures { result ≡ status_of self.now }
+    /// Returns the exit status of a program that ends with the error.
+    pub fn exit_status(&self) -> u8
+        ensures { result ≡ exit_status_of self.now }
     {
         match self {
             ScriptError::NotReadable => 2,

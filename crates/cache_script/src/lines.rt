@@ -1,11 +1,11 @@
-//! The lines of a script's output, each with its line feed, written behind a text.
+//! Writes the lines of a script's output, each with its line feed.
 ghost use Rattle.std.specs.Prelude.{◌≡◌, Some, IsSome, IfOk, OnOk, ◌++◌, codes, map, string_bytes};
 ghost use Rattle.std.specs.Duration.{as_nanos};
 ghost use Rattle.std.specs.List.{AllByRecursion};
 ghost use Rattle.http_cache_policy.specs.Headers.{headers_of, first_text};
 ghost use Rattle.http_cache_policy.specs.Steps.{answer_seen, outcome_seen};
 ghost use Rattle.cache_script.specs.Lines.{storable_line, age_line, stale_line, updated_line, restarted_line};
-ghost use Rattle.cache_script.specs.Lines.{first_line, HasLineBehind, AreLinesBehind, HasAge};
+ghost use Rattle.cache_script.specs.Lines.{first_line, HasLineAfter, AreLinesAfter, HasAge};
 
 use http::{StatusCode, response};
 use http_cache_fields::directives::GetHeaderStr;
@@ -17,7 +17,7 @@ use std::alloc::{AllocError, Global};
 use std::fmt::Write;
 use std::time::Duration;
 
-/// Writes whether a response may be stored, and how much of its lifetime is left.
+/// Writes whether a response may be stored, and its remaining lifetime.
 pub fn push_storable_line(
     text: &mut String,
     storable: bool,
@@ -31,7 +31,7 @@ pub fn push_storable_line(
     writeln!(text, "storable {storable} ttl {seconds}.{nanos:09}")
 }
 
-/// Writes the line of a fresh answer, by the text of its age.
+/// Writes the line of a fresh answer, with the text of its age.
 #[tactic(auto, unfolding(crate::specs::Lines::age_line))]
 pub fn push_age_line(text: &mut String, age: &str) -> Result<(), AllocError>
     ensures { OnOk result
@@ -40,7 +40,7 @@ pub fn push_age_line(text: &mut String, age: &str) -> Result<(), AllocError>
     writeln!(text, "fresh age {age}")
 }
 
-/// Writes the line of a stale answer, by whether the stored response matches.
+/// Writes the line of a stale answer, with whether the stored response matches.
 #[tactic(auto, unfolding(crate::specs::Lines::stale_line))]
 pub fn push_stale_line(text: &mut String, matches: bool) -> Result<(), AllocError>
     ensures { OnOk result
@@ -49,7 +49,7 @@ pub fn push_stale_line(text: &mut String, matches: bool) -> Result<(), AllocErro
     writeln!(text, "stale matches {matches}")
 }
 
-/// Writes the line of an answer to a response, by whether the stored body still holds, and its
+/// Writes the line of an answer to a response: whether the stored body is still valid, and the
 /// status.
 #[tactic(auto, unfolding(crate::specs::Lines::updated_line))]
 pub fn push_updated_line(
@@ -75,7 +75,7 @@ pub fn push_restarted_line(text: &mut String) -> Result<(), AllocError>
     text.push_str("restarted\n")
 }
 
-/// Writes the line of a policy at a moment.
+/// Writes the line of a policy at a time.
 pub fn push_first_line(
     text: &mut String,
     policy: &CachePolicy,
@@ -87,7 +87,6 @@ pub fn push_first_line(
     push_storable_line(text, policy.is_storable(), policy.time_to_live(now))
 }
 
-// The text of the header `age`.
 fn age_of(parts: &response::Parts) -> &str
     requires { IsSome (first_text (headers_of parts.now.headers) (codes "age")) }
     ensures { first_text (headers_of parts.now.headers) (codes "age") ≡ Some result.now }
@@ -101,7 +100,7 @@ fn age_of(parts: &response::Parts) -> &str
 fn push_line_of_answer(text: &mut String, answer: &BeforeRequest) -> Result<(), AllocError>
     requires { HasAge (answer_seen answer.now) }
     ensures { OnOk result
-        (HasLineBehind (answer_seen answer.now) (string_bytes text.old) (string_bytes text.new)) }
+        (HasLineAfter (answer_seen answer.now) (string_bytes text.old) (string_bytes text.new)) }
 {
     match answer {
         BeforeRequest::Fresh(parts) => push_age_line(text, age_of(parts)),
@@ -111,7 +110,7 @@ fn push_line_of_answer(text: &mut String, answer: &BeforeRequest) -> Result<(), 
 
 fn push_line_of_outcome(text: &mut String, outcome: &Outcome) -> Result<(), AllocError>
     requires { HasAge (outcome_seen outcome.now) }
-    ensures { OnOk result (HasLineBehind
+    ensures { OnOk result (HasLineAfter
         (outcome_seen outcome.now) (string_bytes text.old) (string_bytes text.new)) }
 {
     match outcome {
@@ -122,7 +121,7 @@ fn push_line_of_outcome(text: &mut String, outcome: &Outcome) -> Result<(), Allo
     }
 }
 
-/// The line of a policy at a moment, and behind it those of outcomes, one after the other.
+/// Returns the line of a policy at a time, and then those of outcomes in order.
 pub(crate) fn lines_of(
     alloc: Global,
     policy: &CachePolicy,
@@ -130,7 +129,7 @@ pub(crate) fn lines_of(
     outcomes: &[Outcome],
 ) -> Result<String, AllocError>
     requires { AllByRecursion HasAge (map outcome_seen outcomes.now) }
-    ensures { IfOk result (λ text. AreLinesBehind (map outcome_seen outcomes.now)
+    ensures { IfOk result (λ text. AreLinesAfter (map outcome_seen outcomes.now)
         (first_line policy.now now.nanosecond) (string_bytes text)) }
 {
     let mut text = String::new(alloc);

@@ -1,4 +1,4 @@
-//! From bytes to bytes.
+//! Reads a script, and writes its output.
 ghost use Rattle.std.specs.Prelude.{◌≡◌, ◌≢◌, ◌≤◌, ◌<◌, ◌++◌, List, ℕ, Some, length, true, false, IfOk, OnOk, OnErr};
 ghost use Rattle.std.specs.Prelude.{IfSome, IsErrOf};
 ghost use Rattle.std.specs.Io.KnownBytes.{Appends};
@@ -13,7 +13,7 @@ use crate::read::LONGEST;
 use http_cache_fields::CacheError;
 use std::alloc::{AllocError, Global};
 
-// A script may come byte by byte, and then its end.
+// A read may return a single byte, and the last one returns none.
 const MOST_READS: usize = LONGEST + 1;
 
 const PIECE: usize = 4096;
@@ -31,7 +31,7 @@ fn append(all: &mut Vec<u8>, piece: &[u8]) -> Result<(), AllocError>
     all.extend_from_slice(piece)
 }
 
-/// All that the reader has left, where that isn't more than a script may have.
+/// Returns the rest of the reader, if a script may be so long.
 fn read_all<R: Source>(alloc: Global, reader: &mut R) -> Result<Vec<u8>, Fault>
     ensures short { IfOk result (λ all. length all.items ≤ longest_script) }
     ensures all { IfOk result (λ all.
@@ -60,7 +60,8 @@ fn read_all<R: Source>(alloc: Global, reader: &mut R) -> Result<Vec<u8>, Fault>
     Err(Fault::TooLong)
 }
 
-/// Whether all of the bytes went out. A write that is interrupted or takes no byte has failed.
+/// Returns whether all of the bytes were written. A write that is interrupted or takes no byte has
+/// failed.
 fn write_out<W: Sink>(writer: &mut W, bytes: &[u8]) -> bool
     ensures ok { result ≡ true → Appends (W.contents writer.old) (W.contents writer.new) bytes.now }
     ensures begun { result ≡ false
@@ -78,7 +79,7 @@ fn write_out<W: Sink>(writer: &mut W, bytes: &[u8]) -> bool
     true
 }
 
-/// Reads a script to its end, and writes what it asks for and nothing else.
+/// Reads a script to its end, and writes only its output.
 pub fn run<R: Source, W: Sink>(
     alloc: Global,
     reader: &mut R,

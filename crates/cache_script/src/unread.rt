@@ -1,15 +1,15 @@
-//! Why nothing was read.
+//! Why a value wasn't read.
 ghost use Rattle.std.specs.Prelude.{◌≡◌};
 ghost use Rattle.cache_script.specs.declared.unread.UnreadScript.TheVariants.{Memory};
 
 use std::alloc::AllocFailed;
 
-/// Why nothing was read.
+/// Why a value wasn't read.
 #[derive(Clone, Copy, Debug, PartialEq, Eq, Drop)]
 pub enum UnreadScript {
-    /// The allocator had no memory, so nothing is said of what was to be read.
+    /// The allocator is out of memory, which says nothing about the value.
     Memory,
-    /// It is no script.
+    /// The value is no script.
     NoScript,
 }
 
@@ -21,15 +21,15 @@ impl<T: Drop> From<AllocFailed<T>> for UnreadScript {
     }
 }
 
-impl From<http_cache_stored::UnreadValue> for UnreadScript {
+impl From<http_cache_json::UnreadValue> for UnreadScript {
     ghost use Rattle.cache_script.specs.Unread.{unread_of};
 
     ghost from_gives = { λ part e. e ≡ unread_of part };
 
-    fn from(part: http_cache_stored::UnreadValue) -> UnreadScript {
+    fn from(part: http_cache_json::UnreadValue) -> UnreadScript {
         match part {
-            http_cache_stored::UnreadValue::Memory => UnreadScript::Memory,
-            http_cache_stored::UnreadValue::Malformed => UnreadScript::NoScript,
+            http_cache_json::UnreadValue::Memory => UnreadScript::Memory,
+            http_cache_json::UnreadValue::Malformed => UnreadScript::NoScript,
         }
     }
 }

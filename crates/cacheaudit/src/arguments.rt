@@ -1,4 +1,4 @@
-//! What a command line asks for.
+//! Reads the command line.
 use http_cache_audit::change::{Change, ChangeError, change_from_text};
 use http_cache_audit::report::Settings;
 use http_cache_report::run::Form;
@@ -10,8 +10,8 @@ use thiserror::Error;
 
 /// What a command line asks for.
 #[derive(Drop)]
-pub enum Asked {
-    /// The text of what it may ask for.
+pub enum Invocation {
+    /// The text of `--help`.
     Help,
     /// The version of the program.
     Version,
@@ -19,27 +19,27 @@ pub enum Asked {
     Audit(Order),
 }
 
-/// An audit that is asked for.
+/// The options of an audit.
 #[derive(Drop)]
 pub struct Order {
-    /// What is written of it.
+    /// The form of the report.
     pub form: Form,
-    /// Whether the cache serves many users, if that is said.
+    /// Whether the cache serves several users, if that is given.
     pub is_shared: Option<bool>,
-    /// How a recording is audited.
+    /// The settings of the audit.
     pub settings: Settings,
-    /// Headers that are changed, to see what that spares.
+    /// The changes of headers to try.
     pub changes: Vec<Change>,
-    /// The rate of hits, in percent, below which the audit ends with a status of its own.
+    /// The rate of hits, in percent, below which the program ends with a status of its own.
     pub least_rate: Option<u64>,
     /// The file of the recording; standard input if there is none.
     pub file: Option<String>,
 }
 
-/// Why a command line isn't one.
+/// The reason why a command line is refused.
 #[derive(Clone, Copy, Debug, PartialEq, Eq, Error)]
 pub enum Refusal {
-    /// A word isn't known, or lacks its value, or two name a file.
+    /// An argument is unknown or lacks its value, or two name a file.
     #[error("unknown argument; --help lists them")]
     Unknown,
     /// The value of `--with` is no change of a header.
@@ -56,7 +56,7 @@ impl From<AllocError> for Refusal {
     }
 }
 
-// An option of which the next word is the value.
+// An option whose value is the next word.
 #[derive(Clone, Copy)]
 enum Valued {
     Heuristic,
@@ -73,7 +73,7 @@ fn option_of(word: &str) -> Option<Valued> {
     }
 }
 
-// A fraction, as `1/10`.
+// Reads a fraction such as `1/10`.
 fn fraction_of(text: &str) -> Option<Fraction> {
     let (numerator, denominator) = text.split_once('/')?;
     Fraction::new(numerator.parse().ok()?, denominator.parse().ok()?)
@@ -84,7 +84,7 @@ fn rate_of(text: &str) -> Option<u64> {
     if rate <= 100 { Some(rate) } else { None }
 }
 
-// A change, of which the blank after the name of a header that is removed may lack.
+// Reads a change. The blank after the name of a removed header is optional.
 fn change_of(alloc: Global, text: &str) -> Result<Change, Refusal> {
     let whole = if text.ends_with(':') {
         format!(in alloc; "{text} ")?
@@ -98,7 +98,6 @@ fn add(changes: &mut Vec<Change>, change: Change) -> Result<(), AllocError> {
     Ok(changes.push(change)?)
 }
 
-// Applies an option with its value.
 fn set_value(alloc: Global, order: &mut Order, option: Valued, text: &str) -> Result<(), Refusal> {
     match option {
         Valued::Heuristic => match fraction_of(text) {
@@ -114,7 +113,7 @@ fn set_value(alloc: Global, order: &mut Order, option: Valued, text: &str) -> Re
     Ok(())
 }
 
-// All requests, as lines or objects.
+// Selects all requests, as lines or as JSON.
 fn set_all(order: &mut Order, json: bool) {
     order.form = Form::All;
     order.settings.json = json;
@@ -139,7 +138,7 @@ fn set_flag(order: &mut Order, word: &str) -> bool {
     true
 }
 
-// An audit of standard input, by the defaults.
+// Returns the default audit, of standard input.
 fn plain_order(alloc: Global) -> Order {
     Order {
         form: Form::Report,
@@ -157,7 +156,7 @@ fn plain_order(alloc: Global) -> Order {
     }
 }
 
-// A report is of a browser's cache, if nothing else is said, and all else of a CDN's.
+// By default a report is about a browser's cache, and everything else about a CDN's.
 fn is_shared(order: &Order) -> bool {
     match order.is_shared {
         Some(is_shared) => is_shared,
@@ -165,8 +164,8 @@ fn is_shared(order: &Order) -> bool {
     }
 }
 
-// A rate is of the requests as they were recorded, and a change is of all of them.
-fn checked(order: Order) -> Result<Asked, Refusal> {
+// A rate counts the requests as recorded, and a change affects all of them.
+fn checked(order: Order) -> Result<Invocation, Refusal> {
     let is_by_url = order.settings.by_url;
     let is_changed = !order.changes.is_empty();
     if order.least_rate.is_some() && (is_by_url || is_changed) || is_by_url && is_changed {
@@ -174,11 +173,11 @@ fn checked(order: Order) -> Result<Asked, Refusal> {
     }
     let mut order = order;
     order.settings.options.shared = is_shared(&order);
-    Ok(Asked::Audit(order))
+    Ok(Invocation::Audit(order))
 }
 
 /// Returns what the words after the program's name ask for.
-pub fn asked_of(alloc: Global, words: Args) -> Result<Asked, Refusal> {
+pub fn invocation_of(alloc: Global, words: Args) -> Result<Invocation, Refusal> {
     let mut order = plain_order(alloc);
     let mut waiting = None;
     for word in words.skip(1) {
@@ -187,9 +186,9 @@ pub fn asked_of(alloc: Global, words: Args) -> Result<Asked, Refusal> {
             set_value(alloc, &mut order, option, text)?;
             waiting = None;
         } else if text == "--help" {
-            return Ok(Asked::Help);
+            return Ok(Invocation::Help);
         } else if text == "--version" {
-            return Ok(Asked::Version);
+            return Ok(Invocation::Version);
         } else if let Some(option) = option_of(text) {
             waiting = Some(option);
         } else if !set_flag(&mut order, text) {

@@ -1,11 +1,12 @@
-//! Reads a recorded session (HAR 1.2), and reports what to change first, or what a cache would have answered
-//! to each of its requests, and why. It reads heads of responses too, and reports what caches do with each.
+//! Reads a recorded session (HAR 1.2), and reports what to change first, or what a cache would have
+//! answered to each request and why. Reads heads of responses too, and reports what caches do with
+//! each.
 #![tactic(auto)]
 
 mod arguments;
 mod progress;
 
-use arguments::{Asked, Order, Refusal, asked_of};
+use arguments::{Invocation, Order, Refusal, invocation_of};
 use http_cache_audit::change::ChangeError;
 use http_cache_report::error::AuditError;
 use http_cache_report::run::{Ended, run};
@@ -40,18 +41,23 @@ const VERSION: &str = "cacheaudit 0.12.0";
 // The status if nothing was audited.
 const NOTHING: u8 = 1;
 
-// The status if fewer repeated requests are hits than were asked for.
+// The status if fewer repeated requests are hits than required.
 const FEW_HITS: u8 = 4;
 
 // The status if the system has no random bytes or no time.
 const NO_SYSTEM: u8 = 3;
 
-// The status of a command line that isn't one.
+// The status of a command line that is refused.
 const NO_COMMAND: u8 = 64;
 
-// The exit status, with the reason on standard error. By itself, since main is proved faster so.
-fn status(rt: &HostRuntime, ended: Result<Ended, AuditError>, least_rate: Option<u64>) -> ExitCode {
-    // If a text can't be written, the status still says it.
+// Returns the exit status, and writes the reason to standard error. It is separate, since `main` is
+// then proved faster.
+fn exit_status(
+    rt: &HostRuntime,
+    ended: Result<Ended, AuditError>,
+    least_rate: Option<u64>,
+) -> ExitCode {
+    // If a text can't be written, the status still reports it.
     match ended {
         Ok(ended) if !ended.audited => {
             let _ = eprintln!(rt; "cacheaudit: no entry was audited");
@@ -69,12 +75,12 @@ fn status(rt: &HostRuntime, ended: Result<Ended, AuditError>, least_rate: Option
         },
         Err(e) => {
             let _ = eprintln!(rt; "cacheaudit: {e}");
-            ExitCode::from(e.status())
+            ExitCode::from(e.exit_status())
         }
     }
 }
 
-// The secret keys and the time, by which heads are read.
+// Returns the secret keys and the time with which heads are read.
 fn keys_and_time(rt: &HostRuntime) -> Option<(RandomState, Timestamp)> {
     Some((RandomState::new(rt).ok()?, Timestamp::now(rt).ok()?))
 }
@@ -84,7 +90,6 @@ fn no_system(rt: &HostRuntime) -> ExitCode {
     ExitCode::from(NO_SYSTEM)
 }
 
-// An audit with these keys, at this time.
 fn audit_by<R: Read + Drop>(
     rt: &HostRuntime,
     keys: RandomState,
@@ -102,10 +107,10 @@ fn audit_by<R: Read + Drop>(
         order.changes.as_slice(),
         order.settings,
     );
-    status(rt, ended, order.least_rate)
+    exit_status(rt, ended, order.least_rate)
 }
 
-// By parts, since each is proved faster so.
+// The parts are separate functions, since each is then proved faster.
 fn audit<R: Read + Drop>(rt: &HostRuntime, reader: R, order: &Order) -> ExitCode {
     match keys_and_time(rt) {
         Some((keys, now)) => audit_by(rt, keys, now, reader, order),
@@ -118,7 +123,7 @@ fn audit_file(rt: &HostRuntime, path: &str, order: &Order) -> ExitCode {
         Ok(file) => audit(rt, file, order),
         Err(e) => {
             let _ = eprintln!(rt; "cacheaudit: {path}: {e}");
-            ExitCode::from(AuditError::NotReadable.status())
+            ExitCode::from(AuditError::NotReadable.exit_status())
         }
     }
 }
@@ -136,28 +141,27 @@ fn audit_input(rt: &HostRuntime, order: &Order) -> ExitCode {
 fn refuse(rt: &HostRuntime, refusal: Refusal) -> ExitCode {
     let _ = eprintln!(rt; "cacheaudit: {refusal}");
     ExitCode::from(match refusal {
-        Refusal::Change(ChangeError::Memory) => AuditError::Memory.status(),
+        Refusal::Change(ChangeError::Memory) => AuditError::Memory.exit_status(),
         _ => NO_COMMAND,
     })
 }
 
-// Writes a text, and returns the status.
 fn say(rt: &HostRuntime, text: &str) -> ExitCode {
     match println!(rt; "{text}") {
         Ok(()) => ExitCode::SUCCESS,
-        Err(_) => ExitCode::from(AuditError::NotWritten.status()),
+        Err(_) => ExitCode::from(AuditError::NotWritten.exit_status()),
     }
 }
 
 fn main(rt: HostRuntime) -> ExitCode {
-    let asked = match env::args(&rt) {
-        Ok(words) => asked_of(rt.alloc(), words),
+    let invocation = match env::args(&rt) {
+        Ok(words) => invocation_of(rt.alloc(), words),
         Err(_) => Err(Refusal::Unknown),
     };
-    match asked {
-        Ok(Asked::Help) => say(&rt, USAGE),
-        Ok(Asked::Version) => say(&rt, VERSION),
-        Ok(Asked::Audit(order)) => match &order.file {
+    match invocation {
+        Ok(Invocation::Help) => say(&rt, USAGE),
+        Ok(Invocation::Version) => say(&rt, VERSION),
+        Ok(Invocation::Audit(order)) => match &order.file {
             Some(path) => audit_file(&rt, path.as_str(), &order),
             None => audit_input(&rt, &order),
         },

@@ -1,12 +1,12 @@
-//! What is written to a terminal while a long recording is read.
+//! The progress that a terminal shows while a long recording is read.
 use std::io::{self, IsTerminal, Read};
 
 const MEBIBYTE: u64 = 1024 * 1024;
 
-// So many bytes are read in silence at first, and then between two lines.
+// The number of bytes before the first line, and between two lines.
 const STEP: u64 = 16 * MEBIBYTE;
 
-/// A reader that writes on standard error, if that is a terminal, how much of a long recording was read.
+/// A reader that reports its progress on standard error, if that is a terminal.
 #[derive(Drop)]
 pub struct Watched<'a, R> {
     rt: &'a HostRuntime,
@@ -16,7 +16,7 @@ pub struct Watched<'a, R> {
 }
 
 impl<R: Read> Watched<'_, R> {
-    /// Returns a reader of which nothing was read.
+    /// Returns a reader that has read nothing yet.
     pub fn new(rt: &HostRuntime, reader: R) -> Watched<'_, R> {
         Watched {
             rt,
@@ -26,7 +26,7 @@ impl<R: Read> Watched<'_, R> {
         }
     }
 
-    // A line, if there is anyone to read it.
+    // Writes a line if standard error is a terminal.
     fn tell(&self, what: &str) {
         if self.is_watched {
             let mebibytes = self.count / MEBIBYTE;

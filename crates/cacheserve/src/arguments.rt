@@ -1,27 +1,27 @@
-//! The settings of a command line.
+//! Reads the command line and its settings.
 use http_cache_frames::Longest;
 use http_cache_shelf::Limits;
 use std::alloc::{AllocError, Global};
 use std::env::Args;
 
-/// How the process works.
+/// The settings of the process.
 #[derive(Drop)]
 pub struct Settings {
-    /// The file in which responses are stored; in memory, if there is none.
+    /// The file in which responses are stored. Without one they are stored in memory.
     pub file: Option<String>,
-    /// How many calls on the file are committed together.
+    /// The number of calls on the file in a commit.
     pub batched: u32,
-    /// Whether the cache is for one user.
+    /// Whether the cache is private.
     pub is_private: bool,
-    /// Whether the caller is an intermediary, as a proxy (RFC 9110, section 3.7).
+    /// Whether the caller is an intermediary, such as a proxy (RFC 9110, section 3.7).
     pub is_proxy: bool,
     /// The name of the cache in Cache-Status and Via.
     pub name: String,
     /// The limits of what is stored.
     pub limits: Limits,
-    /// The longest head and the longest body of a frame.
+    /// The greatest lengths of a frame's head and body.
     pub longest: Longest,
-    /// How many requests may be under way.
+    /// The greatest number of requests under way.
     pub requests: usize,
 }
 
@@ -42,7 +42,8 @@ impl Settings {
         })
     }
 
-    // Applies an option that has a number. Returns None if the option isn't known or the number doesn't fit.
+    // Applies an option with a number. Returns None if the option is unknown or the number doesn't
+    // fit.
     fn set_number(&mut self, word: &str, number: u64) -> Option<()> {
         match word {
             "--batched" => self.batched = u32::try_from(number).ok()?,
@@ -58,7 +59,6 @@ impl Settings {
         Some(())
     }
 
-    // Applies an option that has a value.
     fn set(&mut self, word: &str, value: String) -> Option<()> {
         match word {
             "--name" => {
@@ -84,8 +84,20 @@ impl Settings {
     }
 }
 
-/// Returns the settings of a command line, whose first word is the program, or None if a word isn't known.
-pub fn settings_of(alloc: Global, words: Args) -> Result<Option<Settings>, AllocError> {
+/// What a command line asks for.
+#[derive(Drop)]
+pub enum Command {
+    /// The text of `--help`.
+    Help,
+    /// The version of the program.
+    Version,
+    /// A process with these settings.
+    Serve(Settings),
+}
+
+/// Returns what a command line asks for, or `None` if a word is unknown. The first word is the
+/// program.
+pub fn command_of(alloc: Global, words: Args) -> Result<Option<Command>, AllocError> {
     let mut settings = Settings::new(alloc)?;
     let mut option: Option<String> = None;
     for word in words.skip(1) {
@@ -93,12 +105,16 @@ pub fn settings_of(alloc: Global, words: Args) -> Result<Option<Settings>, Alloc
             if settings.set(name.as_str(), word).is_none() {
                 return Ok(None);
             }
+        } else if word.as_str() == "--help" {
+            return Ok(Some(Command::Help));
+        } else if word.as_str() == "--version" {
+            return Ok(Some(Command::Version));
         } else if !settings.set_flag(word.as_str()) {
             option = Some(word);
         }
     }
     Ok(if option.is_none() {
-        Some(settings)
+        Some(Command::Serve(settings))
     } else {
         None
     })

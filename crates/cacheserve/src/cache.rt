@@ -1,4 +1,4 @@
-//! What answers the frames: a session over a shelf that counts.
+//! The session that answers the frames, over a shelf that counts.
 ghost use Rattle.http_cache_session.specs.Session.{GivesNext};
 ghost use Rattle.http_cache_wire.specs.Wire.{given_token};
 ghost use Rattle.http_cache_session.specs.State.{next_token};
@@ -13,7 +13,7 @@ use std::alloc::Global;
 
 /// A shelf that counts what it stores.
 pub trait Counted {
-    /// Returns what is stored.
+    /// Returns the amount that is stored.
     fn stored(&self) -> Stored;
 }
 
@@ -49,7 +49,7 @@ impl<S: Shelf + Drop> Cache<S> {
         }
     }
 
-    /// Returns the shelf of a session that is over.
+    /// Returns the shelf, and drops the session.
     pub fn into_shelf(self) -> S {
         let Cache { session } = self;
         session.into_shelf()

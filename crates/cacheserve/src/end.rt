@@ -1,15 +1,15 @@
-//! How the process ends.
+//! The ways in which the process ends.
 use http_cache_frames::Ended;
 use std::alloc::AllocError;
 
-/// How the process ends.
+/// The way in which the process ends.
 #[derive(Clone, Copy, Debug, PartialEq, Eq)]
 pub enum End {
-    /// As serving frames did.
+    /// Serving frames ended.
     Served(Ended),
     /// The system has no random bytes.
     NoKeys,
-    /// The file can't be opened, as has been written on standard error.
+    /// The file can't be opened. Standard error has the reason.
     NotOpened,
     /// The file can't be closed.
     NotClosed,
@@ -23,7 +23,7 @@ impl From<AllocError> for End {
 
 impl End {
     /// Returns the exit status.
-    pub fn status(self) -> u8 {
+    pub fn exit_status(self) -> u8 {
         match self {
             End::Served(Ended::Well) => 0,
             End::Served(Ended::Broken(_)) => 2,

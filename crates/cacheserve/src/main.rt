@@ -6,11 +6,11 @@ mod arguments;
 mod cache;
 mod end;
 
-use arguments::{Settings, settings_of};
+use arguments::{Command, Settings, command_of};
 use cache::{Cache, Counted};
 use end::End;
 use http_cache_client::Client;
-use http_cache_frames::serve;
+use http_cache_frames::{Ended, serve};
 use http_cache_intermediary::Intermediary;
 use http_cache_semantics::CacheOptions;
 use http_cache_session::Settings as SessionSettings;
@@ -19,12 +19,17 @@ use http_cache_store::{Durability, Store, StoreError, StoreOptions};
 use sqlite::{Alter, Error, ErrorCode, File, FileStore};
 use std::env;
 use std::hash::RandomState;
+use std::io::IsTerminal;
 use std::process::ExitCode;
 
 const USAGE: &str =
     "usage: cacheserve [--file FILE [--batched N]] [--private] [--proxy] [--name NAME]
     [--responses N] [--bytes N] [--stored-body N] [--variants N]   limits of what is stored
-    [--requests N] [--head N] [--body N]                           limits of frames";
+    [--requests N] [--head N] [--body N]                           limits of frames
+       cacheserve --help | --version
+answers frames on standard input, as docs/PROTOCOL.md has them: a caching client for callers in any language";
+
+const VERSION: &str = "cacheserve 0.12.0";
 
 fn options_of(settings: &Settings) -> CacheOptions {
     CacheOptions {
@@ -33,7 +38,6 @@ fn options_of(settings: &Settings) -> CacheOptions {
     }
 }
 
-// The session over a shelf.
 fn cache_over<S: Shelf + Drop>(
     rt: &HostRuntime,
     settings: &Settings,
@@ -135,20 +139,38 @@ fn run(rt: &HostRuntime, settings: &Settings) -> Result<End, End> {
     }
 }
 
-fn main(rt: HostRuntime) -> ExitCode {
-    let settings = match env::args(&rt) {
-        Ok(words) => settings_of(rt.alloc(), words),
-        Err(_) => Ok(None),
-    };
-    let Ok(Some(settings)) = settings else {
-        let _ = eprintln!(&rt; "{USAGE}");
-        return ExitCode::from(64);
-    };
-    let end = match run(&rt, &settings) {
+fn serve_by(rt: &HostRuntime, settings: &Settings) -> ExitCode {
+    if rt.stdin().is_terminal() {
+        let _ = eprintln!(rt; "cacheserve: reads frames from the terminal; --help says which");
+    }
+    let end = match run(rt, settings) {
         Ok(end) | Err(end) => end,
     };
     if let Some(text) = end.text() {
-        let _ = eprintln!(&rt; "cacheserve: {text}");
+        let _ = eprintln!(rt; "cacheserve: {text}");
     }
-    ExitCode::from(end.status())
+    ExitCode::from(end.exit_status())
+}
+
+fn say(rt: &HostRuntime, text: &str) -> ExitCode {
+    match println!(rt; "{text}") {
+        Ok(()) => ExitCode::SUCCESS,
+        Err(_) => ExitCode::from(End::Served(Ended::NotWritten).exit_status()),
+    }
+}
+
+fn main(rt: HostRuntime) -> ExitCode {
+    let command = match env::args(&rt) {
+        Ok(words) => command_of(rt.alloc(), words),
+        Err(_) => Ok(None),
+    };
+    match command {
+        Ok(Some(Command::Help)) => say(&rt, USAGE),
+        Ok(Some(Command::Version)) => say(&rt, VERSION),
+        Ok(Some(Command::Serve(settings))) => serve_by(&rt, &settings),
+        _ => {
+            let _ = eprintln!(&rt; "{USAGE}");
+            ExitCode::from(64)
+        }
+    }
 }

@@ -1,4 +1,4 @@
-//! Asks for a page three times, through a caching client.
+//! Requests a page three times, through a caching client.
 #![tactic(auto)]
 
 use bytes::Bytes;
@@ -10,7 +10,7 @@ use jiff::Timestamp;
 use std::alloc::Global;
 use std::hash::RandomState;
 
-// In the place of the network: a page that is fresh for ten seconds, and the time of its response.
+// Replaces the network: has a page that is fresh for ten seconds, and the time of its response.
 #[derive(Drop)]
 struct Site {
     alloc: Global,

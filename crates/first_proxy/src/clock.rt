@@ -1,4 +1,4 @@
-//! A clock that shows the same each time the program runs.
+//! A clock that shows the same times in each run of the program.
 use std::cell::Cell;
 use std::io;
 use std::time::{Clock, Duration};
@@ -6,14 +6,14 @@ use std::time::{Clock, Duration};
 // 2024-01-01T00:00:00Z in seconds since 1970.
 const START: u64 = 1_704_067_200;
 
-/// Begins at 2024, and is two seconds later at each look.
+/// A clock that starts in 2024, and advances by two seconds at each look.
 #[derive(Drop)]
 pub struct StepClock {
     seconds: Cell<u64>,
 }
 
 impl StepClock {
-    /// A clock that nobody has looked at.
+    /// Returns a clock at its start.
     pub fn new() -> StepClock {
         StepClock {
             seconds: Cell::new(START),

@@ -1,8 +1,8 @@
-//! Serves one connection on standard input and output: a caching proxy in front of a small site, or of an
+//! Serves one connection on standard input and output: a caching proxy for a small site, or for an
 //! origin server at the other end of two pipes.
 //!
-//! `first_proxy` asks the site. `first_proxy --origin TO FROM` writes requests to TO and reads responses from
-//! FROM. Responses are stored in memory.
+//! `first_proxy` serves the site. `first_proxy --origin TO FROM` writes requests to TO and reads
+//! responses from FROM. Responses are stored in memory.
 #![tactic(auto)]
 
 mod clock;
@@ -23,7 +23,7 @@ use wire::Wire;
 // The proxy's name in Cache-Status and Via.
 const NAME: &str = "first_proxy";
 
-// The two files of an origin server: requests are written to the first, responses read from the second.
+// The files of an origin server: requests are written to the first, responses read from the second.
 type OriginFiles = (String, String);
 
 fn read_arguments(rt: &HostRuntime) -> anyhow::Result<Option<OriginFiles>> {
@@ -39,7 +39,7 @@ fn read_arguments(rt: &HostRuntime) -> anyhow::Result<Option<OriginFiles>> {
     }
 }
 
-// Serves one connection from what is stored in memory and an origin server.
+// Serves one connection, with a shelf in memory and an origin server.
 fn serve_with<O: Origin + Drop, C: TimeSource + Drop>(
     rt: &HostRuntime,
     origin: O,
@@ -59,14 +59,14 @@ where
     Ok(())
 }
 
-// Serves one connection in front of the site.
+// Serves one connection for the site.
 fn serve_site(rt: &HostRuntime) -> anyhow::Result<()> {
     let clock = StepClock::new();
     let site = Site::new(rt.alloc(), &clock);
     serve_with(rt, site, ClockTime::new(&clock))
 }
 
-// Serves one connection in front of an origin server at the other end of two files.
+// Serves one connection for an origin server at the other end of two files.
 fn serve_wire(rt: &HostRuntime, to: &str, from: &str) -> anyhow::Result<()> {
     let writer = fs::create(rt, to)?;
     let reader = fs::open(rt, from)?;

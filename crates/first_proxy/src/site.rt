@@ -1,4 +1,4 @@
-//! The site behind the proxy.
+//! The site that the proxy serves.
 use crate::clock::StepClock;
 use bytes::Bytes;
 use http::header::{ETAG, HeaderName, HeaderValue, IF_NONE_MATCH};
@@ -7,12 +7,12 @@ use http_cache_client::Origin;
 use jiff::Timestamp;
 use std::alloc::{AllocError, Global};
 
-/// Why the site has no response.
+/// The reason why the site has no response.
 #[derive(Clone, Copy, Debug, PartialEq, Eq)]
 pub enum NoPage {
-    /// It has no page for the target.
+    /// There is no page for the target.
     Unknown,
-    /// Out of memory.
+    /// There is not enough memory.
     Memory,
     /// The clock can't be read.
     Clock,
@@ -24,7 +24,7 @@ impl From<AllocError> for NoPage {
     }
 }
 
-/// Has three pages, of which one is cut off, and counts how often it was asked.
+/// A site with three pages, of which one is cut off. It counts the requests.
 #[derive(Drop)]
 pub struct Site<'a> {
     alloc: Global,
@@ -32,7 +32,7 @@ pub struct Site<'a> {
     asked: u64,
 }
 
-// The headers of a page, a line each.
+// Returns the header fields of a page, one in each line.
 fn lines_of(target: &str) -> Option<&'static str> {
     match target {
         "/news" => Some("Cache-Control: max-age=10\nETag: \"1\"\nVary: Accept"),
@@ -40,13 +40,13 @@ fn lines_of(target: &str) -> Option<&'static str> {
             "Cache-Control: no-store\nSet-Cookie: a=1\nSet-Cookie: b=2\n\
              Date: Mon, 01 Jan 2024 00:00:00 GMT\nConnection: X-Hop\nX-Hop: 1\nKeep-Alive: timeout=5",
         ),
-        // As if the connection had ended within the body.
+        // This response looks as if the connection had ended within the body.
         "/cut" => Some("Cache-Control: max-age=10\nContent-Length: 99"),
         _ => None,
     }
 }
 
-// The lines can want memory alone.
+// The lines are valid, so adding one fails only without memory.
 fn is_added(alloc: Global, headers: &mut HeaderMap, line: &str) -> bool {
     let Some((name, value)) = line.split_once(": ") else {
         return false;
@@ -70,14 +70,14 @@ fn headers_of(alloc: Global, lines: &str) -> Result<HeaderMap, AllocError> {
     Ok(headers)
 }
 
-// Whether the request has the tag of the page.
+// Returns whether the request has the ETag of the page.
 fn is_known(request: &Request<Bytes>, headers: &HeaderMap) -> bool {
     let tag = headers.get(ETAG);
     tag.is_some() && request.headers().get(IF_NONE_MATCH) == tag
 }
 
 impl<'a> Site<'a> {
-    /// A site that nobody has asked.
+    /// Returns a site that has received no request.
     pub fn new(alloc: Global, clock: &'a StepClock) -> Site<'a> {
         Site {
             alloc,
@@ -93,7 +93,7 @@ impl<'a> Site<'a> {
         Bytes::copy_from_slice(self.alloc, text.as_bytes())
     }
 
-    // A page, or that it is as it was.
+    // Returns the page, or a 304 if the client has it.
     fn page(
         &self,
         request: &Request<Bytes>,

@@ -1,5 +1,5 @@
-//! An origin server at the other end of two files, such as pipes: requests are written to one as HTTP/1.1,
-//! responses are read from the other.
+//! An origin server at the other end of two files, such as pipes. Requests are written to one as
+//! HTTP/1.1, responses are read from the other.
 use bytes::{Bytes, BytesMut};
 use http::{Request, Response, Uri, response};
 use http_cache_client::Origin;
@@ -12,19 +12,19 @@ use std::hash::RandomState;
 use std::io::{self, Read, Write};
 use std::time::Clock;
 
-// The fields that a response has at most.
+// The greatest number of fields of a response.
 const MOST_FIELDS: usize = 64;
 
-/// Why there is no response.
+/// The reason why there is no response.
 #[derive(Debug, Drop)]
 pub enum NoResponse {
-    /// Out of memory.
+    /// There is not enough memory.
     Memory,
     /// The request can't be written as HTTP/1.1.
     Unwritable(WriteError),
-    /// What is received is no response.
+    /// The received bytes are no response.
     Unreadable,
-    /// The files failed, or the clock.
+    /// The files or the clock failed.
     Failed(io::Error),
 }
 
@@ -59,7 +59,7 @@ struct Arriving {
     body: Vec<u8>,
 }
 
-/// One connection to an origin server.
+/// A connection to an origin server.
 #[derive(Drop)]
 pub struct Wire<'a, R, W, C> {
     alloc: Global,
@@ -71,7 +71,7 @@ pub struct Wire<'a, R, W, C> {
     client: Client,
 }
 
-// The target as an origin server takes it (RFC 9112, section 3.2.1).
+// Returns the target in origin form (RFC 9112, section 3.2.1).
 fn origin_form(target: &Uri) -> &str {
     match target.path_and_query() {
         Some(path) => path.as_str(),
@@ -131,7 +131,7 @@ impl<'a, R: Read, W: Write, C: Clock> Wire<'a, R, W, C> {
         }
     }
 
-    // Takes what is next in the input. Returns whether the response is whole.
+    // Takes the next part of the input. Returns whether the response is whole.
     fn step(
         &mut self,
         spans: &mut [HeaderSpan],
@@ -164,7 +164,6 @@ impl<'a, R: Read, W: Write, C: Clock> Wire<'a, R, W, C> {
         Ok(false)
     }
 
-    // Reads a response to its end.
     fn read(&mut self) -> Result<Response<Bytes>, NoResponse> {
         let mut spans = [EMPTY_HEADER_SPAN; MOST_FIELDS];
         let mut arriving = Arriving {

@@ -1,4 +1,4 @@
--- What follows the first occurrence of a piece is the back of the text where it is split.
+-- The text after the first occurrence of a piece is the second part of the split.
 use Rattle.std.proofs.Common.{◌≡◌, sym, ap, refl, ℕ, zero, suc, ◌+◌, ◌<◌, ◌≤◌, List, [], ◌∷◌, ◌++◌, length, drop, true, false, Bool}
 use Rattle.std.proofs.Common.{Some, None, nat_eq, arith}
 use Rattle.std.specs.List.{starts_with}

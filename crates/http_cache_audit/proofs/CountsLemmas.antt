@@ -1,4 +1,4 @@
--- What is counted when more is added.
+-- Counts after more additions.
 use Rattle.std.proofs.Common.{arith, ◌≡◌, ◌∙◌, sym, ap, refl, ℕ, ◌+◌, ◌-◌, ◌^◌, min, zero, suc, map, take, slice_get, Bool, true, false, cond, List, [], ◌∷◌, ◌++◌}
 use Rattle.std.proofs.Common.{Option, Some, unwrap_or, bytes_eq}
 use Rattle.std.proofs.Common.{add-one, subst}
@@ -33,7 +33,6 @@ at-label : (b : Bool) (old : Option ℕ) (n count s most : ℕ) → unwrap_or ol
 at-label true old n count s most is sum = sum refl ∙ stopped (unwrap_or old 0) s n most is
 at-label false old n count s most is sum = is ∙ same-sum s most
 
--- one more
 pub also_one : (label : List ℕ) (n count : ℕ) (a b : Counts) → count ≡ min (total_in a label + n) (2 ^ 64 - 1)
     → ((key : List ℕ) → get_by_text b.by_label key ≡ cond (bytes_eq label key) (Some count) (get_by_text a.by_label key))
     → CountsAlso ((label, n) ∷ []) a b
@@ -52,7 +51,7 @@ all-next seen f (y ∷ ys) zero x at = let same : y ≡ x = cc in rw same (appen
 all-next seen f (y ∷ ys) (suc k) x at =
     ap (λ l. f (seen y) ++ l) (all-next seen f ys k x at) ∙ sym (append_assoc (f (seen y)) _ _)
 
--- what is counted of one more of a list
+-- counting one more of a list
 pub also_next : {X Y : Type 0} (seen : X → Y) (f : Y → List Addition) (xs : List X) (k : ℕ) (x : X) (a b c : Counts)
     → slice_get xs k ≡ Some x → CountsAlso (flat_map f (map seen (take k xs))) a b → CountsAlso (f (seen x)) b c
     → CountsAlso (flat_map f (map seen (take (k + 1) xs))) a c
@@ -60,7 +59,7 @@ also_next seen f xs k x a b c at so_far more =
     let next = ap (λ (n : ℕ). flat_map f (map seen (take n xs))) (add-one k) ∙ all-next seen f xs k x at in
     subst (λ adds. CountsAlso adds a c) (sym next) (also_then _ _ a b c so_far more)
 
--- what is written of one more of a list
+-- writing one more of a list
 pub written_next : {X Y Z : Type 0} (seen : X → Y) (f : Y → List Z) (xs : List X) (k : ℕ) (x : X) (start now new : List Z)
     → slice_get xs k ≡ Some x → now ≡ start ++ flat_map f (map seen (take k xs)) → new ≡ now ++ f (seen x)
     → new ≡ start ++ flat_map f (map seen (take (k + 1) xs))
@@ -69,7 +68,7 @@ written_next seen f xs k x start now new at so_far more =
     more ∙ (ap (λ l. l ++ f (seen x)) so_far
     ∙ (append_assoc start (flat_map f (map seen (take k xs))) (f (seen x)) ∙ ap (λ l. start ++ l) (sym next)))
 
--- the counts of a list hold when one more of it is counted
+-- the counts of a list hold after one more of it is counted
 pub holds_next : {X Y : Type 0} (seen : X → Y) (f : Y → List Addition) (xs : List X) (k : ℕ) (x : X) (a b : Counts)
     → slice_get xs k ≡ Some x → HoldsCounts (flat_map f (map seen (take k xs))) a → CountsAlso (f (seen x)) a b
     → HoldsCounts (flat_map f (map seen (take (k + 1) xs))) b
@@ -85,7 +84,7 @@ enumerated n zero (y ∷ ys) x at =
     let same : y ≡ x = cc in rw same (ap (λ (m : ℕ). Some (m, x)) (omega arith))
 enumerated n (suc k) (y ∷ ys) x at = enumerated (n + 1) k ys x at ∙ ap (λ (m : ℕ). Some (m, x)) (omega arith)
 
--- the same of a list with its indices
+-- likewise for a list with its indices
 pub holds_at : {X : Type 0} (f : ℕ × X → List Addition) (xs : List X) (k : ℕ) (x : X) (a b : Counts)
     → slice_get xs k ≡ Some x → HoldsCounts (flat_map f (take k (enumerate_from 0 xs))) a → CountsAlso (f (k, x)) a b
     → HoldsCounts (flat_map f (take (k + 1) (enumerate_from 0 xs))) b
@@ -97,7 +96,6 @@ holds_at f xs k x a b at so_far more =
     (enumerated 0 k xs x at ∙ ap (λ (m : ℕ). Some (m, x)) (omega arith))
     (subst (λ l. HoldsCounts (flat_map f l) a) (sym (same k)) so_far) more)
 
--- what is made of one more of a list with its indices
 pub made_at : {X Y : Type 0} (f : ℕ × X → List Y) (xs : List X) (k : ℕ) (x : X) → slice_get xs k ≡ Some x
     → flat_map f (take (k + 1) (enumerate_from 0 xs)) ≡ flat_map f (take k (enumerate_from 0 xs)) ++ f (k, x)
 made_at f xs k x at =

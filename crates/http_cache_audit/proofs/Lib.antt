@@ -1,4 +1,3 @@
--- The lemmas about an audit.
 pub mod ChangeLemmas
 pub mod CountsLemmas
 pub mod JsonLemmas

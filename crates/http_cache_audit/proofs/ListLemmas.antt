@@ -9,7 +9,7 @@ drop-at [] i x at = cc
 drop-at (y ∷ ys) zero x at = let same : y ≡ x = cc in rw same refl
 drop-at (y ∷ ys) (suc i) x at = drop-at ys i x at
 
--- what is made so far with what is left, when one more is made
+-- one more element moves from what is left to what is done
 pub made-next : {X Y : Type 0} (f : ℕ × X → List Y) (xs : List X) (k : ℕ) (x : X) (done all : List Y)
     → slice_get xs k ≡ Some x
     → done ++ flat_map f (enumerate_from k (drop k xs)) ≡ all
@@ -24,20 +24,17 @@ mapped : {X Y : Type 0} (seen : X → Y) (b : Bool) (x : X) (here : Option Y) (t
 mapped seen true x here there is = refl
 mapped seen false x here there is = is
 
--- what is found of what is seen is seen of what is found
 pub find-map : {X Y : Type 0} (test : Y → Bool) (seen : X → Y) (xs : List X)
     → find test (map seen xs) ≡ option_map seen (find (λ x. test (seen x)) xs)
 find-map test seen [] = refl
 find-map test seen (x ∷ xs) = mapped seen (test (seen x)) x _ _ (find-map test seen xs)
 
--- what is made of one more of a list
 pub map-next : {X Y Z : Type 0} (seen : X → Y) (f : Y → Z) (xs : List X) (k : ℕ) (x : X) → slice_get xs k ≡ Some x
     → map f (map seen (take (suc k) xs)) ≡ map f (map seen (take k xs)) ++ f (seen x) ∷ []
 map-next seen f [] k x at = cc
 map-next seen f (y ∷ ys) zero x at = let same : y ≡ x = cc in rw same refl
 map-next seen f (y ∷ ys) (suc k) x at = ap (λ l. f (seen y) ∷ l) (map-next seen f ys k x at)
 
--- what is seen of what is seen
 pub map-twice : {X Y Z : Type 0} (f : Y → Z) (g : X → Y) (o : Option X)
     → option_map f (option_map g o) ≡ option_map (λ x. f (g x)) o
 map-twice f g None = refl

@@ -1,4 +1,4 @@
--- The last requests of which headers may be assumed, after one more.
+-- The last requests whose headers may be assumed, after one more.
 use Rattle.std.proofs.Common.{arith, ◌≡◌, ap, refl, ℕ, ◌+◌, ◌<◌, Bool, true, false, ◌&&◌, cond, List, [], ◌∷◌, ◌++◌}
 use Rattle.std.proofs.Common.{Option, Some, option_map, length, length-drop, drop, bytes_eq, get_or, get_or-drop}
 use Rattle.std.proofs.lemmas.Bool.Decides.{nat_tests}
@@ -9,7 +9,7 @@ use Rattle.http_cache_recording.specs.Entry.{EntrySeen}
 use Rattle.http_cache_audit.specs.Order.{SentSeen, target_of}
 use Rattle.http_cache_audit.specs.Sources.{is_source, is_end, len_to_end, host_of, last_by, SourcesSeen, sources_of}
 
--- a text is cut before an ASCII byte
+-- a text can be cut before an ASCII byte
 pub ascii_at_end : (text : List ℕ) (start len : ℕ) → len ≡ len_to_end (drop start text) → start + len < length text
     → get_or text (start + len) 0 < 128
 ascii_at_end text start len is within =
@@ -18,9 +18,8 @@ ascii_at_end text start len is within =
     rw (is, ← get_or-drop start text (len_to_end (drop start text)) 0) (passes_at_first is_end (drop start text) 0 at) in
     grind (arith, nat_tests)
 
--- ---- one source more
+-- ---- one more source
 
--- what is seen of a value that is put
 pub put-seen : {X Y : Type 0} (f : X → Y) (x : X) (old new : Option X) (b : Bool) → new ≡ cond b (Some x) old
     → option_map f new ≡ cond b (Some (f x)) (option_map f old)
 put-seen f x old new true is = ap (option_map f) is
@@ -41,7 +40,6 @@ last_by-source : (form : List ℕ → List ℕ) (before : List SentSeen) (o : Se
 last_by-source form before o old new source holds put =
     fun_ext (λ text. rw (put text, holds text, last_by-next form text before o, source) refl)
 
--- the sources after one more
 pub sources-next : (before : List SentSeen) (o : SentSeen) (old new : SourcesSeen) → is_source o.entry ≡ true
     → old ≡ sources_of before
     → ((t : List ℕ) → new.by_target t ≡ cond (bytes_eq (target_of o.recorded) t) (Some o.entry) (old.by_target t))
@@ -58,7 +56,7 @@ last_by-other : (form : List ℕ → List ℕ) (before : List SentSeen) (o : Sen
     → (text : List ℕ) → last_by form text (before ++ o ∷ []) ≡ last_by form text before
 last_by-other form before o other text = rw (last_by-next form text before o, other) refl
 
--- what is no source leaves them as they are
+-- an entry that is no source changes nothing
 pub sources-same : (before : List SentSeen) (o : SentSeen) → is_source o.entry ≡ false
     → sources_of (before ++ o ∷ []) ≡ sources_of before
 sources-same before o other =

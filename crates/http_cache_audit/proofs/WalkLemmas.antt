@@ -1,4 +1,4 @@
--- What is stored after one entry more, and the rows so far.
+-- What is stored after one more entry, and the rows so far.
 use Rattle.std.proofs.Common.{◌≡◌, ◌∙◌, sym, ap, refl, ℕ, suc, ◌+◌, add-one, Bool, true, false, cond, List, [], ◌∷◌, ◌++◌}
 use Rattle.std.proofs.Common.{Option, Some, None, option_map, slice_get, take, drop, bytes_eq, ◌&&◌, ◌||◌, if◌then◌else◌}
 use Rattle.std.proofs.lemmas.List.{append_assoc, append-nil}
@@ -13,21 +13,7 @@ use Rattle.http_cache_audit.specs.Walk.{shelf_under, left_under, asks_store, key
 use Rattle.http_cache_audit.proofs.ListLemmas.{drop-at}
 use Rattle.http_cache_audit.proofs.StoredLemmas.{take-at}
 
--- ---- what is under a key
-
--- what is seen of what was taken out
-pub seen-taken : {X Y : Type 0} (f : X → Y) (old new : Option X) (b : Bool) → new ≡ cond b None old
-    → option_map f new ≡ cond b None (option_map f old)
-seen-taken f old new true is = ap (option_map f) is
-seen-taken f old new false is = ap (option_map f) is
-
--- what is seen of what was put, if it is kept
-pub seen-put : {X Y : Type 0} (f : X → Y) (old new : Option X) (x : X) (b : Bool) → new ≡ cond b (Some x) old
-    → option_map f new ≡ cond (true && b) (Some (f x)) (option_map f old)
-seen-put f old new x true is = ap (option_map f) is
-seen-put f old new x false is = ap (option_map f) is
-
--- what is taken out and put back, if it is kept
+-- what is removed and put back, if it is kept
 pub put-back : (old rest new : ShelfSeen) (ss left : List StoredSeen) (b keeps kept : Bool)
     → rest ≡ cond b None old → new ≡ cond (keeps && b) (Some ss) rest → keeps ≡ kept → ss ≡ left
     → new ≡ cond b (if kept then Some left else None) old
@@ -51,28 +37,26 @@ same-if : (b : Bool) (x y z : ShelfSeen) → (b ≡ true → x ≡ y) → cond b
 same-if true x y z same = same refl
 same-if false x y z same = refl
 
--- what a key's shelf becomes, by the one key or by the other
+-- a change of one key's shelf may be written by either of two equal keys
 pub same-key : (a b : List ℕ) (at : List ℕ → ShelfSeen) (f : ShelfSeen → ShelfSeen)
     → cond (bytes_eq a b) (f (at a)) (at b) ≡ cond (bytes_eq a b) (f (at b)) (at b)
 same-key a b at f =
     same-if (bytes_eq a b) (f (at a)) (f (at b)) (at b)
     (λ same. ap (λ (l : List ℕ). f (at l)) ((bytes_eq-Decides a b).0 same))
 
--- what a request leaves that a store is asked for
+-- a request to the store changes only its key
 pub left_asked : (k : WalkSeen) (w : WalkedSeen) (at new : List ℕ → ShelfSeen) → asks_store w.sent.entry.kind ≡ true
     → ((key : List ℕ) → new key ≡ cond (bytes_eq (key_in w.sent) key) (left_by_asked k w (at (key_in w.sent))) (at key))
     → (key : List ℕ) → new key ≡ left_under k key (at key) w
 unfolding left_under
 left_asked k w at new asks left key = rw asks (left key ∙ same-key (key_in w.sent) key at (left_by_asked k w))
 
--- and what another one leaves
+-- any other request may change the keys of its target
 pub left_passed : (k : WalkSeen) (w : WalkedSeen) (at new : List ℕ → ShelfSeen) → asks_store w.sent.entry.kind ≡ false
     → ((key : List ℕ) → new key ≡ left_by_passed key w.sent (at key))
     → (key : List ℕ) → new key ≡ left_under k key (at key) w
 unfolding left_under
 left_passed k w at new apart left key = rw apart (left key)
-
--- ---- one entry more
 
 walked-next : (before xs : List SentSeen) (x : SentSeen)
     → walked_after before (xs ++ x ∷ []) ≡ walked_after before xs ++ walked_by (before ++ xs) x ∷ []
@@ -83,14 +67,12 @@ walked-next before (y ∷ ys) x =
     ∙ ap (λ (b : List SentSeen). walked_after (before ++ y ∷ []) ys ++ walked_by b x ∷ []) (append_assoc before (y ∷ []) ys)
     )
 
--- the entries up to the next index
 pub walked-at : (ss : List SentSeen) (k : ℕ) (s : SentSeen) → slice_get ss k ≡ Some s
     → walked_after [] (take (k + 1) ss) ≡ walked_after [] (take k ss) ++ walked_by (take k ss) s ∷ []
 walked-at ss k s at =
     ap (λ (n : ℕ). walked_after [] (take n ss)) (add-one k)
     ∙ (ap (walked_after []) (take-at ss k s at) ∙ walked-next [] (take k ss) s)
 
--- what they leave under each key
 pub left-next : (k : WalkSeen) (before after : List WalkedSeen) (w : WalkedSeen) (old new : List ℕ → ShelfSeen)
     → after ≡ before ++ w ∷ []
     → ((key : List ℕ) → old key ≡ shelf_under k before key)
@@ -102,7 +84,7 @@ left-next k before after w old new is holds left key =
     ∙ (sym (fold-append (left_under k key) None before (w ∷ []))
     ∙ ap (λ (ws : List WalkedSeen). shelf_under k ws key) (sym is)))
 
--- the rows so far with those of what is left, when one more is made
+-- the new row moves from the rows that are left to the rows so far
 pub rows-next : (k : WalkSeen) (ss : List SentSeen) (i : ℕ) (s : SentSeen) (rows all : List RowSeen) (row : RowSeen)
     → slice_get ss i ≡ Some s
     → row ≡ row_by k (walked_after [] (take i ss)) (walked_by (take i ss) s)
@@ -122,7 +104,6 @@ rows-next k ss i s rows all row at is so_far =
     (append_assoc rows (row_by k ws w ∷ []) (rows_after k (ws ++ w ∷ []) rest)
     ∙ (sym (ap (λ (l : List WalkedSeen). rows ++ rows_after k ws l) first) ∙ so_far))
 
--- what is under each key is what they left
 pub shelves-are : (k : WalkSeen) (before : List WalkedSeen) (at : List ℕ → ShelfSeen)
     → ((key : List ℕ) → at key ≡ shelf_under k before key) → at ≡ shelf_under k before
 shelves-are k before at holds = fun_ext holds

@@ -1,4 +1,4 @@
--- A header of recorded responses that is changed.
+-- Changes of a header in recorded responses.
 use Rattle.std.specs.Prelude.{◌≡◌, ℕ, nat_eq, ◌==◌, Bool, List, [], ◌∷◌, ◌++◌, length, drop, fold, codes, string_bytes}
 use Rattle.std.specs.Prelude.{is_some, Option, Some, None, option_map, option_and_then, ⊤, ◌⊎◌, if◌then◌else◌}
 use Rattle.std.specs.List.{starts_with, slice_split}
@@ -16,7 +16,7 @@ use Rattle.http_cache_audit.specs.declared.change.ChangeError.TheVariants.{NoPar
 use Rattle.http_cache_audit.specs.Assume.{put_value}
 use Rattle.http_cache_audit.specs.Order.{target_of}
 
--- a header of each response whose url is of a pattern: another value, or none
+-- for responses whose url matches a pattern: another value, or none
 pub record ChangeSeen : Type 0 where
   pub pattern : List ℕ
   pub name : List ℕ
@@ -29,7 +29,7 @@ change_seen c = record {
   value = option_map (λ v. v.bytes) c.value;
 }
 
--- ---- which urls
+-- ---- matching urls
 
 -- what follows the first occurrence of a piece
 abbrev pub after_first : List ℕ → List ℕ → Option (List ℕ)
@@ -37,19 +37,18 @@ after_first piece [] = if starts_with nat_eq [] piece then Some (drop (length pi
 after_first piece (b ∷ text) =
     if starts_with nat_eq (b ∷ text) piece then Some (drop (length piece) (b ∷ text)) else after_first piece text
 
--- what follows, in what is left of a text
 abbrev pub after : Option (List ℕ) → List ℕ → Option (List ℕ)
 after left piece = option_and_then (after_first piece) left
 
--- a text between two line feeds, which no url has within
+-- no url contains a line feed
 abbrev pub line_of : List ℕ → List ℕ
 line_of text = codes "\n" ++ (text ++ codes "\n")
 
--- a line holds the pieces of a pattern between its `*`, one after the other
+-- the line contains the pieces of a pattern between its `*`, in order
 abbrev pub is_line_of : List ℕ → List ℕ → Bool
 is_line_of pattern line = is_some (fold after (Some line) (slice_split (λ b. b == 42) pattern))
 
--- a url is of a pattern, in which `*` stands for any text
+-- `*` stands for any text
 abbrev pub is_of : List ℕ → List ℕ → Bool
 is_of pattern url = is_line_of (line_of pattern) (line_of url)
 
@@ -71,26 +70,24 @@ abbrev pub changed_reading : ChangeSeen → ReadingSeen → ReadingSeen
 changed_reading c (entry e) = entry (record e { answer = changed_answer c e.answer })
 changed_reading c (skipped reason) = skipped reason
 
--- what was recorded, with the header changed if its url is of the pattern
 abbrev pub changed_by : RecordedSeen → ChangeSeen → RecordedSeen
 changed_by r c =
     if is_of c.pattern (target_of r) then record r { reading = changed_reading c r.reading } else r
 
--- with all changes, in their order
+-- in order
 abbrev pub changed : List ChangeSeen → RecordedSeen → RecordedSeen
 changed cs r = fold changed_by r cs
 
--- ---- a change as a text
+-- ---- changes as text
 
--- a text before the first `: `, and the text after it
+-- before and after the first `: `
 abbrev pub IsSplit : List ℕ → List ℕ → List ℕ → Type 0
 IsSplit text front back = SplitsAroundMatch (FindsText (codes ": ")) text front back
 
--- it has no `: `
 abbrev pub IsWhole : List ℕ → Type 0
 IsWhole text = FindsText (codes ": ") text None
 
--- a text is a change: pattern, name and value, with `: ` between them; an empty value removes the header
+-- pattern, name and value, with `: ` between them; an empty value removes the header
 pub record IsChange (text : List ℕ) (c : ChangeSeen) : Type 0 where
   pub rest : List ℕ
   pub name : List ℕ
@@ -102,21 +99,20 @@ pub record IsChange (text : List ℕ) (c : ChangeSeen) : Type 0 where
   pub is_value : value_of_line value ≡ Some bytes
   pub unless_empty : c.value ≡ some_text bytes
 
--- a text has the three parts, of which the last two are these
+-- the text has three parts, of which the last two are these
 pub record HasParts (text name value : List ℕ) : Type 0 where
   pub pattern : List ℕ
   pub rest : List ℕ
   pub front : IsSplit text pattern rest
   pub back : IsSplit rest name value
 
--- it has a first part, and no other
+-- the text has only a first part
 pub record HasFront (text : List ℕ) : Type 0 where
   pub pattern : List ℕ
   pub rest : List ℕ
   pub front : IsSplit text pattern rest
   pub whole : IsWhole rest
 
--- why a text is no change
 abbrev pub IsNoChange : List ℕ → ChangeError → Type 0
 IsNoChange text NoParts = IsWhole text ⊎ HasFront text
 IsNoChange text NoName = (name : List ℕ) × (value : List ℕ) × HasParts text name value × (field_name name ≡ None)

@@ -12,7 +12,7 @@ use Rattle.http_cache_audit.specs.declared.cost.Size.{Size}
 use Rattle.http_cache_audit.specs.declared.cost.Known.{Known}
 use Rattle.http_cache_audit.specs.declared.cost.Cost.{Cost}
 use Rattle.http_cache_audit.specs.declared.cost.FirstLoad.{FirstLoad}
-use Rattle.http_cache_audit.specs.Row.{RowSeen, VerdictSeen, UsedSeen}
+use Rattle.http_cache_audit.specs.Row.{RowSeen, AuditVerdictSeen, UsedSeen}
 use Rattle.http_cache_audit.specs.Order.{entry_in, target_of}
 use Rattle.http_cache_audit.specs.Sources.{is_asked}
 use Rattle.http_cache_audit.specs.Walk.{body_in}
@@ -21,7 +21,7 @@ use Rattle.http_cache_audit.specs.Counts.{Addition, label_of, when, total_of, is
 
 -- ---- loads
 
--- the first load of a recording: its page, and when the first request of another page was sent
+-- the first load's page, and the time of the first request for another page
 pub record FirstSeen : Type 0 where
   pub page : Option (List ℕ)
   pub ended : Option ℤ
@@ -29,14 +29,13 @@ pub record FirstSeen : Type 0 where
 abbrev pub first_seen : FirstLoad → FirstSeen
 first_seen l = record { page = option_map (λ t. t.now) l.page; ended = option_map (λ t. t.nanosecond) l.ended }
 
--- the page of a row
 abbrev pub page_of : RowSeen → Option (List ℕ)
 page_of r = r.recorded.printed.page
 
 abbrev pub has_page : RowSeen → Bool
 has_page r = is_some (page_of r)
 
--- two pages aren't the same, if both are known
+-- if both are known
 abbrev pub is_other : Option (List ℕ) → Option (List ℕ) → Bool
 is_other None page = false
 is_other (Some a) None = false
@@ -45,33 +44,32 @@ is_other (Some a) (Some b) = not (bytes_eq a b)
 abbrev pub is_of_other : Option (List ℕ) → RowSeen → Bool
 is_of_other page r = is_other (page_of r) page
 
--- when the request of a row was sent
 abbrev pub sent_at : RowSeen → Option ℤ
 sent_at r = option_map (λ (e : EntrySeen). e.started) (entry_in r.recorded.reading)
 
 abbrev pub first_page : List RowSeen → Option (List ℕ)
 first_page rows = option_and_then page_of (find has_page rows)
 
--- the first load: the page of the first row that has one, and when another began
+-- the page of the first row that has one, and when another began
 unfoldable pub first_load : List RowSeen → FirstSeen
 first_load rows = record {
   page = first_page rows;
   ended = option_and_then sent_at (find (is_of_other (first_page rows)) rows);
 }
 
--- a time is before another, if both are known
+-- if both are known
 abbrev pub is_before : Option ℤ → Option ℤ → Bool
 is_before None ended = true
 is_before (Some at) None = true
 is_before (Some at) (Some ended) = int_lt at ended
 
--- a request is of the first load: by its page, else by when it was sent
+-- by its page, or else by the time of the request
 unfoldable pub is_of_first : FirstSeen → RowSeen → Bool
 is_of_first l r = if has_page r then not (is_of_other l.page r) else is_before (sent_at r) l.ended
 
 -- ---- full responses
 
--- a full response from the network
+-- from the network
 abbrev pub is_full_answer : AnswerSeen → Bool
 is_full_answer failed = false
 is_full_answer (cached r) = false
@@ -81,26 +79,26 @@ abbrev pub is_full_reading : ReadingSeen → Bool
 is_full_reading (entry e) = is_full_answer e.answer
 is_full_reading (skipped reason) = false
 
--- what the full response of a stored response took, if it was sent in the recording
+-- if it was sent in the recording
 abbrev pub size_of_used : List RecordedSeen → UsedSeen → Option Size
 size_of_used rs u =
     option_and_then (λ bytes. option_map (λ (r : RecordedSeen). record { bytes = bytes; head = r.printed.head }) (slice_get rs u.from)) u.saved
 
 abbrev pub used_in : RowSeen → Option UsedSeen
-used_in r = option_and_then (λ (v : VerdictSeen). v.used) r.verdict
+used_in r = option_and_then (λ (v : AuditVerdictSeen). v.used) r.verdict
 
--- what the full response took that answers a request: its own, or that of the stored one
+-- the request's own full response, or the stored one's
 unfoldable pub size_of : List RecordedSeen → RowSeen → Option Size
 size_of rs r =
     if is_full_reading r.recorded.reading
     then Some (record { bytes = r.recorded.printed.sent; head = r.recorded.printed.head })
     else option_and_then (size_of_used rs) (used_in r)
 
--- ---- origins that answer in full
+-- ---- origin servers that answer in full
 
--- the origin sent a full response to a condition that it meets
+-- a full response to a condition that it meets
 abbrev pub ends_in_full : RowSeen → Bool
-ends_in_full r = option_map_or (λ (v : VerdictSeen). is_in_full v.again) r.verdict false
+ends_in_full r = option_map_or (λ (v : AuditVerdictSeen). is_in_full v.again) r.verdict false
 
 abbrev pub full_additions : RowSeen → List Addition
 full_additions r = when (ends_in_full r) (label_of (codes "in_full") (target_of r.recorded), 1)
@@ -123,7 +121,6 @@ known_of rs rows = map (known_for rs rows) rows
 
 -- ---- what a row costs
 
--- the response of an entry
 abbrev pub response_in : AnswerSeen → Option ResponseSeen
 response_in failed = None
 response_in (cached r) = Some r
@@ -138,21 +135,19 @@ are_confirming a b x y =
     (x.status == y.status)
     && unwrap_or (option_or (is_same_validator x.headers y.headers) (are_same_bodies a b)) false
 
--- two entries have the same response, by its validators, else by its body
+-- by validators, or else by the bodies
 unfoldable pub is_same_response : ReadingSeen → ReadingSeen → Bool
 is_same_response a b =
     option_map_or (λ x. option_map_or (are_confirming (body_in a) (body_in b) x) (response_of b) false) (response_of a) false
 
--- the response is a 304
 abbrev pub is_304 : ReadingSeen → Bool
 is_304 r = option_map_or (λ (x : ResponseSeen). x.status == 304) (response_of r) false
 
--- the recorded response is the one that is asked about
 abbrev pub is_used_again : List RecordedSeen → RowSeen → UsedSeen → Bool
 is_used_again rs r u =
     option_map_or (λ (q : RecordedSeen). is_same_response q.reading r.recorded.reading) (slice_get rs u.from) false
 
--- a 304 would confirm what is asked about: one was recorded, or the same response was, of an origin that answers conditions
+-- a 304 was recorded, or the response is unchanged and its origin server answers conditions
 unfoldable pub is_confirmed : List RecordedSeen → Known → RowSeen → Bool
 is_confirmed rs known r =
     is_304 r.recorded.reading
@@ -166,12 +161,11 @@ abbrev pub head_sent : Option Size → Cost
 head_sent None = record { bytes = 0; confirmed = 1; unknown = 0 }
 head_sent (Some s) = record { bytes = s.head; confirmed = 1; unknown = 0 }
 
--- all of a response
+-- a full response
 abbrev pub all_sent : Option Size → Cost
 all_sent None = record { bytes = 0; confirmed = 0; unknown = 1 }
 all_sent (Some s) = record { bytes = s.bytes; confirmed = 0; unknown = 0 }
 
--- what an outcome costs, by whether a 304 would confirm
 abbrev pub cost_by : Outcome → Bool → Option Size → Cost
 cost_by Apart confirmed size = nothing_sent
 cost_by Fresh confirmed size = nothing_sent
@@ -180,14 +174,13 @@ cost_by Refetch confirmed size = all_sent size
 cost_by Miss confirmed size = all_sent size
 cost_by MissVary confirmed size = all_sent size
 
--- what a request costs: nothing where a stored response answers, a head where one is confirmed, else all
+-- a fresh response costs nothing, a confirmed one a head, and any other all
 unfoldable pub cost_of : List RecordedSeen → Known → RowSeen → Cost
 cost_of rs known r =
-    option_map_or (λ (v : VerdictSeen). cost_by v.outcome (is_confirmed rs known r) known.size) r.verdict nothing_sent
+    option_map_or (λ (v : AuditVerdictSeen). cost_by v.outcome (is_confirmed rs known r) known.size) r.verdict nothing_sent
 
 -- ---- sums
 
--- the loads for which sums are made
 abbrev pub load_name : Bool → List ℕ
 load_name is_first = if is_first then codes "first_load" else codes "later_loads"
 
@@ -196,7 +189,6 @@ sum_additions load cost =
     (label_of load (codes "bytes"), cost.bytes) ∷ (label_of load (codes "confirmed"), cost.confirmed)
     ∷ (label_of load (codes "unknown"), cost.unknown) ∷ []
 
--- a store could have answered the request
 abbrev pub is_asked_reading : ReadingSeen → Bool
 is_asked_reading (entry e) = is_asked e.kind
 is_asked_reading (skipped reason) = false
@@ -205,10 +197,8 @@ unfoldable pub cost_additions : List RecordedSeen → RowSeen → Known → List
 cost_additions rs r known =
     if is_asked_reading r.recorded.reading then sum_additions (load_name known.is_first) (cost_of rs known r) else []
 
--- what the row at an index costs, by what is known of it
 abbrev pub costs_at : List RecordedSeen → List Known → ℕ × RowSeen → List Addition
 costs_at rs known at = option_map_or (cost_additions rs at.1) (slice_get known at.0) []
 
--- what the rows of a walk cost
 abbrev pub all_costs : List RecordedSeen → List Known → List RowSeen → List Addition
 all_costs rs known rows = flat_map (costs_at rs known) (enumerate_from 0 rows)

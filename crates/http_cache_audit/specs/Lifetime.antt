@@ -1,4 +1,4 @@
--- What gives the lifetime of a stored response, as it was written.
+-- The source of a stored response's lifetime, as it was written.
 use Rattle.std.specs.Prelude.{ℕ, ℤ, ◌/◌, ◌||◌, Bool, false, List, codes, bytes_eq, is_some, Option, Some, None}
 use Rattle.std.specs.Prelude.{if◌then◌else◌}
 use Rattle.std.specs.Option.{option_map_or}
@@ -14,24 +14,22 @@ use Rattle.http_cache_rules.specs.declared.freshness.LifetimeSource.TheVariants 
 use Rattle.http_cache_audit.specs.Lint.{first_named}
 use Rattle.http_cache_audit.specs.Row.{LifetimeSeen, KeptSeen}
 
--- whole seconds of nanoseconds
 abbrev pub whole_seconds : ℕ → ℕ
 whole_seconds nanos = nanos / 1_000_000_000
 
--- the seconds of a piece can be read
 abbrev pub is_readable : List ℕ → Bool
 is_readable piece = option_map_or (λ v. is_some (number (unquote v))) (raw_value_of piece) false
 
--- the words for what gives a lifetime, and its text
+-- words for the source, and its text
 abbrev pub SourceSeen : Type 0
 SourceSeen = List ℕ × Option (List ℕ)
 
--- a directive with seconds, by its first piece
+-- by the first piece of the directive
 abbrev pub by_seconds : Option (List ℕ) → List ℕ → List ℕ → SourceSeen
 by_seconds None name unreadable = (name, None)
 by_seconds (Some piece) name unreadable = ((if is_readable piece then name else unreadable), Some piece)
 
--- an Expires that is no date: `0` and `-1` mean the past
+-- `0` and `-1` mean the past
 abbrev pub by_unreadable_expires : Option (List ℕ) → SourceSeen
 by_unreadable_expires None = (codes "expires unreadable", None)
 by_unreadable_expires (Some text) = (
@@ -39,7 +37,6 @@ by_unreadable_expires (Some text) = (
   Some text,
 )
 
--- what gives the lifetime of a response with these headers
 unfoldable pub source_of : Headers → LifetimeSource → SourceSeen
 source_of h source.NotStorable = (codes "not storable", None)
 source_of h source.NoCache =
@@ -58,7 +55,6 @@ source_of h source.LastModified = (codes "last-modified", first_text h (codes "l
 source_of h source.Immutable = (codes "immutable", None)
 source_of h source.Nothing = (codes "none given", None)
 
--- how long a stored response stays fresh, and what gives that
 unfoldable pub lifetime_of : Exchange → LifetimeSeen
 lifetime_of e = record {
   seconds = whole_seconds (freshness e).1;
@@ -66,6 +62,5 @@ lifetime_of e = record {
   source = (source_of e.response_headers (freshness e).0).1;
 }
 
--- what is kept of a response that is received at a time
 abbrev pub kept_of : Exchange → ℤ → KeptSeen
 kept_of e received = record { lifetime = lifetime_of e; left = whole_seconds (time_to_live_at e received) }

@@ -18,32 +18,27 @@ use Rattle.http_cache_rules.specs.Dates.{first_date, second_start, when}
 use Rattle.http_cache_audit.specs.Again.{opaque}
 use Rattle.http_cache_audit.specs.Own.{date_in}
 
--- the pieces of the Cache-Control lines
 abbrev pub cache_pieces : Headers → List (List ℕ)
 cache_pieces h = pieces_under h (codes "cache-control")
 
--- the directive of a piece has the name
 abbrev pub is_named : List ℕ → List ℕ → Bool
 is_named name piece = bytes_eq (name_of piece) name
 
--- the first piece whose directive has the name
 abbrev pub first_named : Headers → List ℕ → Option (List ℕ)
 first_named h name = find (is_named name) (cache_pieces h)
 
--- a piece has the name of another, and says something else
+-- the piece has the same name as another, and another value
 abbrev pub says_other : List ℕ → List ℕ → List ℕ → Bool
 says_other name one piece = is_named name piece && not (same_value (raw_value_of one) (raw_value_of piece))
 
--- two pieces of a name say different things: one says something else than the first
+-- some piece has another value than the first of its name
 unfoldable pub is_in_conflict : List ℕ → Headers → Bool
 is_in_conflict name h =
     option_map_or (λ one. list_any (says_other name one) (cache_pieces h)) (first_named h name) false
 
--- a piece has a `;`
 abbrev pub has_semicolon : List ℕ → Bool
 has_semicolon piece = list_any (λ b. nat_eq b 59) piece
 
--- a value begins with a quote
 abbrev pub begins_quoted : List ℕ → Bool
 begins_quoted [] = false
 begins_quoted (b ∷ bs) = b == 34
@@ -54,18 +49,17 @@ is_quoted piece =
     (is_named (codes "max-age") piece || is_named (codes "s-maxage") piece)
     && option_map_or begins_quoted (raw_value_of piece) false
 
--- a blank is in a directive without quotes and `;`
+-- a directive contains a blank, but no quotes and no `;`
 abbrev pub lacks_comma : List ℕ → Bool
 lacks_comma piece =
     list_any (λ b. nat_eq b 32) piece && not (list_any (λ b. nat_eq b 34) piece) && not (has_semicolon piece)
 
--- no number of seconds is after `max-age` or `s-maxage`, and no other flaw explains it
+-- `max-age` or `s-maxage` has no number of seconds, and no other flaw explains it
 abbrev pub lacks_seconds : List ℕ → Bool
 lacks_seconds piece =
     (is_named (codes "max-age") piece || is_named (codes "s-maxage") piece) && not (has_semicolon piece)
     && not (lacks_comma piece) && option_map_or (λ value. is_none (number (unquote value))) (raw_value_of piece) true
 
--- what looks wrong in a directive
 abbrev pub has_flaw : Finding → List ℕ → Bool
 has_flaw finding.Conflict piece = false
 has_flaw finding.Semicolon piece = has_semicolon piece
@@ -85,26 +79,24 @@ has_flaw finding.VaryAny piece = false
 has_flaw finding.VaryCookie piece = false
 has_flaw finding.VaryUserAgent piece = false
 
--- Date is more than a minute before a time
+-- by more than a minute
 abbrev pub is_dated_before : ℤ → Headers → Bool
 is_dated_before received h =
     option_map_or (λ date. int_lt (pos 60_000_000_000) (received -ℤ date)) (date_in h) false
 
--- Date is more than a minute after a time
+-- by more than a minute
 abbrev pub is_dated_after : ℤ → Headers → Bool
 is_dated_after received h =
     option_map_or (λ date. int_lt (pos 60_000_000_000) (date -ℤ received)) (date_in h) false
 
--- the seconds of `max-age`
 abbrev pub seconds_of : Headers → Option ℕ
 seconds_of h =
     option_and_then (λ piece. option_and_then (λ v. number (unquote v)) (raw_value_of piece)) (first_named h (codes "max-age"))
 
--- the nanosecond so many seconds after a time
 abbrev pub after : ℤ → ℕ → ℤ
 after time seconds = time +ℤ (pos seconds *ℤ pos 1_000_000_000)
 
--- two times differ from so many seconds by more than a minute
+-- by more than a minute
 abbrev pub differ : ℤ → ℤ → ℕ → Bool
 differ from to seconds =
     int_lt (after from seconds) (to -ℤ pos 60_000_000_000) || int_lt (to +ℤ pos 60_000_000_000) (after from seconds)
@@ -112,18 +104,17 @@ differ from to seconds =
 abbrev pub differ_by : ℕ → ℤ → Option ℤ → Bool
 differ_by seconds expires date = option_map_or (λ from. differ from expires seconds) date false
 
--- Expires and `max-age` say different times
+-- Expires and `max-age` mean different times
 abbrev pub is_against : Headers → Bool
 is_against h =
     option_map_or
     (λ seconds. option_map_or (λ expires. differ_by seconds expires (date_in h)) (first_date h (codes "expires")) false)
     (seconds_of h) false
 
--- a text of Expires isn't a date, and not one of those by which a past time is meant
+-- `0` and `-1` mean a past time, on purpose
 abbrev pub is_no_date : List ℕ → Bool
 is_no_date text = not (bytes_eq text (codes "0")) && not (bytes_eq text (codes "-1")) && is_none (option_map second_start (when text))
 
--- Expires can't be read
 abbrev pub is_unread : Headers → Bool
 is_unread h = option_map_or is_no_date (first_text h (codes "expires")) false
 
@@ -136,18 +127,15 @@ is_bare_tag tag =
 abbrev pub is_bare : Headers → Bool
 is_bare h = option_map_or is_bare_tag (first_text h (codes "etag")) false
 
--- Vary has a name
 abbrev pub varies_by : List ℕ → Headers → Bool
 varies_by name h = list_any (λ piece. bytes_eq (lowercase piece) name) (pieces_under h (codes "vary"))
 
 abbrev pub lacks_cache_control : Headers → Bool
 lacks_cache_control h = not (contains_key h (codes "cache-control"))
 
--- a directive is in Cache-Control
 abbrev pub says : Headers → List ℕ → Bool
 says h name = has (cache_control h) name
 
--- something looks wrong in a response that is received at a time
 unfoldable pub holds : Finding → ℤ → Headers → Bool
 holds finding.Conflict received h = is_in_conflict (codes "max-age") h || is_in_conflict (codes "s-maxage") h
 holds finding.Semicolon received h = list_any (has_flaw finding.Semicolon) (cache_pieces h)
@@ -168,7 +156,6 @@ holds finding.VaryAny received h = varies_by (codes "*") h
 holds finding.VaryCookie received h = varies_by (codes "cookie") h
 holds finding.VaryUserAgent received h = varies_by (codes "user-agent") h
 
--- the words for it
 unfoldable pub words_of : Finding → List ℕ
 words_of finding.Conflict = codes "conflicting directives"
 words_of finding.Semicolon = codes "; in Cache-Control"
@@ -188,23 +175,21 @@ words_of finding.VaryAny = codes "Vary: *"
 words_of finding.VaryCookie = codes "Vary: Cookie"
 words_of finding.VaryUserAgent = codes "Vary: User-Agent"
 
--- all that may look wrong, in the order in which it is printed
+-- in the order of the output
 abbrev pub findings : List Finding
 findings =
     finding.Conflict ∷ finding.Semicolon ∷ finding.NoComma ∷ finding.Quoted ∷ finding.NotSeconds
     ∷ finding.NoStoreBeside ∷ finding.PublicPrivate ∷ finding.PragmaAlone ∷ finding.ExpiresAlone
     ∷ finding.ExpiresAgainst ∷ finding.NotExpires ∷ finding.BareTag ∷ finding.FutureDate ∷ finding.OldDate ∷ finding.VaryAny ∷ finding.VaryCookie ∷ finding.VaryUserAgent ∷ []
 
--- the words of a hint, if it holds
 abbrev pub hint : Bool → List ℕ → List (List ℕ)
 hint true words = words ∷ []
 hint false words = []
 
--- its words, if it holds in a response that is received at a time
 abbrev pub hint_of : ℤ → Headers → Finding → List (List ℕ)
 hint_of received h f = hint (holds f received h) (words_of f)
 
--- the words for what looks wrong in the response of an entry, if it is from the network
+-- only a response from the network has hints
 abbrev pub hints_in : ℤ → AnswerSeen → List (List ℕ)
 hints_in received failed = []
 hints_in received (cached r) = []

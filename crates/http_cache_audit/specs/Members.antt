@@ -18,11 +18,10 @@ use Rattle.http_cache_audit.specs.declared.row.Again.{Again}
 use Rattle.http_cache_audit.specs.declared.row.Again.TheVariants.{Changed, InFull, Unasked, Unknown}
 use Rattle.http_cache_audit.specs.Row.{LifetimeSeen, UsedSeen, KeptSeen, ReceivedSeen, nothing, stored, updated}
 use Rattle.http_cache_audit.specs.Row.{updated_other, not_storable, browser, failed, nothing_stored, not_selected, passed}
-use Rattle.http_cache_audit.specs.Row.{VerdictSeen, RowSeen}
+use Rattle.http_cache_audit.specs.Row.{AuditVerdictSeen, RowSeen}
 use Rattle.http_cache_audit.specs.Lint.{hint, hints_of}
 use Rattle.http_cache_audit.specs.Others.{others_of}
 
--- the value of a member
 pub data ShownSeen : Type 0 where
   text : List ℕ → ShownSeen
   count : ℕ → ShownSeen
@@ -35,21 +34,19 @@ shown_seen (shown.Count n) = count n
 shown_seen (shown.Texts ts) = texts (map string_bytes ts.items)
 shown_seen shown.Yes = yes
 
--- a name and a value
 abbrev pub Member : Type 0
 Member = List ℕ × ShownSeen
 
 abbrev pub member_seen : Bor (List ℕ) × Shown → Member
 member_seen m = (m.0.now, shown_seen m.1)
 
--- members with one more
 abbrev pub with_text : List ℕ → List ℕ → List Member → List Member
 with_text name t ms = ms ++ (name, text t) ∷ []
 
 abbrev pub with_count : List ℕ → ℕ → List Member → List Member
 with_count name n ms = ms ++ (name, count n) ∷ []
 
--- the same, if there is something to print
+-- nothing is added for None
 unfoldable pub with_some_text : List ℕ → Option (List ℕ) → List Member → List Member
 with_some_text name t ms = option_map_or (λ t. with_text name t ms) t ms
 
@@ -62,7 +59,7 @@ with_yes name holds ms = if holds then ms ++ (name, yes) ∷ [] else ms
 
 -- ---- words
 
--- what an entry is counted as
+-- how an entry is counted
 abbrev pub word_of_kind : Kind → List ℕ
 word_of_kind kind.Internal = codes "internal"
 word_of_kind kind.Preflight = codes "preflight"
@@ -75,7 +72,7 @@ unfoldable pub kind_word : ReadingSeen → List ℕ
 kind_word (entry e) = word_of_kind e.kind
 kind_word (skipped reason) = codes "skipped"
 
--- what a cache would have answered, or the kind of what is counted apart
+-- what a cache would have answered, or the kind of an entry that is counted apart
 abbrev pub outcome_word : ReadingSeen → Outcome → List ℕ
 outcome_word reading Apart = kind_word reading
 outcome_word reading Fresh = codes "fresh"
@@ -85,9 +82,8 @@ outcome_word reading Miss = codes "miss"
 outcome_word reading MissVary = codes "miss-vary"
 
 unfoldable pub verdict_word : RowSeen → List ℕ
-verdict_word r = outcome_word r.recorded.reading (option_map_or (λ (v : VerdictSeen). v.outcome) r.verdict Apart)
+verdict_word r = outcome_word r.recorded.reading (option_map_or (λ (v : AuditVerdictSeen). v.outcome) r.verdict Apart)
 
--- what became of the response
 unfoldable pub received_word : ReceivedSeen → List ℕ
 received_word nothing = codes "none"
 received_word (stored k) = codes "stored"
@@ -100,14 +96,13 @@ received_word nothing_stored = codes "304 for nothing stored"
 received_word not_selected = codes "304 not selected"
 received_word passed = codes "passed"
 
--- what a full response means
 abbrev pub again_word : Again → List ℕ
 again_word Changed = codes "changed"
 again_word InFull = codes "unchanged in full"
 again_word Unasked = codes "asked without a condition"
 again_word Unknown = codes "no way to tell"
 
--- how a question ended to which no full response was received
+-- without a full response
 abbrev pub end_by_received : ReceivedSeen → List ℕ
 end_by_received (updated k) = codes "304"
 end_by_received received = received_word received
@@ -117,11 +112,11 @@ end_by_outcome Validate received = Some (end_by_received received)
 end_by_outcome Refetch received = Some (end_by_received received)
 end_by_outcome outcome received = None
 
--- how a question about a stored response ended
-unfoldable pub end_word : VerdictSeen → Option (List ℕ)
+-- how a validation ended
+unfoldable pub end_word : AuditVerdictSeen → Option (List ℕ)
 end_word v = option_map_or (λ a. Some (again_word a)) v.again (end_by_outcome v.outcome v.received)
 
--- what a request asks for beside its target: a limit only of what is fresh
+-- a limit is only reported for a fresh response
 unfoldable pub demand_word : Option Demand → Option UsedSeen → Option (List ℕ)
 demand_word None used = None
 demand_word (Some NoCache) used = Some (codes "request no-cache")
@@ -164,14 +159,13 @@ with_fresh u is_asked ms =
     with_lifetime u.lifetime (with_saved is_asked u.saved
     (with_yes (codes "stale_allowed") u.is_stale (with_count (codes "ttl") u.left ms)))
 
--- one that the origin is asked about
+-- a stored response that is validated
 unfoldable pub with_asked_about : UsedSeen → List Member → List Member
 with_asked_about u ms =
     let all = with_count (codes "lifetime") u.lifetime.seconds ms in
     if u.is_stale
     then with_some_text (codes "stale_source") u.lifetime.source (with_text (codes "stale_by") u.lifetime.by all) else all
 
--- no response was asked for
 abbrev pub is_nothing : ReceivedSeen → Bool
 is_nothing nothing = true
 is_nothing received = false
@@ -184,17 +178,16 @@ is_fresh Refetch = false
 is_fresh Miss = false
 is_fresh MissVary = false
 
-abbrev pub with_one_used : VerdictSeen → UsedSeen → List Member → List Member
+abbrev pub with_one_used : AuditVerdictSeen → UsedSeen → List Member → List Member
 with_one_used v u ms =
     let all = with_count (codes "from_entry") u.from (with_count (codes "age") u.age ms) in
     if is_fresh v.outcome then with_fresh u (is_nothing v.received) all else with_asked_about u all
 
-unfoldable pub with_used : VerdictSeen → List Member → List Member
+unfoldable pub with_used : AuditVerdictSeen → List Member → List Member
 with_used v ms =
     let all = with_some_text (codes "asks_for") (demand_word v.demand v.used) ms in
     option_map_or (λ u. with_one_used v u all) v.used all
 
--- what was stored or updated
 unfoldable pub kept_in : ReceivedSeen → Option KeptSeen
 kept_in (stored k) = Some k
 kept_in (updated k) = Some k
@@ -209,7 +202,6 @@ with_kept k ms =
     with_lifetime k.lifetime (with_zero k.lifetime
     (with_count (codes "new_ttl") k.left (with_count (codes "new_lifetime") k.lifetime.seconds ms)))
 
--- why a response isn't stored
 unfoldable pub with_reasons : PrintedSeen → ReceivedSeen → List Member → List Member
 with_reasons p (not_storable o) ms = with_texts (codes "reasons") (reasons (unwrap_or p.method []) p.status o) ms
 with_reasons p received ms = ms
@@ -219,11 +211,11 @@ with_received p received ms =
     let all = with_reasons p received (with_text (codes "received") (received_word received) ms) in
     option_map_or (λ k. with_kept k all) (kept_in received) all
 
--- a number that isn't 0
+-- a number that is 0 is left out
 unfoldable pub with_some_count : List ℕ → ℕ → List Member → List Member
 with_some_count name n ms = if nat_lt 0 n then with_count name n ms else ms
 
-unfoldable pub with_verdict : RowSeen → VerdictSeen → List Member → List Member
+unfoldable pub with_verdict : RowSeen → AuditVerdictSeen → List Member → List Member
 with_verdict r v ms =
     with_count (codes "sent") r.recorded.printed.sent (with_some_count (codes "invalidated") r.invalidated
     (with_yes (codes "no_cache") r.no_cache (with_yes (codes "seeded") v.seeded
@@ -231,20 +223,19 @@ with_verdict r v ms =
     (with_received r.recorded.printed v.received (with_texts (codes "missed_by") v.missed_by
     (with_some_text (codes "validator") v.validator (with_used v ms)))))))))
 
--- what looks wrong in the response, and what other caches say of it
+-- what looks wrong in the response, and what other caches report of it
 abbrev pub with_entry : EntrySeen → List Member → List Member
 with_entry e ms = with_texts (codes "others") (others_of e) (with_texts (codes "hints") (hints_of e) ms)
 
--- the same, or why the entry isn't audited
+-- likewise, or why the entry isn't audited
 unfoldable pub with_reading : ReadingSeen → List Member → List Member
 with_reading (entry e) ms = with_entry e ms
 with_reading (skipped reason) ms = with_text (codes "reason") reason ms
 
--- a url up to its query, if that isn't printed
+-- without its query, if that isn't printed
 abbrev pub shown_url : Bool → List ℕ → List ℕ
 shown_url hides url = if hides then before_first (λ b. b == 63) url else url
 
--- what is printed of every entry
 unfoldable pub printed_members : Bool → RowSeen → List Member
 printed_members hides r =
     let p = r.recorded.printed in
@@ -252,11 +243,9 @@ printed_members hides r =
     (option_map (shown_url hides) p.url)
     (with_some_text (codes "method") p.method (with_text (codes "verdict") (verdict_word r) []))))
 
--- what a cache would have done, if the entry is audited
 unfoldable pub with_audited : RowSeen → List Member → List Member
 with_audited r ms = option_map_or (λ v. with_verdict r v ms) r.verdict ms
 
--- the members of a row
 unfoldable pub members_of : Bool → RowSeen → List Member
 members_of hides r =
     let p = r.recorded.printed in

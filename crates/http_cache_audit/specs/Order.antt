@@ -10,33 +10,30 @@ use Rattle.http_cache_recording.specs.Entry.{RecordedSeen, recorded_seen, Readin
 use Rattle.http_cache_recording.specs.Entry.{entry_seen}
 use Rattle.http_cache_audit.specs.declared.order.Sent.{Sent}
 
--- when an entry was sent, and its index in the recording
+-- the time at which an entry was sent, and its index in the recording
 abbrev pub Moment : Type 0
 Moment = ℤ × ℕ
 
--- the entry, if it isn't skipped
 abbrev pub entry_in : ReadingSeen → Option EntrySeen
 entry_in (entry e) = Some e
 entry_in (skipped s) = None
 
--- when what has an index was sent, if that is an entry
 abbrev pub moment_at : ℕ × RecordedSeen → Option Moment
 moment_at at = option_map (λ e. (e.started, at.0)) (entry_in at.1.reading)
 
--- when all entries were sent, in the order of the recording
+-- in the order of the recording
 abbrev pub moments : List RecordedSeen → List Moment
 moments rs = flat_map (λ at. option_to_list (moment_at at)) (enumerate_from 0 rs)
 
--- by when they were sent, and of those sent at once by index
+-- by the time of the request, and by index for equal times
 abbrev pub by_moment : Moment → Moment → Ordering
 by_moment x y = ordering_then (int_cmp x.0 y.0) (nat_cmp x.1 y.1)
 
--- these are the moments of all entries, each once, the earlier before the later
+-- the times of all entries, each once, in order
 pub record IsOrder (rs : List RecordedSeen) (order : List Moment) : Type 0 where
   pub each_once : IsPermutation (moments rs) order
   pub ascending : IsSorted by_moment order
 
--- an entry, its index, and what was recorded
 pub record SentSeen : Type 0 where
   pub index : ℕ
   pub recorded : RecordedSeen
@@ -45,22 +42,18 @@ pub record SentSeen : Type 0 where
 abbrev pub sent_seen : Sent → SentSeen
 sent_seen s = record { index = s.index; recorded = recorded_seen s.recorded.now; entry = entry_seen s.entry.now }
 
--- its target
 abbrev pub target_of : RecordedSeen → List ℕ
 target_of r = unwrap_or r.printed.url []
 
--- the entry of a moment
 abbrev pub sent_at : List RecordedSeen → Moment → Option SentSeen
 sent_at rs at =
     option_and_then
     (λ r. option_map (λ e. record { index = at.1; recorded = r; entry = e }) (entry_in r.reading))
     (slice_get rs at.1)
 
--- the entries of moments, in their order
 abbrev pub sent_in : List RecordedSeen → List Moment → List SentSeen
 sent_in rs order = flat_map (λ at. option_to_list (sent_at rs at)) order
 
--- these are the entries of a recording in the order of the walk
 pub record IsWalk (rs : List RecordedSeen) (sent : List SentSeen) : Type 0 where
   pub order : List Moment
   pub ordered : IsOrder rs order

@@ -1,4 +1,4 @@
--- All that an audit writes.
+-- The output of an audit.
 use Rattle.std.specs.Prelude.{◌≡◌, ℕ, nat_le, nat_lt, ◌&&◌, ◌||◌, not, Bool, true, false, List, [], ◌++◌, map, fold, codes}
 use Rattle.std.specs.Prelude.{decimal, bytes_eq, string_bytes, String, if◌then◌else◌}
 use Rattle.std.specs.List.{flat_map, list_any}
@@ -19,7 +19,6 @@ use Rattle.http_cache_audit.specs.Walk.{AreRows}
 use Rattle.http_cache_audit.specs.Members.{ShownSeen, text, count, texts, yes, Member, members_of}
 use Rattle.http_cache_audit.specs.Counts.{Addition, HoldsCounts, additions_of, is_noticed, total_in}
 
--- how a recording is audited
 pub record SettingsSeen : Type 0 where
   pub options : Options
   pub hides_queries : Bool
@@ -31,15 +30,14 @@ settings_seen s = record { options = options_of s.options; hides_queries = s.hid
 
 -- ---- a row
 
--- a blank or a byte from `!` to `~`; `?` for another
+-- `?` stands for any byte but a blank and `!` to `~`
 abbrev pub printed_byte : ℕ → ℕ
 printed_byte b = if nat_le 32 b && nat_le b 126 then b else 63
 
--- a text after its name
 unfoldable pub named_text : List ℕ → List ℕ → List ℕ
 named_text name t = codes ", " ++ (name ++ (codes " " ++ t))
 
--- a member in a plain line: verdict, load, method and url have no name before them
+-- the verdict, the load, the method and the url have no name before them
 unfoldable pub word_text : List ℕ → List ℕ → List ℕ
 word_text name t =
     if bytes_eq name (codes "verdict") || bytes_eq name (codes "load") then t
@@ -57,7 +55,6 @@ member_text m = shown_text m.0 m.1
 abbrev pub line_text : List Member → List ℕ
 line_text ms = flat_map member_text ms
 
--- a member in an object
 unfoldable pub data_of : ShownSeen → Data
 data_of (text t) = string t
 data_of (count n) = number (unsigned n)
@@ -70,7 +67,6 @@ with_data all m = put m.0 (data_of m.1) all
 abbrev pub object_of : List Member → Members
 object_of ms = fold with_data no_members ms
 
--- the line of a row
 unfoldable pub row_text : Bool → List Member → List ℕ
 row_text json ms =
     (if json then compact_text (object (object_of ms)) else map printed_byte (line_text ms)) ++ codes "\n"
@@ -83,21 +79,21 @@ CountSeen = List ℕ × ℕ
 abbrev pub count_seen : String Global × ℕ → CountSeen
 count_seen c = (string_bytes c.0, c.1)
 
--- a count in a line of its own, unless it is 0
+-- a count that is 0 is left out
 abbrev pub count_text : CountSeen → List ℕ
 count_text c = if nat_lt 0 c.1 then c.0 ++ codes " " ++ decimal c.1 ++ codes "\n" else []
 
 abbrev pub with_count : Members → CountSeen → Members
 with_count all c = if nat_lt 0 c.1 then put c.0 (number (unsigned c.1)) all else all
 
--- ---- what the recording itself may mislead by
+-- ---- how the recording itself may mislead
 
 abbrev pub sets_cookies : AnswerSeen → Bool
 sets_cookies failed = false
 sets_cookies (cached r) = contains_key r.headers (codes "set-cookie")
 sets_cookies (received r) = contains_key r.headers (codes "set-cookie")
 
--- an entry has a header that an export leaves out if it is sanitized
+-- a sanitized export leaves these headers out
 unfoldable pub has_credentials : ReadingSeen → Bool
 has_credentials (skipped reason) = false
 has_credentials (entry e) =
@@ -117,7 +113,6 @@ given holds line = if holds then line else []
 abbrev pub any_credentials : List RecordedSeen → Bool
 any_credentials rs = list_any (λ (r : RecordedSeen). has_credentials r.reading) rs
 
--- the counts as an object, with what the recording may mislead by
 abbrev pub counts_of : Notes → List CountSeen → Members
 counts_of n cs =
     put (codes "no_credentials") (boolean n.no_credentials) (put (codes "cache_off") (boolean n.cache_off)
@@ -126,7 +121,6 @@ counts_of n cs =
 abbrev pub summary_of : Notes → List CountSeen → Members
 summary_of n cs = put (codes "summary") (object (counts_of n cs)) no_members
 
--- what follows the rows
 unfoldable pub end_text : Bool → Notes → List CountSeen → List ℕ
 end_text true n cs = compact_text (object (summary_of n cs)) ++ codes "\n"
 end_text false n cs = flat_map count_text cs ++ given n.cache_off cache_off ++ given n.no_credentials no_credentials
@@ -136,7 +130,6 @@ end_text false n cs = flat_map count_text cs ++ given n.cache_off cache_off ++ g
 abbrev pub row_additions : Bool → RowSeen → List Addition
 row_additions hides r = additions_of r (members_of hides r)
 
--- all that is counted of rows
 abbrev pub all_additions : Bool → List RowSeen → List Addition
 all_additions hides rows = flat_map (row_additions hides) rows
 
@@ -146,8 +139,7 @@ row_line s r = row_text s.json (members_of s.hides_queries r)
 abbrev pub rows_text : SettingsSeen → List RowSeen → List ℕ
 rows_text s rows = flat_map (row_line s) rows
 
--- the text of the audit of a recording: the rows of its walk, then the sums of what they count, in the order of their
--- labels
+-- the rows of its walk, then the sums of what they count, in the order of their labels
 pub record IsAudit (s : SettingsSeen) (rs : List RecordedSeen) (hits : Hits) (text : List ℕ) : Type 0 where
   pub target : Uri
   pub rows : List RowSeen

@@ -1,10 +1,10 @@
--- What is seen of the rows of an audit.
+-- The rows of an audit, as contracts see them.
 use Rattle.std.specs.Prelude.{ℕ, Bool, List, Option, option_map, map, String, string_bytes}
 use Rattle.std.specs.declared.alloc.Global.{Global}
 use Rattle.http_cache_recording.specs.Entry.{RecordedSeen, recorded_seen}
 use Rattle.http_cache_rules.specs.declared.storability.Obstacles.{Obstacles}
 use Rattle.http_cache_audit.specs.declared.row.Row.{Row}
-use Rattle.http_cache_audit.specs.declared.row.Verdict.{Verdict}
+use Rattle.http_cache_audit.specs.declared.row.AuditVerdict.{AuditVerdict}
 use Rattle.http_cache_audit.specs.declared.row.Outcome.{Outcome}
 use Rattle.http_cache_audit.specs.declared.row.Demand.{Demand}
 use Rattle.http_cache_audit.specs.declared.row.Again.{Again}
@@ -14,7 +14,7 @@ use Rattle.http_cache_audit.specs.declared.row.Kept.{Kept}
 use Rattle.http_cache_audit.specs.declared.row.Received.{Received}
 use Rattle.http_cache_audit.specs.declared.row.Received.TheVariants as got
 
--- a lifetime in whole seconds, the words for what gives it, and its text
+-- a lifetime in whole seconds, words for its source, and its text
 pub record LifetimeSeen : Type 0 where
   pub seconds : ℕ
   pub by : List ℕ
@@ -23,7 +23,7 @@ pub record LifetimeSeen : Type 0 where
 abbrev pub lifetime_seen : Lifetime → LifetimeSeen
 lifetime_seen l = record { seconds = l.seconds; by = l.by.now; source = option_map string_bytes l.source }
 
--- a stored response where it answers, or is asked about
+-- a stored response that answers, or that is validated
 pub record UsedSeen : Type 0 where
   pub from : ℕ
   pub saved : Option ℕ
@@ -42,7 +42,7 @@ used_seen u = record {
   is_stale = u.is_stale;
 }
 
--- what was stored or updated: its lifetime, and what is left of that
+-- the lifetime of a stored or updated response, and the rest of it
 pub record KeptSeen : Type 0 where
   pub lifetime : LifetimeSeen
   pub left : ℕ
@@ -50,7 +50,6 @@ pub record KeptSeen : Type 0 where
 abbrev pub kept_seen : Kept → KeptSeen
 kept_seen k = record { lifetime = lifetime_seen k.lifetime; left = k.time_to_live }
 
--- what became of the response
 pub data ReceivedSeen : Type 0 where
   nothing : ReceivedSeen
   stored : KeptSeen → ReceivedSeen
@@ -75,12 +74,10 @@ received_seen got.NothingStored = nothing_stored
 received_seen got.NotSelected = not_selected
 received_seen got.Passed = passed
 
--- texts
 abbrev pub texts : List (String Global) → List (List ℕ)
 texts ts = map string_bytes ts
 
--- what a cache would have done with a request and its response
-pub record VerdictSeen : Type 0 where
+pub record AuditVerdictSeen : Type 0 where
   pub outcome : Outcome
   pub used : Option UsedSeen
   pub demand : Option Demand
@@ -90,8 +87,8 @@ pub record VerdictSeen : Type 0 where
   pub again : Option Again
   pub seeded : Bool
 
-abbrev pub verdict_seen : Verdict → VerdictSeen
-verdict_seen v = record {
+abbrev pub audit_verdict_seen : AuditVerdict → AuditVerdictSeen
+audit_verdict_seen v = record {
   outcome = v.outcome;
   used = option_map used_seen v.used;
   demand = v.demand;
@@ -102,12 +99,11 @@ verdict_seen v = record {
   seeded = v.seeded;
 }
 
--- an entry, with what a cache would have done
 pub record RowSeen : Type 0 where
   pub index : ℕ
   pub recorded : RecordedSeen
   pub assumed : List (List ℕ)
-  pub verdict : Option VerdictSeen
+  pub verdict : Option AuditVerdictSeen
   pub repeated : Bool
   pub no_cache : Bool
   pub invalidated : ℕ
@@ -117,7 +113,7 @@ row_seen r = record {
   index = r.index;
   recorded = recorded_seen r.recorded.now;
   assumed = texts r.assumed.items;
-  verdict = option_map verdict_seen r.verdict;
+  verdict = option_map audit_verdict_seen r.verdict;
   repeated = r.repeated;
   no_cache = r.no_cache;
   invalidated = r.invalidated;

@@ -1,4 +1,4 @@
--- The last requests that went over the network, of which headers may be assumed.
+-- The last requests over the network, whose headers may be assumed.
 use Rattle.std.specs.Prelude.{◌≡◌, ℕ, ◌+◌, ◌==◌, Bool, true, false, ◌&&◌, ◌||◌, List, codes, bytes_eq, take, drop}
 use Rattle.std.specs.Prelude.{reverse}
 use Rattle.std.specs.Prelude.{Option, option_map, if◌then◌else◌}
@@ -11,7 +11,6 @@ use Rattle.http_cache_recording.specs.declared.entry.Kind.TheVariants as kind
 use Rattle.http_cache_audit.specs.declared.sources.Sources.{Sources}
 use Rattle.http_cache_audit.specs.Order.{SentSeen, target_of}
 
--- a store could have answered the request
 abbrev pub is_asked : Kind → Bool
 is_asked kind.Internal = false
 is_asked kind.Preflight = false
@@ -20,42 +19,38 @@ is_asked kind.Range = false
 is_asked kind.Failed = false
 is_asked kind.Asked = true
 
--- the response is from the network
 abbrev pub is_received : AnswerSeen → Bool
 is_received failed = false
 is_received (cached r) = false
 is_received (received r) = true
 
--- headers may be assumed of the request: the network was asked as a store would have asked
+-- the network was asked as a store would have asked
 abbrev pub is_source : EntrySeen → Bool
 is_source e = is_asked e.kind && is_received e.answer
 
--- `/` or `?`
 abbrev pub is_end : ℕ → Bool
 is_end b = b == 47 || b == 63
 
--- how many bytes of a text are before its first `/` or `?`
+-- up to the first `/` or `?`
 abbrev pub len_to_end : List ℕ → ℕ
 len_to_end text = position_or_len is_end text
 
--- the scheme and the authority of a target: up to the first `/` or `?` after `//`
+-- the scheme and the authority of a target, up to the first `/` or `?` after `//`
 unfoldable pub host_of : List ℕ → List ℕ
 host_of target = let start = len_to_end target + 2 in take (start + len_to_end (drop start target)) target
 
--- the last source whose target has a text in some form
+-- the last source whose target, in some form, is a text
 abbrev pub last_by : (List ℕ → List ℕ) → List ℕ → List SentSeen → Option EntrySeen
 last_by form text before =
     option_map (λ o. o.entry)
     (find (λ o. is_source o.entry && bytes_eq (form (target_of o.recorded)) text) (reverse before))
 
--- the last source for a target, and at a host
 abbrev pub last_for : List ℕ → List SentSeen → Option EntrySeen
 last_for target before = last_by (λ t. t) target before
 
 abbrev pub last_at : List ℕ → List SentSeen → Option EntrySeen
 last_at host before = last_by host_of host before
 
--- what is looked up under each target and each host
 pub record SourcesSeen : Type 0 where
   pub by_target : List ℕ → Option EntrySeen
   pub by_host : List ℕ → Option EntrySeen
@@ -66,20 +61,17 @@ sources_seen s = record {
   by_host = λ h. option_map (λ e. entry_seen e.now) (get_by_text s.by_host h);
 }
 
--- the last sources of entries
 abbrev pub sources_of : List SentSeen → SourcesSeen
 sources_of before = record { by_target = λ t. last_for t before; by_host = λ h. last_at h before }
 
--- the last sources of these entries are looked up
 abbrev pub HoldsSources : List SentSeen → SourcesSeen → Type 0
 HoldsSources before s = s ≡ sources_of before
 
--- the request of which a header is assumed: the last for the target, else at the host; of cookies always the latter
+-- the last for the target, or else at the host; for cookies always at the host
 unfoldable pub source_in : SourcesSeen → List ℕ → List ℕ → Option EntrySeen
 source_in s target name =
     if bytes_eq name (codes "cookie") then s.by_host (host_of target)
     else option_or (s.by_target target) (s.by_host (host_of target))
 
--- the same after entries
 abbrev pub source_for : List SentSeen → List ℕ → List ℕ → Option EntrySeen
 source_for before target name = source_in (sources_of before) target name

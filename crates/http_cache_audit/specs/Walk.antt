@@ -1,4 +1,4 @@
--- What a cache would have done with the entries of a recording, one after the other.
+-- What a cache would have done with each entry of a recording, in order.
 use Rattle.std.specs.Prelude.{◌≡◌, ℕ, ℤ, ◌+◌, Bool, true, false, ◌&&◌, ◌||◌, ◌==◌, not, nat_le, nat_lt, List, [], ◌∷◌, ◌++◌}
 use Rattle.std.specs.Prelude.{codes, bytes_eq, length, map, fold, slice_get, Option, Some, None, option_and_then, is_some, unwrap_or}
 use Rattle.std.specs.Prelude.{option_map, if◌then◌else◌, String, Vec}
@@ -24,18 +24,18 @@ use Rattle.http_cache_audit.specs.declared.row.Again.{Again}
 use Rattle.http_cache_audit.specs.declared.stored.Stored.{Stored}
 use Rattle.http_cache_audit.specs.declared.stored.Chosen.{Chosen}
 use Rattle.http_cache_audit.specs.declared.walk.Walk.{Walk}
-use Rattle.http_cache_audit.specs.Row.{ReceivedSeen, nothing, failed, browser, passed, updated, not_storable, VerdictSeen, RowSeen}
+use Rattle.http_cache_audit.specs.Row.{ReceivedSeen, nothing, failed, browser, passed, updated, not_storable, AuditVerdictSeen, RowSeen}
 use Rattle.http_cache_audit.specs.Order.{SentSeen, IsWalk, target_of}
 use Rattle.http_cache_audit.specs.Sources.{is_asked, is_received, SourcesSeen, source_in, sources_of}
 use Rattle.http_cache_audit.specs.Lifetime.{kept_of}
-use Rattle.http_cache_audit.specs.Assume.{AskedSeen, asked_from, with_response}
+use Rattle.http_cache_audit.specs.Assume.{AssumedSeen, without_assumptions, with_response}
 use Rattle.http_cache_audit.specs.Stored.{StoredSeen, stored_seen, choose, used_of, validator_of, differing, put_first}
 use Rattle.http_cache_audit.specs.Stored.{exchange_for, forbidden_by, receive_full, receive_304, receive_own_304}
 use Rattle.http_cache_audit.specs.Stored.{varies_by_all, Receipt}
 use Rattle.http_cache_audit.specs.Again.{again_of, again_by_own}
 use Rattle.http_cache_audit.specs.Own.{received_of, has_own_condition, shown_by}
 
--- how a recording is walked: a cache with options, which is asked for one target by all requests
+-- one target stands for all, since each list of stored responses has one
 pub record WalkSeen : Type 0 where
   pub recorded : List RecordedSeen
   pub options : Options
@@ -50,7 +50,6 @@ walk_seen k = record {
 
 -- ---- requests that are counted apart
 
--- what became of the response
 abbrev pub received_apart : AnswerSeen → ReceivedSeen
 received_apart no_answer = failed
 received_apart (cached r) = browser
@@ -64,20 +63,20 @@ is_passed kind.Range = false
 is_passed kind.Failed = false
 is_passed kind.Asked = false
 
--- the response says that an unsafe request was done (RFC 7234, section 4.4)
+-- the response shows that an unsafe request was done (RFC 7234, section 4.4)
 abbrev pub has_done : AnswerSeen → Bool
 has_done no_answer = false
 has_done (cached r) = false
 has_done (from_network r) = nat_le 200 r.status && nat_lt r.status 400
 
--- a request invalidates what is stored for its target
+-- RFC 7234, section 4.4
 unfoldable pub invalidates : EntrySeen → Bool
 invalidates e =
     is_passed e.kind && not (bytes_eq e.method (codes "OPTIONS")) && not (bytes_eq e.method (codes "TRACE"))
     && has_done e.answer
 
--- a verdict of which only the outcome and what became of the response are known
-abbrev pub verdict_with : Outcome → ReceivedSeen → VerdictSeen
+-- only the outcome and what became of the response are known
+abbrev pub verdict_with : Outcome → ReceivedSeen → AuditVerdictSeen
 verdict_with outcome received = record {
   outcome = outcome;
   used = None;
@@ -89,38 +88,35 @@ verdict_with outcome received = record {
   seeded = false;
 }
 
--- ---- the request as it is asked
+-- ---- the request as a store is asked
 
--- an entry, and the request before it of which each header is assumed
+-- an entry, and the earlier request from which each header is assumed
 pub record WalkedSeen : Type 0 where
   pub sent : SentSeen
   pub source : List ℕ → Option EntrySeen
 
--- an entry, by the last sources before it
 abbrev pub walked_in : SourcesSeen → SentSeen → WalkedSeen
 walked_in sources sent = record { sent = sent; source = source_in sources (target_of sent.recorded) }
 
--- what is assumed by what the stored responses vary by
-abbrev pub assumed_by : WalkedSeen → AskedSeen → List StoredSeen → AskedSeen
+abbrev pub assumed_by : WalkedSeen → AssumedSeen → List StoredSeen → AssumedSeen
 assumed_by w a ss = fold (λ b s. with_response w.source b s.exchange.response_headers) a ss
 
--- where none is stored, by what the response varies by that the browser answered with
-abbrev pub assumed_by_own : WalkedSeen → AskedSeen → List StoredSeen → AnswerSeen → AskedSeen
+-- if nothing is stored, by the Vary of the browser's own answer
+abbrev pub assumed_by_own : WalkedSeen → AssumedSeen → List StoredSeen → AnswerSeen → AssumedSeen
 assumed_by_own w a ss no_answer = a
 assumed_by_own w a [] (cached r) = with_response w.source a r.headers
 assumed_by_own w a (s ∷ ss) (cached r) = a
 assumed_by_own w a ss (from_network r) = a
 
--- a recording may lack headers of what went to no network
-unfoldable pub asked_of : WalkSeen → WalkedSeen → List StoredSeen → AskedSeen
+-- a recording may lack headers of requests that didn't use the network
+unfoldable pub asked_of : WalkSeen → WalkedSeen → List StoredSeen → AssumedSeen
 asked_of k w ss =
-    let a = asked_from k.target w.sent.entry.method w.sent.entry.headers in
+    let a = without_assumptions k.target w.sent.entry.method w.sent.entry.headers in
     if is_received w.sent.entry.answer then a
     else assumed_by_own w (assumed_by w a ss) ss w.sent.entry.answer
 
--- ---- where a stored response is for the request
+-- ---- if a stored response is for the request
 
--- the body of the full response of an entry
 abbrev pub body_in : ReadingSeen → Option BodySeen
 body_in (entry e) = e.body
 body_in (skipped s) = None
@@ -128,45 +124,41 @@ body_in (skipped s) = None
 unfoldable pub body_at : WalkSeen → ℕ → Option BodySeen
 body_at k index = option_and_then (λ r. body_in r.reading) (slice_get k.recorded index)
 
--- what a full response means for the stored one that was asked about
 abbrev pub again_for : WalkSeen → StoredSeen → EntrySeen → AnswerSeen → Option Again
 again_for k s e no_answer = None
 again_for k s e (cached r) = None
 again_for k s e (from_network r) =
     if r.status == 304 then None else Some (again_of s.exchange (body_at k s.from) e r)
 
--- a 304, to a question about the stored response at an index, or to the client's own condition
-abbrev pub receive_not_modified : SentSeen → AskedSeen → ResponseSeen → Option ℕ → List StoredSeen → Receipt
+-- for the validated response at an index, or for the client's own condition
+abbrev pub receive_not_modified : SentSeen → AssumedSeen → ResponseSeen → Option ℕ → List StoredSeen → Receipt
 receive_not_modified sent a r None ss = receive_own_304 a r sent.entry.received ss
-receive_not_modified sent a r (Some place) ss =
-    option_map_or (λ s. receive_304 a r sent.entry.received place s ss) (slice_get ss place) (ss, failed)
+receive_not_modified sent a r (Some index) ss =
+    option_map_or (λ s. receive_304 a r sent.entry.received index s ss) (slice_get ss index) (ss, failed)
 
--- what became of the response where a stored one wasn't used without asking
-unfoldable pub receipt_of : WalkSeen → SentSeen → AskedSeen → AnswerSeen → Option ℕ → List StoredSeen → Receipt
-receipt_of k sent a no_answer place ss = (ss, failed)
-receipt_of k sent a (cached r) place ss = (ss, browser)
-receipt_of k sent a (from_network r) place ss =
-    if r.status == 304 then receive_not_modified sent a r place ss else receive_full k.options sent a r ss
+-- if a stored response wasn't used without validation
+unfoldable pub receipt_of : WalkSeen → SentSeen → AssumedSeen → AnswerSeen → Option ℕ → List StoredSeen → Receipt
+receipt_of k sent a no_answer index ss = (ss, failed)
+receipt_of k sent a (cached r) index ss = (ss, browser)
+receipt_of k sent a (from_network r) index ss =
+    if r.status == 304 then receive_not_modified sent a r index ss else receive_full k.options sent a r ss
 
--- a verdict, and what is stored after it
 abbrev pub Judgement : Type 0
-Judgement = VerdictSeen × List StoredSeen
+Judgement = AuditVerdictSeen × List StoredSeen
 
--- what became of no response, where a stored one is used
 abbrev pub unasked : AnswerSeen → ReceivedSeen
 unasked no_answer = failed
 unasked (cached r) = nothing
 unasked (from_network r) = nothing
 
--- a stored response is used
-unfoldable pub used_fresh : StoredSeen → EntrySeen → VerdictSeen
+unfoldable pub used_fresh : StoredSeen → EntrySeen → AuditVerdictSeen
 used_fresh s e = record (verdict_with Fresh (unasked e.answer)) { used = Some (used_of s e.started) }
 
--- one is asked about
-unfoldable pub asked_about : WalkSeen → SentSeen → AskedSeen → Chosen → StoredSeen → List StoredSeen → Judgement
+-- a stored response is validated
+unfoldable pub asked_about : WalkSeen → SentSeen → AssumedSeen → Chosen → StoredSeen → List StoredSeen → Judgement
 asked_about k sent a c s ss =
     let by = validator_of s.exchange.response_headers in
-    let receipt = receipt_of k sent a sent.entry.answer (Some c.place) ss in (
+    let receipt = receipt_of k sent a sent.entry.answer (Some c.index) ss in (
       record (verdict_with (if is_some by then Validate else Refetch) receipt.1) {
         used = Some (used_of s sent.entry.started);
         demand = c.demand;
@@ -176,7 +168,7 @@ asked_about k sent a c s ss =
       receipt.0,
     )
 
-abbrev pub missed_by : AskedSeen → List StoredSeen → List (List ℕ)
+abbrev pub missed_by : AssumedSeen → List StoredSeen → List (List ℕ)
 missed_by a [] = []
 missed_by a (s ∷ ss) = differing s a
 
@@ -184,27 +176,25 @@ abbrev pub missed_as : List StoredSeen → Outcome
 missed_as [] = Miss
 missed_as (s ∷ ss) = MissVary
 
--- none is for the request
-unfoldable pub missed : WalkSeen → SentSeen → AskedSeen → List StoredSeen → Judgement
+-- no stored response is for the request
+unfoldable pub missed : WalkSeen → SentSeen → AssumedSeen → List StoredSeen → Judgement
 missed k sent a ss =
     let receipt = receipt_of k sent a sent.entry.answer None ss in
     (record (verdict_with (missed_as ss) receipt.1) { missed_by = missed_by a ss }, receipt.0)
 
-abbrev pub answered : WalkSeen → SentSeen → AskedSeen → Chosen → List StoredSeen → StoredSeen → Judgement
+abbrev pub answered : WalkSeen → SentSeen → AssumedSeen → Chosen → List StoredSeen → StoredSeen → Judgement
 answered k sent a c ss s =
     if c.is_fresh then (used_fresh s sent.entry, ss) else asked_about k sent a c s ss
 
--- by what is stored
-unfoldable pub judged : WalkSeen → SentSeen → AskedSeen → List StoredSeen → Judgement
+unfoldable pub judged : WalkSeen → SentSeen → AssumedSeen → List StoredSeen → Judgement
 judged k sent a ss =
     option_map_or
-    (λ c. option_map_or (answered k sent a c ss) (slice_get ss c.place) (missed k sent a ss))
+    (λ c. option_map_or (answered k sent a c ss) (slice_get ss c.index) (missed k sent a ss))
     (choose ss a sent.entry.started) (missed k sent a ss)
 
--- ---- where nothing is stored, and the entry shows that something was before
+-- ---- if nothing is stored, and the entry shows an earlier stored response
 
--- what was stored before
-abbrev pub seed_of : WalkSeen → SentSeen → AskedSeen → ResponseSeen → ℤ → StoredSeen
+abbrev pub seed_of : WalkSeen → SentSeen → AssumedSeen → ResponseSeen → ℤ → StoredSeen
 seed_of k sent a r received = record {
   exchange = exchange_for k.options a r received;
   unknown = a.unknown;
@@ -212,21 +202,20 @@ seed_of k sent a r received = record {
   sent = None;
 }
 
--- the verdict where that may not be stored
-unfoldable pub refused : Exchange → Option VerdictSeen
+-- if it may not be stored
+unfoldable pub refused : Exchange → Option AuditVerdictSeen
 refused e = option_map (λ o. verdict_with Miss (not_storable o)) (forbidden_by e)
 
 abbrev pub as_seeded : Judgement → Judgement
 as_seeded j = (record j.0 { seeded = true }, j.1)
 
--- an answer of the browser, by what it shows, where that may be stored
-unfoldable pub judged_cached : WalkSeen → SentSeen → AskedSeen → ResponseSeen → Judgement
+unfoldable pub judged_cached : WalkSeen → SentSeen → AssumedSeen → ResponseSeen → Judgement
 judged_cached k sent a r =
     let s = seed_of k sent a r (received_of r.headers sent.entry.started) in
     option_map_or (λ v. (v, [])) (refused s.exchange) (as_seeded (judged k sent a (put_first s [])))
 
 -- a 304 to the client's own condition
-unfoldable pub confirmed_own : WalkSeen → SentSeen → AskedSeen → ResponseSeen → Judgement
+unfoldable pub confirmed_own : WalkSeen → SentSeen → AssumedSeen → ResponseSeen → Judgement
 confirmed_own k sent a r =
     let shown = shown_by sent.entry r in
     let s = seed_of k sent a shown sent.entry.received in
@@ -239,8 +228,8 @@ confirmed_own k sent a r =
       put_first s [],
     )
 
--- a full response to it
-abbrev pub replaced_own : WalkSeen → SentSeen → AskedSeen → ResponseSeen → Judgement
+-- a full response to the client's own condition
+abbrev pub replaced_own : WalkSeen → SentSeen → AssumedSeen → ResponseSeen → Judgement
 replaced_own k sent a r =
     let receipt = receipt_of k sent a sent.entry.answer None [] in (
       record (verdict_with Validate receipt.1) {
@@ -251,8 +240,7 @@ replaced_own k sent a r =
       receipt.0,
     )
 
--- a response to the client's own condition
-unfoldable pub judged_own : WalkSeen → SentSeen → AskedSeen → ResponseSeen → Judgement
+unfoldable pub judged_own : WalkSeen → SentSeen → AssumedSeen → ResponseSeen → Judgement
 judged_own k sent a r =
     if not (r.status == 304) then replaced_own k sent a r
     else (if varies_by_all r.headers then judged k sent a [] else confirmed_own k sent a r)
@@ -261,35 +249,33 @@ judged_own k sent a r =
 abbrev pub shows : ResponseSeen → Bool
 shows r = not (r.status == 304) && nat_lt 0 (value_count r.headers)
 
--- by what the entry shows to have been stored before
-abbrev pub judged_alone : WalkSeen → SentSeen → AskedSeen → AnswerSeen → Judgement
+abbrev pub judged_alone : WalkSeen → SentSeen → AssumedSeen → AnswerSeen → Judgement
 judged_alone k sent a no_answer = judged k sent a []
 judged_alone k sent a (cached r) = if shows r then judged_cached k sent a r else judged k sent a []
 judged_alone k sent a (from_network r) =
     if has_own_condition sent.entry then judged_own k sent a r else judged k sent a []
 
-unfoldable pub judged_all : WalkSeen → SentSeen → AskedSeen → List StoredSeen → Judgement
+unfoldable pub judged_all : WalkSeen → SentSeen → AssumedSeen → List StoredSeen → Judgement
 judged_all k sent a [] = judged_alone k sent a sent.entry.answer
 judged_all k sent a (s ∷ ss) = judged k sent a (s ∷ ss)
 
 -- ---- one entry
 
--- what a response is stored under: its method and its target
+-- by method and target
 abbrev pub key_of : List ℕ → List ℕ → List ℕ
 key_of method target = method ++ codes " " ++ target
 
 abbrev pub key_in : SentSeen → List ℕ
 key_in sent = key_of sent.entry.method (target_of sent.recorded)
 
--- by what is stored under its method and target
 abbrev pub judgement_of : WalkSeen → WalkedSeen → List StoredSeen → Judgement
 judgement_of k w ss = judged_all k w.sent (asked_of k w ss) ss
 
--- one of the two keys of a target under which responses are stored
+-- GET and HEAD have a shelf for each target
 abbrev pub is_of_target : List ℕ → List ℕ → Bool
 is_of_target target key = bytes_eq (key_of (codes "GET") target) key || bytes_eq (key_of (codes "HEAD") target) key
 
--- a store is asked: the request could be answered by it, or no response was received for such a one
+-- requests that a store could answer, and those without a whole response
 abbrev pub asks_store : Kind → Bool
 asks_store kind.Internal = false
 asks_store kind.Preflight = false
@@ -298,34 +284,29 @@ asks_store kind.Range = false
 asks_store kind.Failed = true
 asks_store kind.Asked = true
 
--- what is stored under a key; none where no request that a store could have answered had the method and the target
+-- None if no request for the store had the method and the target
 abbrev pub ShelfSeen : Type 0
 ShelfSeen = Option (List StoredSeen)
 
 abbrev pub on_shelf : ShelfSeen → List StoredSeen
 on_shelf shelf = unwrap_or shelf []
 
--- what a request leaves that a store is asked for
 abbrev pub left_by_asked : WalkSeen → WalkedSeen → ShelfSeen → ShelfSeen
 left_by_asked k w shelf =
     if is_asked w.sent.entry.kind || is_some shelf then Some (judgement_of k w (on_shelf shelf)).1 else None
 
--- what one leaves that invalidates what is stored for its target, or not
 abbrev pub left_by_passed : List ℕ → SentSeen → ShelfSeen → ShelfSeen
 left_by_passed key sent shelf =
     if invalidates sent.entry && is_of_target (target_of sent.recorded) key then option_map (λ ss. []) shelf else shelf
 
--- what an entry leaves under a key
 unfoldable pub left_under : WalkSeen → List ℕ → ShelfSeen → WalkedSeen → ShelfSeen
 left_under k key shelf w =
     if asks_store w.sent.entry.kind then (if bytes_eq (key_in w.sent) key then left_by_asked k w shelf else shelf)
     else left_by_passed key w.sent shelf
 
--- what entries leave under a key
 abbrev pub shelf_under : WalkSeen → List WalkedSeen → List ℕ → ShelfSeen
 shelf_under k ws key = fold (left_under k key) None ws
 
--- how many stored responses an entry invalidates, by what is stored under each key
 abbrev pub invalidated_from : (List ℕ → ShelfSeen) → SentSeen → ℕ
 invalidated_from at sent =
     if invalidates sent.entry
@@ -333,11 +314,10 @@ invalidated_from at sent =
     + length (on_shelf (at (key_of (codes "HEAD") (target_of sent.recorded))))
     else 0
 
--- a request says `no-cache`
 abbrev pub says_no_cache : Headers → Bool
 says_no_cache h = has (cache_control h) (codes "no-cache") || pragma_forbids h
 
--- the row of a request that a store is asked for, by whether something was stored under its key, and what is now
+-- `is_known` is whether an earlier request had the method and the target
 abbrev pub asked_row : WalkSeen → Bool → List StoredSeen → WalkedSeen → RowSeen
 asked_row k is_known ss w = record {
   index = w.sent.index;
@@ -352,7 +332,6 @@ asked_row k is_known ss w = record {
 abbrev pub asked_row_on : WalkSeen → ShelfSeen → WalkedSeen → RowSeen
 asked_row_on k shelf w = asked_row k (is_some shelf) (on_shelf shelf) w
 
--- the row of a request that is counted apart
 abbrev pub apart_row : ℕ → SentSeen → RowSeen
 apart_row invalidated sent = record {
   index = sent.index;
@@ -364,24 +343,20 @@ apart_row invalidated sent = record {
   invalidated = invalidated;
 }
 
--- the row of one that may invalidate what is stored, by what is stored under each key
 abbrev pub passed_row : (List ℕ → ShelfSeen) → SentSeen → RowSeen
 passed_row at sent = apart_row (invalidated_from at sent) sent
 
--- the row of an entry, by what is stored under each key
 abbrev pub row_on : WalkSeen → (List ℕ → ShelfSeen) → WalkedSeen → RowSeen
 row_on k at w =
     if asks_store w.sent.entry.kind
     then asked_row_on k (at (key_in w.sent)) w
     else passed_row at w.sent
 
--- the row of an entry, by those before it
 abbrev pub row_by : WalkSeen → List WalkedSeen → WalkedSeen → RowSeen
 row_by k before w = row_on k (shelf_under k before) w
 
 -- ---- all of them
 
--- an entry, by those that were sent before it
 abbrev pub walked_by : List SentSeen → SentSeen → WalkedSeen
 walked_by before sent = walked_in (sources_of before) sent
 
@@ -389,7 +364,6 @@ abbrev pub walked_after : List SentSeen → List SentSeen → List WalkedSeen
 walked_after before [] = []
 walked_after before (s ∷ sent) = walked_by before s ∷ walked_after (before ++ s ∷ []) sent
 
--- the rows of entries, each by those before it
 abbrev pub rows_after : WalkSeen → List WalkedSeen → List WalkedSeen → List RowSeen
 rows_after k before [] = []
 rows_after k before (w ∷ ws) = row_by k before w ∷ rows_after k (before ++ w ∷ []) ws
@@ -397,7 +371,6 @@ rows_after k before (w ∷ ws) = row_by k before w ∷ rows_after k (before ++ w
 abbrev pub rows_of : WalkSeen → List SentSeen → List RowSeen
 rows_of k sent = rows_after k [] (walked_after [] sent)
 
--- the row of what isn't audited
 abbrev pub skipped_row : ℕ × RecordedSeen → RowSeen
 skipped_row at = record {
   index = at.0;
@@ -413,11 +386,11 @@ abbrev pub skipped_rows_at : ℕ × RecordedSeen → ReadingSeen → List RowSee
 skipped_rows_at at (entry e) = []
 skipped_rows_at at (skipped s) = skipped_row at ∷ []
 
--- the rows of what isn't audited, in the order of the recording
+-- in the order of the recording
 abbrev pub skipped_rows : List RecordedSeen → List RowSeen
 skipped_rows rs = flat_map (λ at. skipped_rows_at at at.1.reading) (enumerate_from 0 rs)
 
--- these are the rows of a recording: of its entries in the order of the walk, then of what isn't audited
+-- its entries in the order of the walk, then those that aren't audited
 pub record AreRows (k : WalkSeen) (rows : List RowSeen) : Type 0 where
   pub sent : List SentSeen
   pub in_order : IsWalk k.recorded sent
@@ -431,6 +404,5 @@ Shelves = BTreeMap (String Global) (Vec Stored Global)
 abbrev pub shelf_at : Shelves → List ℕ → ShelfSeen
 shelf_at shelves key = option_map (λ (l : Vec Stored Global). map stored_seen l.items) (get_by_text shelves key)
 
--- entries have left this
 abbrev pub HaveLeft : WalkSeen → List WalkedSeen → Shelves → Type 0
 HaveLeft k before shelves = (key : List ℕ) → shelf_at shelves key ≡ shelf_under k before key

@@ -1,4 +1,4 @@
--- What recorded requests cost as they are, and where headers of their responses are changed.
+-- What recorded requests cost as they are, and with changed headers.
 use Rattle.std.specs.Prelude.{◌≡◌, ℕ, ◌-◌, Bool, List, [], ◌++◌, map, codes}
 use Rattle.http_uri.specs.declared.uri.Uri.{Uri}
 use Rattle.http_cache_recording.specs.Entry.{RecordedSeen}
@@ -13,25 +13,22 @@ use Rattle.http_cache_audit.specs.Report.{SettingsSeen, row_text}
 use Rattle.http_cache_audit.specs.Change.{ChangeSeen, changed}
 use Rattle.http_cache_audit.specs.Cost.{known_of, all_costs}
 
--- a sum of a load
 abbrev pub sum_of : Counts → List ℕ → List ℕ → ℕ
 sum_of c load name = total_in c (label_of load name)
 
--- two amounts, and by how much the second is less, or more
+-- two amounts, and by how much the second is less or more
 abbrev pub with_amounts : ℕ → ℕ → List Member → List Member
 with_amounts before after ms =
     with_some_count (codes "more") (after - before) (with_some_count (codes "saved") (before - after)
     (with_count (codes "bytes_changed") after (with_count (codes "bytes") before ms)))
 
--- the bytes of a load in both walks
 unfoldable pub with_bytes : List ℕ → Counts → Counts → List Member → List Member
 with_bytes load now then ms = with_amounts (sum_of now load (codes "bytes")) (sum_of then load (codes "bytes")) ms
 
--- a sum of a load, unless it is 0
+-- a sum that is 0 is left out
 abbrev pub with_sum : List ℕ → Counts → List ℕ → List ℕ → List Member → List Member
 with_sum name c load of ms = with_some_count name (sum_of c load of) ms
 
--- the sums of a load in both walks
 unfoldable pub load_members : List ℕ → Counts → Counts → List Member
 load_members load now then =
     with_sum (codes "unknown_changed") then load (codes "unknown") (with_sum (codes "unknown") now load (codes "unknown")
@@ -42,7 +39,6 @@ load_members load now then =
 abbrev pub load_text : Bool → Counts → Counts → List ℕ → List ℕ
 load_text json now then load = row_text json (load_members load now then)
 
--- what a recording costs as it is, and what it shows of each full response
 pub record AreCosts (rs : List RecordedSeen) (options : Options) (target : Uri) (known : List Known) (costs : Counts)
     : Type 0 where
   pub rows : List RowSeen
@@ -50,15 +46,15 @@ pub record AreCosts (rs : List RecordedSeen) (options : Options) (target : Uri) 
   pub are_known : known ≡ known_of rs rows
   pub are_costs : HoldsCounts (all_costs rs known rows) costs
 
--- what another recording costs, by what is known of each full response
+-- what another recording costs, given what is known of each full response
 pub record AreOtherCosts (rs : List RecordedSeen) (known : List Known) (options : Options) (target : Uri) (costs : Counts)
     : Type 0 where
   pub rows : List RowSeen
   pub are_rows : AreRows (record { recorded = rs; options = options; target = target }) rows
   pub are_costs : HoldsCounts (all_costs rs known rows) costs
 
--- the text of two walks, over a recording and over the same with the changes made: what their requests cost, by what
--- the recording as it is shows of their full responses
+-- the costs of a recording as it is and with the changes, by what the recording shows of the full
+-- responses
 pub record IsWhatIf (s : SettingsSeen) (cs : List ChangeSeen) (rs : List RecordedSeen) (text : List ℕ) : Type 0 where
   pub target : Uri
   pub known : List Known

@@ -1,4 +1,4 @@
-//! What a full response to a question about a stored one means.
+//! Decides what a full response means when a stored one was to be validated.
 ghost use Rattle.std.specs.Prelude.{◌≡◌, option_map};
 ghost use Rattle.http_cache_fields.specs.Headers.{headers_of};
 ghost use Rattle.http_cache_semantics.specs.Messages.{response_seen};
@@ -27,7 +27,7 @@ pub(crate) fn opaque(tag: &str) -> &[u8]
     }
 }
 
-// Whether two bodies are the same, if both were recorded in one encoding.
+// Only bodies in one encoding can be compared.
 #[tactic(auto, unfolding(crate::specs::Again::is_same_body))]
 fn is_same_body(a: &Body, b: &Body) -> Option<bool>
     ensures { result ≡ is_same_body (body_seen a.now) (body_seen b.now) }
@@ -39,7 +39,7 @@ fn is_same_body(a: &Body, b: &Body) -> Option<bool>
     }
 }
 
-/// Returns whether two bodies are the same, if both were recorded in one encoding.
+/// Returns whether two bodies are equal, if both were recorded in one encoding.
 #[tactic(auto, unfolding(crate::specs::Again::are_same_bodies))]
 pub fn are_same_bodies(a: Option<&Body>, b: Option<&Body>) -> Option<bool>
     ensures { result ≡ are_same_bodies (option_map (λ x. body_seen x.now) a.entry)
@@ -48,7 +48,6 @@ pub fn are_same_bodies(a: Option<&Body>, b: Option<&Body>) -> Option<bool>
     is_same_body(a?, b?)
 }
 
-// Whether two responses have the same entity tag, if both have one.
 #[tactic(auto, unfolding(crate::specs::Again::is_same_tag))]
 fn is_same_tag(a: &HeaderMap, b: &HeaderMap) -> Option<bool>
     ensures { result ≡ is_same_tag (headers_of a.now) (headers_of b.now) }
@@ -57,7 +56,6 @@ fn is_same_tag(a: &HeaderMap, b: &HeaderMap) -> Option<bool>
     Some(opaque(a) == opaque(b))
 }
 
-// Whether they were last modified at the same time, if both say so.
 #[tactic(auto, unfolding(crate::specs::Again::is_same_date))]
 fn is_same_date(a: &HeaderMap, b: &HeaderMap) -> Option<bool>
     ensures { result ≡ is_same_date (headers_of a.now) (headers_of b.now) }
@@ -65,7 +63,7 @@ fn is_same_date(a: &HeaderMap, b: &HeaderMap) -> Option<bool>
     Some(first_text(a, LAST_MODIFIED)? == first_text(b, LAST_MODIFIED)?)
 }
 
-/// Returns whether they have the same validators, if that can be known.
+/// Returns whether two responses have equal validators, if that can be known.
 pub fn is_same_validator(a: &HeaderMap, b: &HeaderMap) -> Option<bool>
     ensures { result ≡ is_same_validator (headers_of a.now) (headers_of b.now) }
 {
@@ -75,8 +73,7 @@ pub fn is_same_validator(a: &HeaderMap, b: &HeaderMap) -> Option<bool>
     }
 }
 
-// Whether a response is the stored one, if that can be known: its status decides before its body, and
-// this before its validators.
+// The status decides before the body, and the body before the validators.
 #[tactic(auto, unfolding(crate::specs::Again::is_same))]
 fn is_same(
     policy: &CachePolicy,
@@ -99,8 +96,7 @@ fn is_same(
     }
 }
 
-// Whether a request has a condition that a validator of the headers answers (RFC 9110, section
-// 13.2.2).
+// RFC 9110, section 13.2.2.
 #[tactic(auto, unfolding(crate::specs::Again::is_conditional_on))]
 fn is_conditional_on(request: &HeaderMap, headers: &HeaderMap) -> bool
     ensures { result ≡ is_conditional_on (headers_of request.now) (headers_of headers.now) }
@@ -109,7 +105,7 @@ fn is_conditional_on(request: &HeaderMap, headers: &HeaderMap) -> bool
         && has_stored_already(headers, request)
 }
 
-/// Returns what a full response means that was received for a question about a stored one.
+/// Returns what a full response means when a stored one was to be validated.
 #[tactic(auto, unfolding(crate::specs::Again::again_of))]
 pub(crate) fn again_of(
     policy: &CachePolicy,
@@ -131,7 +127,6 @@ pub(crate) fn again_of(
     }
 }
 
-// Whether a response has what the condition of a request is about.
 fn has_its_validator(request: &HeaderMap, headers: &HeaderMap) -> bool
     ensures { result ≡ has_its_validator (headers_of request.now) (headers_of headers.now) }
 {
@@ -142,8 +137,7 @@ fn has_its_validator(request: &HeaderMap, headers: &HeaderMap) -> bool
     }
 }
 
-/// Returns what a full response means that was received for the client's own condition, by its
-/// validators.
+/// Returns what a full response to the client's own condition means, by its validators.
 #[tactic(auto, unfolding(crate::specs::Again::again_by_own))]
 pub(crate) fn again_by_own(request: &HeaderMap, response: &response::Parts) -> Again
     ensures { result ≡ again_by_own (headers_of request.now) (response_seen response.now) }

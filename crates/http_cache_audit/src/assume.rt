@@ -1,10 +1,11 @@
-//! Requests of which a recording has no full headers: what is assumed of them, and how they compare to
-//! the requests of stored responses.
+//! Assumes headers of requests that aren't fully recorded, and compares such requests with stored
+//! ones.
 ghost use Rattle.std.specs.Prelude.{◌≡◌, option_map, IfOk, OnOk};
 ghost use Rattle.http_cache_fields.specs.Headers.{headers_of, first};
 ghost use Rattle.http_cache_recording.specs.Entry.{entry_seen};
 ghost use Rattle.http_cache_audit.specs.Sources.{sources_seen, source_in};
-ghost use Rattle.http_cache_audit.specs.Assume.{asked_seen, asked_from, put_value, copied};
+ghost use Rattle.http_cache_audit.specs.Assume.{assumed_seen, without_assumptions};
+ghost use Rattle.http_cache_audit.specs.Assume.{put_value, copied};
 ghost use Rattle.http_cache_audit.specs.Assume.{varied_name, is_among};
 ghost use Rattle.http_cache_audit.specs.Assume.{from_source, with_name, with_response};
 ghost use Rattle.http_cache_audit.specs.Assume.{all_taken_over, compared};
@@ -19,14 +20,14 @@ use http_cache_semantics::{CacheError, RequestLike};
 use http_header::{HeaderName, HeaderValue};
 use std::alloc::{AllocError, Global};
 
-/// A request as a store is asked it: with what is assumed of it.
+/// A request as a store is asked, with what is assumed of it.
 #[derive(Drop)]
-pub(crate) struct Asked<'a> {
-    /// A target for all requests, since each list of stored responses is of one.
+pub(crate) struct AssumedRequest<'a> {
+    /// One target for all requests, since each list of stored responses has one.
     pub target: &'a Uri,
     /// The method.
     pub method: &'a Method,
-    /// Its headers, with those that are assumed.
+    /// The headers, with the assumed ones.
     pub headers: HeaderMap,
     /// The names whose values are unknown.
     pub unknown: Vec<HeaderName>,
@@ -34,10 +35,10 @@ pub(crate) struct Asked<'a> {
     pub assumed: Vec<HeaderName>,
 }
 
-impl RequestLike for Asked<'_> {
-    ghost use Rattle.http_cache_audit.specs.Assume.{asked_seen, request_of};
+impl RequestLike for AssumedRequest<'_> {
+    ghost use Rattle.http_cache_audit.specs.Assume.{assumed_seen, request_of};
 
-    ghost seen = { λ r. request_of (asked_seen r) };
+    ghost seen = { λ r. request_of (assumed_seen r) };
 
     fn uri(&self, _alloc: Global) -> Result<Uri, CacheError> {
         self.target.clone().map_err(|_| CacheError::Memory)
@@ -63,7 +64,7 @@ pub fn first_value<'a>(headers: &'a HeaderMap, name: &HeaderName) -> Option<&'a 
     headers.get(name)
 }
 
-/// Puts a value under a name, in place of what is there, if there is room for it.
+/// Replaces the values under a name, if there is room.
 pub fn put_value(
     to: &mut HeaderMap,
     name: &HeaderName,
@@ -82,7 +83,6 @@ pub fn put_value(
     }
 }
 
-// Copies the first value under a name.
 fn copy_value(to: &mut HeaderMap, from: &HeaderMap, name: &HeaderName) -> Result<(), AllocError>
     ensures { OnOk result (headers_of to.new
         ≡ copied (headers_of to.old) (headers_of from.now) name.now) }
@@ -93,7 +93,6 @@ fn copy_value(to: &mut HeaderMap, from: &HeaderMap, name: &HeaderName) -> Result
     }
 }
 
-// Puts the stored values under names, in place of what is there.
 fn take_over(
     headers: &mut HeaderMap,
     stored: &HeaderMap,
@@ -109,7 +108,6 @@ fn take_over(
     Ok(())
 }
 
-// The header name that a piece of Vary is, if it is one.
 #[tactic(auto, unfolding(crate::specs::Assume::varied_name))]
 fn varied_name(alloc: Global, piece: &str) -> Result<Option<HeaderName>, AllocError>
     ensures { IfOk result (λ name. name ≡ varied_name piece.now) }
@@ -126,18 +124,19 @@ fn is_among(names: &[HeaderName], name: &HeaderName) -> bool
     names.iter().any(|other| *other == *name)
 }
 
-impl<'a> Asked<'a> {
+impl<'a> AssumedRequest<'a> {
     /// Returns a request with these headers, of which nothing is assumed.
     pub(crate) fn new(
         alloc: Global,
         target: &'a Uri,
         method: &'a Method,
         headers: &HeaderMap,
-    ) -> Result<Asked<'a>, AllocError>
+    ) -> Result<AssumedRequest<'a>, AllocError>
         ensures { IfOk result (λ asked.
-            asked_seen asked ≡ asked_from target.now method.now (headers_of headers.now)) }
+            assumed_seen asked
+            ≡ without_assumptions target.now method.now (headers_of headers.now)) }
     {
-        Ok(Asked {
+        Ok(AssumedRequest {
             target,
             method,
             headers: copy_of_map(headers)?,
@@ -146,9 +145,9 @@ impl<'a> Asked<'a> {
         })
     }
 
-    // Copies the value under a name from a request; without one it is unknown.
+    // Without a source the value is unknown.
     fn take_from(&mut self, source: Option<&Entry>, name: &HeaderName) -> Result<(), AllocError>
-        ensures { OnOk result (asked_seen self.new ≡ from_source (asked_seen self.old) name.now
+        ensures { OnOk result (assumed_seen self.new ≡ from_source (assumed_seen self.old) name.now
             (option_map (λ e. entry_seen e.now) source.entry)) }
     {
         match source {
@@ -160,8 +159,7 @@ impl<'a> Asked<'a> {
         }
     }
 
-    // Assumes what is under a name that the headers lack: a value, that there is none, or that it is
-    // unknown.
+    // The headers lack the name: it gets a value, has none, or is unknown.
     #[tactic(auto, unfolding(crate::specs::Assume::with_name))]
     fn assume_name(
         &mut self,
@@ -169,8 +167,8 @@ impl<'a> Asked<'a> {
         target: &str,
         name: HeaderName,
     ) -> Result<(), AllocError>
-        ensures { OnOk result (asked_seen self.new ≡ with_name
-            (source_in (sources_seen sources.now) target.now) (asked_seen self.old) name) }
+        ensures { OnOk result (assumed_seen self.new ≡ with_name
+            (source_in (sources_seen sources.now) target.now) (assumed_seen self.old) name) }
     {
         if contains_key(&self.headers, &name) || is_among(self.assumed.as_slice(), &name) {
             return Ok(());
@@ -179,7 +177,7 @@ impl<'a> Asked<'a> {
         Ok(self.assumed.push(name)?)
     }
 
-    /// Assumes what a response varies by.
+    /// Assumes the fields that a response's Vary names.
     pub(crate) fn assume(
         &mut self,
         alloc: Global,
@@ -187,8 +185,8 @@ impl<'a> Asked<'a> {
         target: &str,
         response: &HeaderMap,
     ) -> Result<(), AllocError>
-        ensures { OnOk result (asked_seen self.new ≡ with_response
-            (source_in (sources_seen sources.now) target.now) (asked_seen self.old)
+        ensures { OnOk result (assumed_seen self.new ≡ with_response
+            (source_in (sources_seen sources.now) target.now) (assumed_seen self.old)
             (headers_of response.now)) }
     {
         for piece in pieces_under(response, VARY) {
@@ -199,19 +197,19 @@ impl<'a> Asked<'a> {
         Ok(())
     }
 
-    /// Returns the request as it compares to a stored request: under each name that is unknown in either
-    /// it has the stored value.
+    /// Returns the request for comparison with a stored one: names that are unknown in either have
+    /// the stored value.
     #[tactic(auto, unfolding(crate::specs::Assume::compared))]
     pub(crate) fn compared(
         &self,
         alloc: Global,
         stored: &HeaderMap,
         unknown: &[HeaderName],
-    ) -> Result<Asked<'a>, AllocError>
-        ensures { IfOk result (λ asked. asked_seen asked
-            ≡ compared (asked_seen self.now) (headers_of stored.now) unknown.now) }
+    ) -> Result<AssumedRequest<'a>, AllocError>
+        ensures { IfOk result (λ asked. assumed_seen asked
+            ≡ compared (assumed_seen self.now) (headers_of stored.now) unknown.now) }
     {
-        let mut asked = Asked::new(alloc, self.target, self.method, &self.headers)?;
+        let mut asked = AssumedRequest::new(alloc, self.target, self.method, &self.headers)?;
         take_over(&mut asked.headers, stored, self.unknown.as_slice())?;
         take_over(&mut asked.headers, stored, unknown)?;
         Ok(asked)

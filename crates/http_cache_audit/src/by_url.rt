@@ -1,5 +1,4 @@
-//! What is printed of each url that a store could have answered for: an object, with the sums of its
-//! requests.
+//! Prints an object for each url that a store could have answered, with the sums of its requests.
 ghost use Rattle.std.specs.Prelude.{◌≡◌, ◌++◌, map, string_bytes, IfOk, OnOk};
 ghost use Rattle.std.specs.List.{flat_map};
 ghost use Rattle.http_cache_recording.specs.Entry.{recorded_seen};
@@ -59,7 +58,6 @@ fn add_row(counts: &mut Counts, row: &Row<'_>) -> Result<(), AllocError>
     }
 }
 
-// Adds the index of a row, if that is the first for its url.
 fn push_first(
     all: &mut Vec<usize>,
     counts: &Counts,
@@ -76,7 +74,7 @@ fn push_first(
     Ok(())
 }
 
-/// Returns the sums of each url, and the index of the first row of each.
+/// Returns the sums for each url, and the index of the first row of each.
 pub fn urls_of(alloc: Global, rows: &[Row<'_>]) -> Result<(Counts, Vec<usize>), AllocError>
     ensures sums { IfOk result (λ urls.
         HoldsCounts (flat_map url_additions (map row_seen rows.now)) urls.0) }
@@ -114,7 +112,6 @@ fn add_url_sums(to: &mut Members, counts: &Counts, url: &str) -> Result<(), Allo
     add_sum(to, counts, url, "sent")
 }
 
-// What became of the first response.
 fn add_first(to: &mut Members, row: &Row<'_>) -> Result<(), AllocError>
     ensures { OnOk result (map member_seen to.new.all.items
         ≡ with_first (row_seen row.now) (map member_seen to.old.all.items)) }
@@ -193,12 +190,10 @@ fn push_urls(
     Ok(())
 }
 
-/// Returns the objects of the urls that were asked for, in the order of their first requests: how often, and
-/// what was sent for them.
+/// Returns an object for each url, in the order of the first requests, with how often it was
+/// requested and what was sent.
 ///
-/// # Errors
-///
-/// Returns an error only if there is no memory.
+/// The only error is out of memory.
 pub fn by_url(
     alloc: Global,
     recorded: &[Recorded],

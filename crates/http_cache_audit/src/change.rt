@@ -1,4 +1,4 @@
-//! A header of recorded responses that is changed, to see what a cache would have done then.
+//! Changes a header of recorded responses, to see what a cache would have done then.
 ghost use Rattle.std.specs.Prelude.{◌≡◌, map, fold, option_map, string_bytes, IfOk, IfErr};
 ghost use Rattle.http_cache_semantics.specs.Messages.{response_seen};
 ghost use Rattle.http_cache_recording.specs.Entry.{recorded_seen, entry_seen, reading_seen, answer_seen};
@@ -16,30 +16,30 @@ use http_header::{HeaderName, HeaderValue};
 use std::alloc::{AllocError, Global};
 use thiserror::Error;
 
-/// A header of each recorded response whose url is of a pattern.
+/// A change of a header in each recorded response whose url matches a pattern.
 #[derive(Drop)]
 pub struct Change {
-    /// Which urls: `*` stands for any text.
+    /// The pattern of urls, in which `*` stands for any text.
     pub pattern: String,
     /// The name of the header.
     pub name: HeaderName,
-    /// Its value, or `None` if the header is removed.
+    /// The new value, or `None` to remove the header.
     pub value: Option<HeaderValue>,
 }
 
 /// Why a text is no change.
 #[derive(Clone, Copy, Debug, PartialEq, Eq, Error)]
 pub enum ChangeError {
-    /// It isn't `PATTERN: HEADER: VALUE`.
+    /// The text isn't `PATTERN: HEADER: VALUE`.
     #[error("not `PATTERN: HEADER: VALUE`")]
     NoParts,
-    /// The second part is no header name (RFC 9110, section 5.1).
+    /// The second part is no field name (RFC 9110, section 5.1).
     #[error("not a header name")]
     NoName,
-    /// The last part is no header value (RFC 9110, section 5.5).
+    /// The last part is no field value (RFC 9110, section 5.5).
     #[error("not a header value")]
     NoValue,
-    /// The allocator had no memory.
+    /// The allocator is out of memory.
     #[error("out of memory")]
     Memory,
 }
@@ -52,19 +52,19 @@ impl From<AllocError> for ChangeError {
     }
 }
 
-// A value, unless that is empty.
 fn unless_empty(value: HeaderValue) -> Option<HeaderValue>
     ensures { option_map (λ v. v.bytes) result ≡ some_text value.bytes }
 {
     if value.is_empty() { None } else { Some(value) }
 }
 
-/// Returns the change that a text says, as `*.js: Cache-Control: max-age=3600`. It is split at its first two
-/// `: `, and an empty value removes the header.
+/// Returns the change in a text such as `*.js: Cache-Control: max-age=3600`.
+///
+/// The text is split at its first two `: `, and an empty value removes the header.
 ///
 /// # Errors
 ///
-/// Returns `NoParts`, `NoName` or `NoValue` if the text is no change, and `Memory` if there is none.
+/// `NoParts`, `NoName` or `NoValue` if the text is no change, and `Memory`.
 pub fn change_from_text(alloc: Global, text: &str) -> Result<Change, ChangeError>
     ensures change { IfOk result (λ c. IsChange text.now (change_seen c)) }
     ensures cause { IfErr result (IsNoChange text.now) }
@@ -88,14 +88,13 @@ pub fn change_from_text(alloc: Global, text: &str) -> Result<Change, ChangeError
     })
 }
 
-// A text between two line feeds, which no url has within.
+// No url contains a line feed.
 fn line_of(alloc: Global, text: &str) -> Result<String, AllocError>
     ensures { IfOk result (λ line. string_bytes line ≡ line_of text.now) }
 {
     format!(in alloc; "\n{text}\n")
 }
 
-// What follows the first occurrence of a piece.
 fn after_first<'a>(text: &'a str, piece: &str) -> Option<&'a str>
     ensures { option_map (λ t. t.now) result ≡ after_first piece.now text.now }
 {
@@ -105,7 +104,6 @@ fn after_first<'a>(text: &'a str, piece: &str) -> Option<&'a str>
     }
 }
 
-// What follows the first occurrence of a piece in what is left of a text.
 fn after<'a>(left: Option<&'a str>, piece: &str) -> Option<&'a str>
     ensures { option_map (λ t. t.now) result ≡ after (option_map (λ t. t.now) left.entry) piece.now }
 {
@@ -115,7 +113,6 @@ fn after<'a>(left: Option<&'a str>, piece: &str) -> Option<&'a str>
     }
 }
 
-// Whether a line holds the pieces of a pattern between its `*`, one after the other.
 fn is_line_of(line: &str, pattern: &str) -> bool
     ensures { result ≡ is_line_of pattern.now line.now }
 {
@@ -126,7 +123,7 @@ fn is_line_of(line: &str, pattern: &str) -> bool
     left.is_some()
 }
 
-/// Returns whether a url is of a pattern, in which `*` stands for any text.
+/// Returns whether a url matches a pattern, in which `*` stands for any text.
 pub(crate) fn is_of(alloc: Global, url: &str, pattern: &str) -> Result<bool, AllocError>
     ensures { IfOk result (λ holds. holds ≡ is_of pattern.now url.now) }
 {
@@ -160,7 +157,7 @@ fn changed_answer(answer: Answer, change: &Change) -> Result<Answer, AllocError>
     })
 }
 
-/// Returns an entry with the change made in its response.
+/// Returns an entry with the change in its response.
 fn changed_reading(reading: Reading, change: &Change) -> Result<Reading, AllocError>
     ensures { IfOk result (λ r. reading_seen r
         ≡ changed_reading (change_seen change.now) (reading_seen reading)) }
@@ -197,7 +194,7 @@ fn changed(alloc: Global, recorded: Recorded, changes: &[Change]) -> Result<Reco
     Ok(recorded)
 }
 
-/// Returns a recording with all changes made, in their order.
+/// Returns a recording with all changes made, in order.
 pub(crate) fn changed_all(
     alloc: Global,
     recorded: Vec<Recorded>,

@@ -1,5 +1,5 @@
-//! What the requests of a walk cost over the network, by what the recorded walk shows of their full
-//! responses. So a recording can be compared with another one that differs in some headers.
+//! Computes what the requests of a walk cost over the network. The recorded walk shows the sizes of
+//! full responses, so that walks with changed headers can be compared.
 ghost use Rattle.std.specs.Prelude.{◌≡◌, [], map, option_map, option_and_then, slice_get, IfOk, OnOk};
 ghost use Rattle.std.specs.List.{flat_map, find};
 ghost use Rattle.std.specs.Option.{option_map_or};
@@ -25,34 +25,34 @@ use http_cache_recording::{Answer, Body, Reading, Recorded};
 use jiff::Timestamp;
 use std::alloc::{AllocError, Global};
 
-/// What a full response took, in bytes.
+/// The size of a full response, in bytes.
 #[derive(Clone, Copy)]
 pub struct Size {
-    /// All of it.
+    /// All of the response.
     pub bytes: u64,
     /// Its status line and headers.
     pub head: u64,
 }
 
-/// What the recording as it is shows of the full response to a request.
+/// What the recording shows of the full response to a request.
 #[derive(Clone, Copy)]
 pub struct Known {
-    /// What it took, if it was sent in the recording.
+    /// Its size, if it was sent in the recording.
     pub size: Option<Size>,
-    /// The request is of the first load.
+    /// Whether the request is in the first load.
     pub is_first: bool,
-    /// The origin sent all of it to a condition that it meets.
+    /// Whether the origin server sent all of it to a condition that it meets.
     pub in_full: bool,
 }
 
-/// What a request costs over the network.
+/// The cost of a request over the network.
 #[derive(Clone, Copy)]
 pub struct Cost {
-    /// In bytes, as far as they are known.
+    /// The known bytes.
     pub bytes: u64,
-    /// 1 if a 304 answers it.
+    /// 1 if a 304 answers the request.
     pub confirmed: u64,
-    /// 1 if it is unknown how many bytes its full response takes.
+    /// 1 if the size of the full response is unknown.
     pub unknown: u64,
 }
 
@@ -61,7 +61,7 @@ pub struct Cost {
 pub struct FirstLoad<'a> {
     /// Its page, if the recording lists pages.
     pub page: Option<&'a str>,
-    /// When the first request of another page was sent.
+    /// The time of the first request for another page.
     pub ended: Option<Timestamp>,
 }
 
@@ -77,7 +77,6 @@ fn has_page(row: &Row<'_>) -> bool
     page_of(row).is_some()
 }
 
-// Whether two pages aren't the same, if both are known.
 fn is_other(a: Option<&str>, b: Option<&str>) -> bool
     ensures { result ≡ is_other (option_map (λ t. t.now) a.entry) (option_map (λ t. t.now) b.entry) }
 {
@@ -102,7 +101,6 @@ fn sent_at(row: &Row<'_>) -> Option<Timestamp>
     }
 }
 
-// The first row that has a page.
 fn first_with_page<'a, 'b>(rows: &'a [Row<'b>]) -> Option<&'a Row<'b>>
     ensures { option_map (λ r. row_seen r.now) result ≡ find has_page (map row_seen rows.now) }
 {
@@ -118,7 +116,6 @@ fn first_page<'a>(rows: &'a [Row<'_>]) -> Option<&'a str>
     }
 }
 
-// The first row of another page.
 fn first_of_other<'a, 'b>(rows: &'a [Row<'b>], page: Option<&str>) -> Option<&'a Row<'b>>
     ensures { option_map (λ r. row_seen r.now) result
         ≡ find (is_of_other (option_map (λ t. t.now) page.entry)) (map row_seen rows.now) }
@@ -126,7 +123,6 @@ fn first_of_other<'a, 'b>(rows: &'a [Row<'b>], page: Option<&str>) -> Option<&'a
     rows.iter().find(|row| is_of_other(page, row))
 }
 
-// When the first request of another page was sent.
 fn other_sent_at(rows: &[Row<'_>], page: Option<&str>) -> Option<Timestamp>
     ensures { option_map (λ t. t.nanosecond) result ≡ option_and_then sent_at
         (find (is_of_other (option_map (λ t. t.now) page.entry)) (map row_seen rows.now)) }
@@ -149,7 +145,6 @@ pub fn first_load<'a>(rows: &'a [Row<'_>]) -> FirstLoad<'a>
     }
 }
 
-// Whether a time is before another, if both are known.
 fn is_before(at: Option<Timestamp>, ended: Option<Timestamp>) -> bool
     ensures { result ≡ is_before (option_map (λ t. t.nanosecond) at)
         (option_map (λ t. t.nanosecond) ended) }
@@ -160,7 +155,7 @@ fn is_before(at: Option<Timestamp>, ended: Option<Timestamp>) -> bool
     }
 }
 
-/// Returns whether a request is of the first load: by its page, else by when it was sent.
+/// Returns whether a request is in the first load, by its page, or else by its time.
 #[tactic(auto, unfolding(crate::specs::Cost::is_of_first))]
 pub fn is_of_first(first: &FirstLoad<'_>, row: &Row<'_>) -> bool
     ensures { result ≡ is_of_first (first_seen first.now) (row_seen row.now) }
@@ -185,7 +180,6 @@ pub fn is_full(recorded: &Recorded) -> bool
     }
 }
 
-// What the full response of a stored one took, if it was sent in the recording.
 fn size_of_used(recorded: &[Recorded], used: &Used) -> Option<Size>
     ensures { result ≡ size_of_used (map recorded_seen recorded.now) (used_seen used.now) }
 {
@@ -194,14 +188,14 @@ fn size_of_used(recorded: &[Recorded], used: &Used) -> Option<Size>
     Some(Size { bytes, head })
 }
 
-/// Returns the stored response that answers a request, or that the origin is asked about.
+/// Returns the stored response that answers a request, or that is validated.
 pub fn used_in<'a>(row: &'a Row<'_>) -> Option<&'a Used>
     ensures { option_map (λ u. used_seen u.now) result ≡ used_in (row_seen row.now) }
 {
     row.verdict.as_ref()?.used.as_ref()
 }
 
-// What the full response took that answers a request: its own, or that of the stored one.
+// The request's own full response, or the stored one's.
 #[tactic(auto, unfolding(crate::specs::Cost::size_of))]
 fn size_of(recorded: &[Recorded], row: &Row<'_>) -> Option<Size>
     ensures { result ≡ size_of (map recorded_seen recorded.now) (row_seen row.now) }
@@ -215,7 +209,7 @@ fn size_of(recorded: &[Recorded], row: &Row<'_>) -> Option<Size>
     size_of_used(recorded, used_in(row)?)
 }
 
-/// Returns whether the origin sent a full response to a condition that it meets.
+/// Returns whether the origin server sent a full response to a condition that it meets.
 pub fn ends_in_full(row: &Row<'_>) -> bool
     ensures { result ≡ ends_in_full (row_seen row.now) }
 {
@@ -225,7 +219,6 @@ pub fn ends_in_full(row: &Row<'_>) -> bool
     }
 }
 
-// How often each url was sent in full to a condition that it meets.
 fn in_full(alloc: Global, rows: &[Row<'_>]) -> Result<Counts, AllocError>
     ensures { IfOk result (HoldsCounts (flat_map full_additions (map row_seen rows.now))) }
 {
@@ -236,7 +229,6 @@ fn in_full(alloc: Global, rows: &[Row<'_>]) -> Result<Counts, AllocError>
     Ok(counts)
 }
 
-// What is known of a row's full response, by the first load and by what was sent in full.
 fn known_by(
     recorded: &[Recorded],
     first: &FirstLoad<'_>,
@@ -254,7 +246,7 @@ fn known_by(
     })
 }
 
-/// Returns what the recording as it is shows of the full response to each request, by its rows.
+/// Returns what the recording shows of the full response to each request.
 pub fn known_of(
     alloc: Global,
     recorded: &[Recorded],
@@ -295,7 +287,7 @@ fn body_of(recorded: &Recorded) -> Option<&Body>
     }
 }
 
-// Whether two entries have the same response, by its validators, else by its body.
+// By validators, or else by the bodies.
 #[tactic(auto, unfolding(crate::specs::Cost::is_same_response))]
 fn is_same_response(a: &Recorded, b: &Recorded) -> bool
     ensures { result ≡ is_same_response (reading_seen a.now.reading) (reading_seen b.now.reading) }
@@ -322,7 +314,6 @@ fn is_304(recorded: &Recorded) -> bool
     }
 }
 
-// Whether the recorded response is the one that is asked about.
 fn is_used_again(recorded: &[Recorded], row: &Row<'_>, used: &Used) -> bool
     ensures { result ≡ is_used_again (map recorded_seen recorded.now) (row_seen row.now)
         (used_seen used.now) }
@@ -333,7 +324,6 @@ fn is_used_again(recorded: &[Recorded], row: &Row<'_>, used: &Used) -> bool
     }
 }
 
-// Whether a 304 would confirm what is asked about.
 #[tactic(auto, unfolding(crate::specs::Cost::is_confirmed))]
 fn is_confirmed(recorded: &[Recorded], known: &Known, row: &Row<'_>) -> bool
     ensures { result ≡ is_confirmed (map recorded_seen recorded.now) known.now (row_seen row.now) }
@@ -389,8 +379,8 @@ fn cost_by(outcome: Outcome, is_confirmed: bool, size: Option<Size>) -> Cost
     }
 }
 
-/// Returns what a request costs: nothing where a stored response answers, a head where one is confirmed,
-/// else all of the full response.
+/// Returns the cost of a request: nothing for a fresh response, a head for a confirmed one,
+/// otherwise all.
 #[tactic(auto, unfolding(crate::specs::Cost::cost_of))]
 pub fn cost_of(recorded: &[Recorded], known: &Known, row: &Row<'_>) -> Cost
     ensures { result ≡ cost_of (map recorded_seen recorded.now) known.now (row_seen row.now) }
@@ -448,7 +438,7 @@ fn add_cost(
     add_sums(counts, load_name(known.is_first), cost)
 }
 
-/// Returns what is known of the full response to the request of the row at an index.
+/// Returns what is known of the full response for the row at an index.
 pub fn known_at(known: &[Known], index: usize) -> Option<Known>
     ensures { result ≡ slice_get known.now index }
 {
@@ -471,7 +461,7 @@ fn add_cost_at(
     }
 }
 
-/// Returns what the rows of a walk cost, by what is known of each.
+/// Returns the costs of the rows of a walk, by what is known of each.
 pub fn all_costs(
     alloc: Global,
     recorded: &[Recorded],

@@ -1,7 +1,7 @@
-//! What an audit counts, by `group/name`. A word that is printed of a row is the name of its count.
+//! Counts what an audit finds, by `group/name`. A printed word of a row is the name of its count.
 ghost use Rattle.std.specs.Prelude.{◌≡◌, ◌+◌, ◌-◌, ◌^◌, min, [], ◌∷◌, map, IfOk, OnOk, string_bytes, option_map};
 ghost use Rattle.std.specs.List.{flat_map};
-ghost use Rattle.http_cache_audit.specs.Row.{row_seen, used_seen, verdict_seen};
+ghost use Rattle.http_cache_audit.specs.Row.{row_seen, used_seen, audit_verdict_seen};
 ghost use Rattle.http_cache_audit.specs.Members.{shown_seen, member_seen, is_fresh};
 ghost use Rattle.http_cache_audit.specs.Counts.{label_of, when, total_in, HoldsCounts, CountsAlso, group_of};
 ghost use Rattle.http_cache_audit.specs.Counts.{additions_of_member, byte_additions, asked_additions, additions_of, is_noticed};
@@ -11,7 +11,7 @@ ghost use Rattle.http_cache_audit.specs.Sources.{is_asked};
 ghost use Rattle.http_cache_audit.specs.Counts.{entry_additions, audited_additions};
 
 use crate::members::{Members, Shown, kind_word};
-use crate::row::{Again, Outcome, Row, Used, Verdict};
+use crate::row::{Again, AuditVerdict, Outcome, Row, Used};
 use crate::texts::put;
 use http_cache_recording::{Kind, Reading};
 use std::alloc::{AllocError, Global};
@@ -24,7 +24,6 @@ pub struct Counts {
     pub by_label: BTreeMap<String, u64>,
 }
 
-// The group in which the words of a member are counted.
 #[tactic(auto, unfolding(crate::specs::Counts::group_of))]
 fn group_of(name: &str) -> Option<&'static str>
     ensures { option_map (λ g. g.now) result ≡ group_of name.now }
@@ -72,7 +71,6 @@ pub fn is_asked(kind: Kind) -> bool
     matches!(kind, Kind::Asked)
 }
 
-// It is repeated, and says `no-cache`.
 fn is_forced(row: &Row<'_>) -> bool
     ensures { result ≡ is_forced (row_seen row.now) }
 {
@@ -105,7 +103,7 @@ impl Counts {
         Ok(self.total(label.as_str()))
     }
 
-    // The count under a label and an amount, as far as a count goes.
+    // The greatest count is 2^64 - 1.
     fn with_more(&self, label: &str, amount: u64) -> u64
         ensures { result ≡ min (total_in self.now label.now + amount) (2 ^ 64 - 1) }
     {
@@ -123,7 +121,7 @@ impl Counts {
         Ok(())
     }
 
-    /// Adds an amount, if something holds.
+    /// Adds an amount, if a condition holds.
     #[tactic(auto, using(crate::proofs::CountsLemmas::also_none))]
     pub fn add_if(
         &mut self,
@@ -152,7 +150,6 @@ impl Counts {
         Ok(())
     }
 
-    // A member of a request that a store could have answered.
     #[tactic(auto, using(crate::proofs::CountsLemmas::also_none))]
     fn add_member(&mut self, name: &str, shown: &Shown) -> Result<(), AllocError>
         ensures { OnOk result (CountsAlso (additions_of_member (name.now, shown_seen shown.now))
@@ -186,7 +183,6 @@ impl Counts {
         }
     }
 
-    // What a hit saved.
     #[tactic(auto, using(crate::proofs::CountsLemmas::also_none))]
     fn add_saved(&mut self, is_fresh: bool, used: &Option<Used>) -> Result<(), AllocError>
         ensures { OnOk result (CountsAlso (saved_additions is_fresh (option_map used_seen used.now))
@@ -198,9 +194,9 @@ impl Counts {
         }
     }
 
-    // The bytes of a request that a store could have answered.
-    fn add_bytes(&mut self, row: &Row<'_>, verdict: &Verdict) -> Result<(), AllocError>
-        ensures { OnOk result (CountsAlso (byte_additions (row_seen row.now) (verdict_seen verdict.now))
+    fn add_bytes(&mut self, row: &Row<'_>, verdict: &AuditVerdict) -> Result<(), AllocError>
+        ensures { OnOk result
+            (CountsAlso (byte_additions (row_seen row.now) (audit_verdict_seen verdict.now))
             self.old self.new) }
     {
         let sent = row.recorded.printed.sent;
@@ -224,15 +220,14 @@ impl Counts {
         Ok(())
     }
 
-    // A request that a store could have answered.
     fn add_asked(
         &mut self,
         row: &Row<'_>,
-        verdict: &Verdict,
+        verdict: &AuditVerdict,
         members: &Members,
     ) -> Result<(), AllocError>
         ensures { OnOk result (CountsAlso (asked_additions (row_seen row.now)
-            (verdict_seen verdict.now) (map member_seen members.now.all.items))
+            (audit_verdict_seen verdict.now) (map member_seen members.now.all.items))
             self.old self.new) }
     {
         self.add_members(members)?;
@@ -246,11 +241,11 @@ impl Counts {
         &mut self,
         kind: Kind,
         row: &Row<'_>,
-        verdict: &Verdict,
+        verdict: &AuditVerdict,
         members: &Members,
     ) -> Result<(), AllocError>
         ensures { OnOk result (CountsAlso (kind_additions kind (row_seen row.now)
-            (verdict_seen verdict.now) (map member_seen members.now.all.items))
+            (audit_verdict_seen verdict.now) (map member_seen members.now.all.items))
             self.old self.new) }
     {
         if is_asked(kind) {
@@ -260,16 +255,15 @@ impl Counts {
         }
     }
 
-    // An entry that is audited.
     fn add_entry(
         &mut self,
         kind: Kind,
         row: &Row<'_>,
-        verdict: &Verdict,
+        verdict: &AuditVerdict,
         members: &Members,
     ) -> Result<(), AllocError>
         ensures { OnOk result (CountsAlso (entry_additions kind (row_seen row.now)
-            (verdict_seen verdict.now) (map member_seen members.now.all.items))
+            (audit_verdict_seen verdict.now) (map member_seen members.now.all.items))
             self.old self.new) }
     {
         self.add("bytes", "sent", row.recorded.printed.sent)?;
@@ -291,7 +285,7 @@ impl Counts {
         }
     }
 
-    /// Counts a row, with its members.
+    /// Counts a row with its members.
     pub(crate) fn add_row(&mut self, row: &Row<'_>, members: &Members) -> Result<(), AllocError>
         ensures { OnOk result (CountsAlso (additions_of (row_seen row.now)
             (map member_seen members.now.all.items)) self.old self.new) }
@@ -301,8 +295,10 @@ impl Counts {
         Ok(())
     }
 
-    /// Returns whether the recording seems to be made with the browser's cache off, or by a hard reload: at
-    /// least half of what a store could have answered says `no-cache`, or half of what is repeated.
+    /// Returns whether the recording seems to be made with the browser's cache off, or by a hard
+    /// reload.
+    ///
+    /// At least half of the requests for a store, or of the repeated ones, then have `no-cache`.
     pub fn is_noticed(&self) -> bool
         ensures { result ≡ is_noticed self.now }
     {

@@ -1,5 +1,5 @@
-//! What a cache would have done with a recorded session: a row for each entry, what is printed of it, and
-//! counts.
+//! Audits a recorded session: what a cache would have done with each entry, as rows, printed
+//! members and counts.
 #![tactic(auto)]
 
 pub mod again;

@@ -1,4 +1,4 @@
-//! What gives the lifetime of a stored response, as it was written.
+//! Finds the source of a stored response's lifetime, as it was written.
 ghost use Rattle.std.specs.Prelude.{◌≡◌, option_copied, option_map, string_bytes, IfOk};
 ghost use Rattle.http_cache_fields.specs.Headers.{headers_of};
 ghost use Rattle.http_cache_audit.specs.Row.{lifetime_seen, kept_seen};
@@ -18,10 +18,9 @@ use http_cache_semantics::explain::LifetimeSource;
 use jiff::Timestamp;
 use std::alloc::{AllocError, Global};
 
-// What gives a lifetime: its words, and its text.
+// Words for the source, and its text.
 type Source<'a> = (&'static str, Option<&'a str>);
 
-// Whether the seconds of a piece can be read.
 fn is_readable(piece: &str) -> bool
     ensures { result ≡ is_readable piece.now }
 {
@@ -31,7 +30,6 @@ fn is_readable(piece: &str) -> bool
     }
 }
 
-// What gives it by a directive with seconds, by its first piece.
 fn by_seconds<'a>(
     piece: Option<&'a str>,
     name: &'static str,
@@ -46,7 +44,7 @@ fn by_seconds<'a>(
     }
 }
 
-// What gives it by an Expires that is no date: `0` and `-1` mean the past.
+// `0` and `-1` mean the past.
 fn by_unreadable_expires(text: Option<&str>) -> Source<'_>
     ensures { (result.0.now, option_copied result.1)
         ≡ by_unreadable_expires (option_copied text.entry) }
@@ -57,7 +55,6 @@ fn by_unreadable_expires(text: Option<&str>) -> Source<'_>
     }
 }
 
-// What gives the lifetime of a response.
 #[tactic(auto, unfolding(crate::specs::Lifetime::source_of))]
 fn source_of(headers: &HeaderMap, source: LifetimeSource) -> Source<'_>
     ensures { (result.0.now, option_copied result.1) ≡ source_of (headers_of headers.now) source }
@@ -109,7 +106,7 @@ fn copied(alloc: Global, text: Option<&str>) -> Result<Option<String>, AllocErro
     }
 }
 
-/// Returns how long a stored response stays fresh, and what gives that.
+/// Returns the lifetime of a stored response and its source.
 #[tactic(auto, unfolding(crate::specs::Lifetime::lifetime_of))]
 pub(crate) fn lifetime_of(alloc: Global, policy: &CachePolicy) -> Result<Lifetime, AllocError>
     ensures { IfOk result (λ lifetime. lifetime_seen lifetime ≡ lifetime_of policy.now) }
@@ -123,7 +120,7 @@ pub(crate) fn lifetime_of(alloc: Global, policy: &CachePolicy) -> Result<Lifetim
     })
 }
 
-/// Returns what is kept of a response that is received at a time.
+/// Returns the lifetime of a response that is received at a time, and the rest of it.
 pub(crate) fn kept_of(
     alloc: Global,
     policy: &CachePolicy,

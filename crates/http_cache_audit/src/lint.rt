@@ -1,4 +1,4 @@
-//! What looks wrong in a response, though the rules of caching give it a meaning.
+//! Finds what looks wrong in a response, though the rules of caching give it a meaning.
 ghost use Rattle.std.specs.Prelude.{◌≡◌, ◌++◌, pos, int_lt, ◌+ℤ◌, ◌-ℤ◌, option_copied};
 ghost use Rattle.std.specs.Prelude.{map, string_bytes, IfOk, OnOk};
 ghost use Rattle.std.specs.List.{list_any, flat_map};
@@ -27,37 +27,38 @@ use http_cache_rules::dates::read_date;
 use jiff::Timestamp;
 use std::alloc::{AllocError, Global};
 
-/// What looks wrong in a response: the rules give it a meaning, but it may not be the one that was meant.
+/// A suspicious part of a response, whose meaning by the rules may not be the intended one.
 #[derive(Clone, Copy, Debug, PartialEq, Eq)]
 pub enum Finding {
-    /// Two `max-age` say different things, or two `s-maxage` (RFC 9111, section 4.2.1).
+    /// Two `max-age` or two `s-maxage` have different values (RFC 9111, section 4.2.1).
     Conflict,
-    /// A `;` is in a Cache-Control line, where directives are separated by commas.
+    /// A Cache-Control line has a `;`, though commas separate directives.
     Semicolon,
-    /// A blank is in a directive without quotes and `;`, as if a comma was left out.
+    /// A directive contains a blank, but no quotes and no `;`, as if a comma were missing.
     NoComma,
     /// The seconds of `max-age` or `s-maxage` are in quotes (RFC 9111, section 5.2).
     Quoted,
-    /// `max-age` or `s-maxage` has no number of seconds, and so a lifetime of zero (RFC 9111, section 1.2.2).
+    /// `max-age` or `s-maxage` has no number of seconds, so the lifetime is zero (RFC 9111, section
+    /// 1.2.2).
     NotSeconds,
-    /// `no-store` is beside `max-age` or `s-maxage`, which then say nothing.
+    /// `no-store` is present with `max-age` or `s-maxage`, which then have no effect.
     NoStoreBeside,
-    /// `public` is beside `private`.
+    /// `public` is present with `private`.
     PublicPrivate,
-    /// Pragma says `no-cache`, and there is no Cache-Control.
+    /// Pragma has `no-cache`, and there is no Cache-Control.
     PragmaAlone,
-    /// There is Expires, and no Cache-Control.
+    /// Expires is present without Cache-Control.
     ExpiresAlone,
     /// Expires and `max-age` differ by more than 60 s.
     ExpiresAgainst,
-    /// Expires isn't a date that can be read, and not `0` or `-1`, by which a past time is meant (RFC 9111,
-    /// section 5.3).
+    /// Expires is no readable date, and not `0` or `-1`, which mean the past (RFC 9111, section
+    /// 5.3).
     NotExpires,
     /// The ETag isn't in quotes (RFC 9110, section 8.8.3).
     BareTag,
     /// Date is more than 60 s after the receipt.
     FutureDate,
-    /// Date is more than 60 s before the receipt, and no Age says where the response was.
+    /// Date is more than 60 s before the receipt, and no Age explains it.
     OldDate,
     /// Vary has `*`.
     VaryAny,
@@ -67,7 +68,7 @@ pub enum Finding {
     VaryUserAgent,
 }
 
-// All of them, in the order in which they are printed.
+// In the order of the output.
 fn findings() -> [Finding; 17]
     ensures { result ≡ findings }
 {
@@ -93,7 +94,6 @@ fn findings() -> [Finding; 17]
 }
 
 impl Finding {
-    // The words for it.
     #[tactic(auto, unfolding(crate::specs::Lint::words_of))]
     fn words(self) -> &'static str
         ensures { result.now ≡ words_of self }
@@ -120,7 +120,7 @@ impl Finding {
     }
 }
 
-// Whether the directive of a piece has a name, which is in lower case.
+// The name is in lower case.
 fn is_named(name: &str, piece: &str) -> bool
     ensures { lowercase name.now ≡ name.now → result ≡ is_named name.now piece.now }
 {
@@ -133,7 +133,7 @@ fn says_other(name: &str, one: &str, piece: &str) -> bool
     is_named(name, piece) && split_piece(one).1 != split_piece(piece).1
 }
 
-/// Returns the first piece of the Cache-Control lines whose directive has a name, which is in lower case.
+/// Returns the first piece of Cache-Control whose directive has a name, which is in lower case.
 pub(crate) fn first_named<'a>(headers: &'a HeaderMap, name: &str) -> Option<&'a str>
     ensures { lowercase name.now ≡ name.now
         → option_copied result ≡ first_named (headers_of headers.now) name.now }
@@ -141,7 +141,7 @@ pub(crate) fn first_named<'a>(headers: &'a HeaderMap, name: &str) -> Option<&'a 
     pieces_under(headers, CACHE_CONTROL).find(|piece| is_named(name, piece))
 }
 
-// Two pieces of the name, which is in lower case, say different things.
+// The name is in lower case.
 #[tactic(auto, unfolding(crate::specs::Lint::is_in_conflict))]
 fn is_in_conflict(headers: &HeaderMap, name: &str) -> bool
     ensures { lowercase name.now ≡ name.now
@@ -165,7 +165,6 @@ fn begins_quoted(value: &str) -> bool
     matches!(value.as_bytes(), [b'"', ..])
 }
 
-// The seconds of `max-age` or `s-maxage` are in quotes.
 fn is_quoted(piece: &str) -> bool
     ensures { result ≡ is_quoted piece.now }
 {
@@ -176,7 +175,6 @@ fn is_quoted(piece: &str) -> bool
         }
 }
 
-// A blank is in a directive without quotes and `;`.
 fn lacks_comma(piece: &str) -> bool
     ensures { result ≡ lacks_comma piece.now }
 {
@@ -184,7 +182,7 @@ fn lacks_comma(piece: &str) -> bool
     bytes.contains(&b' ') && !bytes.contains(&b'"') && !bytes.contains(&b';')
 }
 
-// No number of seconds is after `max-age` or `s-maxage`, and no other flaw explains it.
+// No other flaw explains it.
 fn lacks_seconds(piece: &str) -> bool
     ensures { result ≡ lacks_seconds piece.now }
 {
@@ -197,7 +195,6 @@ fn lacks_seconds(piece: &str) -> bool
         }
 }
 
-// What looks wrong in a directive.
 fn has_flaw(flaw: Finding, piece: &str) -> bool
     ensures { result ≡ has_flaw flaw piece.now }
 {
@@ -216,14 +213,12 @@ fn any_flaw(headers: &HeaderMap, flaw: Finding) -> bool
     pieces_under(headers, CACHE_CONTROL).any(|piece| has_flaw(flaw, piece))
 }
 
-// Whether a time is more than a minute before another.
 fn is_minute_before(date: Timestamp, received: Timestamp) -> bool
     ensures { result ≡ int_lt (pos 60_000_000_000) (received.nanosecond -ℤ date.nanosecond) }
 {
     received.as_nanosecond() - date.as_nanosecond() > 60_000_000_000
 }
 
-// Whether the Date is more than a minute before a time.
 fn is_dated_before(
     alloc: Global,
     received: Timestamp,
@@ -238,7 +233,6 @@ fn is_dated_before(
     })
 }
 
-// Whether the Date is more than a minute after a time.
 fn is_dated_after(
     alloc: Global,
     received: Timestamp,
@@ -253,7 +247,6 @@ fn is_dated_after(
     })
 }
 
-// The seconds of `max-age`.
 fn seconds_of(headers: &HeaderMap) -> Option<u64>
     ensures { result ≡ seconds_of (headers_of headers.now) }
 {
@@ -261,28 +254,24 @@ fn seconds_of(headers: &HeaderMap) -> Option<u64>
     number(unquote(split_piece(piece).1?))
 }
 
-// The nanosecond so many seconds after a time.
 fn after(time: Timestamp, seconds: u64) -> i128
     ensures { result ≡ after time.nanosecond seconds }
 {
     time.as_nanosecond() + seconds as i128 * 1_000_000_000
 }
 
-// Whether a time is more than a minute after a nanosecond.
 fn is_later(time: Timestamp, due: i128) -> bool
     ensures { result ≡ int_lt due (time.nanosecond -ℤ pos 60_000_000_000) }
 {
     due < time.as_nanosecond() - 60_000_000_000
 }
 
-// Whether a time is more than a minute before a nanosecond.
 fn is_earlier(time: Timestamp, due: i128) -> bool
     ensures { result ≡ int_lt (time.nanosecond +ℤ pos 60_000_000_000) due }
 {
     time.as_nanosecond() + 60_000_000_000 < due
 }
 
-// Whether two times differ from so many seconds by more than a minute.
 fn differ(from: Timestamp, to: Timestamp, seconds: u64) -> bool
     ensures { result ≡ differ from.nanosecond to.nanosecond seconds }
 {
@@ -290,7 +279,6 @@ fn differ(from: Timestamp, to: Timestamp, seconds: u64) -> bool
     is_later(to, due) || is_earlier(to, due)
 }
 
-// Whether Expires and `max-age` say different times.
 fn is_against(alloc: Global, headers: &HeaderMap) -> Result<bool, AllocError>
     ensures { IfOk result (λ holds. holds ≡ is_against (headers_of headers.now)) }
 {
@@ -303,7 +291,7 @@ fn is_against(alloc: Global, headers: &HeaderMap) -> Result<bool, AllocError>
     Ok(differ(date, expires, seconds))
 }
 
-// Whether a text of Expires isn't a date, and not one of those by which a past time is meant.
+// `0` and `-1` mean a past time, on purpose.
 fn is_no_date(alloc: Global, text: &str) -> Result<bool, AllocError>
     ensures { IfOk result (λ holds. holds ≡ is_no_date text.now) }
 {
@@ -313,7 +301,6 @@ fn is_no_date(alloc: Global, text: &str) -> Result<bool, AllocError>
     Ok(read_date(alloc, text)?.is_none())
 }
 
-// Whether Expires can't be read.
 fn is_unread(alloc: Global, headers: &HeaderMap) -> Result<bool, AllocError>
     ensures { IfOk result (λ holds. holds ≡ is_unread (headers_of headers.now)) }
 {
@@ -323,7 +310,6 @@ fn is_unread(alloc: Global, headers: &HeaderMap) -> Result<bool, AllocError>
     }
 }
 
-// Whether the ETag isn't in quotes.
 fn is_bare(headers: &HeaderMap) -> bool
     ensures { result ≡ is_bare (headers_of headers.now) }
 {
@@ -336,21 +322,19 @@ fn is_bare(headers: &HeaderMap) -> bool
     }
 }
 
-// Whether Vary has a name, which is in lower case.
+// The name is in lower case.
 fn varies_by(headers: &HeaderMap, name: &str) -> bool
     ensures { lowercase name.now ≡ name.now → result ≡ varies_by name.now (headers_of headers.now) }
 {
     pieces_under(headers, VARY).any(|piece| is_same_name(piece, name))
 }
 
-// Whether there is no Cache-Control.
 fn lacks_cache_control(headers: &HeaderMap) -> bool
     ensures { result ≡ lacks_cache_control (headers_of headers.now) }
 {
     !contains_key(headers, CACHE_CONTROL)
 }
 
-// Whether something looks wrong in a response that was received at a time.
 #[tactic(auto, unfolding(crate::specs::Lint::holds))]
 fn holds(
     alloc: Global,
@@ -386,7 +370,7 @@ fn holds(
     })
 }
 
-/// Adds words to a list, if something holds.
+/// Adds words to a list, if a condition holds.
 pub(crate) fn push_hint(
     alloc: Global,
     all: &mut Vec<String>,
@@ -402,7 +386,6 @@ pub(crate) fn push_hint(
     Ok(())
 }
 
-// The words for what looks wrong in a response that was received at a time, among some findings.
 fn hints_in(
     alloc: Global,
     headers: &HeaderMap,
@@ -420,8 +403,9 @@ fn hints_in(
     Ok(all)
 }
 
-/// Returns what looks wrong in the response that an entry received, in words. Nothing looks wrong if it
-/// received none, or if the browser answered from its own cache.
+/// Returns what looks wrong in the response that an entry received, in words.
+///
+/// A response from the browser's own cache has no hints.
 pub fn hints_of(alloc: Global, entry: &Entry) -> Result<Vec<String>, AllocError>
     ensures { IfOk result (λ all. map string_bytes all.items ≡ hints_of (entry_seen entry.now)) }
 {

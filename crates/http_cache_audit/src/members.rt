@@ -1,8 +1,9 @@
-//! What is printed of a row: named members, which are an object of JSON, the words of a line, and what is
-//! counted. Each thing has one word.
+//! Names what is printed of a row. The members are a JSON object, the words of a line, and what is
+//! counted.
 ghost use Rattle.std.specs.Prelude.{◌≡◌, ◌++◌, ◌∷◌, [], map, option_map, string_bytes, IfOk, OnOk};
 ghost use Rattle.http_cache_recording.specs.Entry.{entry_seen, reading_seen, printed_seen};
-ghost use Rattle.http_cache_audit.specs.Row.{lifetime_seen, used_seen, kept_seen, received_seen, verdict_seen, row_seen};
+ghost use Rattle.http_cache_audit.specs.Row.{lifetime_seen, used_seen, kept_seen};
+ghost use Rattle.http_cache_audit.specs.Row.{received_seen, audit_verdict_seen, row_seen};
 ghost use Rattle.http_cache_audit.specs.Members.{shown_seen, member_seen, with_text, with_count, with_some_text};
 ghost use Rattle.http_cache_audit.specs.Members.{with_texts, with_yes, kind_word, verdict_word, received_word, end_word};
 ghost use Rattle.http_cache_audit.specs.Members.{demand_word, reasons, with_lifetime, with_fresh, with_asked_about};
@@ -12,7 +13,7 @@ ghost use Rattle.http_cache_audit.specs.Members.{with_audited, with_entry, with_
 
 use crate::lint::{hints_of, push_hint};
 use crate::others::others_of;
-use crate::row::{Again, Demand, Kept, Lifetime, Outcome, Received, Row, Used, Verdict};
+use crate::row::{Again, AuditVerdict, Demand, Kept, Lifetime, Outcome, Received, Row, Used};
 use http_cache_recording::{Entry, Kind, Printed, Reading};
 use http_cache_semantics::explain::Obstacles;
 use std::alloc::{AllocError, Global};
@@ -24,9 +25,9 @@ pub enum Shown {
     Text(String),
     /// A number.
     Count(u64),
-    /// Some texts, and at least one.
+    /// At least one text.
     Texts(Vec<String>),
-    /// That it holds.
+    /// A flag that is set.
     Yes,
 }
 
@@ -132,7 +133,7 @@ impl Members {
     }
 }
 
-/// Returns the word for what an entry is counted as.
+/// Returns the word for how an entry is counted.
 #[tactic(auto, unfolding(crate::specs::Members::kind_word))]
 pub fn kind_word(reading: &Reading) -> &'static str
     ensures { result.now ≡ kind_word (reading_seen reading.now) }
@@ -150,7 +151,8 @@ pub fn kind_word(reading: &Reading) -> &'static str
     }
 }
 
-/// Returns the word for what a cache would have answered, or for the kind of what is counted apart.
+/// Returns the word for what a cache would have answered, or for the kind of an entry that is
+/// counted apart.
 #[tactic(auto, unfolding(crate::specs::Members::verdict_word))]
 pub fn verdict_word(row: &Row<'_>) -> &'static str
     ensures { result.now ≡ verdict_word (row_seen row.now) }
@@ -187,10 +189,9 @@ fn received_word(received: &Received) -> &'static str
     }
 }
 
-// How a question about a stored response ended.
 #[tactic(auto, unfolding(crate::specs::Members::end_word))]
-fn end_word(verdict: &Verdict) -> Option<&'static str>
-    ensures { option_map (λ w. w.now) result ≡ end_word (verdict_seen verdict.now) }
+fn end_word(verdict: &AuditVerdict) -> Option<&'static str>
+    ensures { option_map (λ w. w.now) result ≡ end_word (audit_verdict_seen verdict.now) }
 {
     Some(match (verdict.outcome, verdict.again) {
         (Outcome::Validate | Outcome::Refetch, None) => match &verdict.received {
@@ -218,14 +219,13 @@ fn demand_word(demand: Option<Demand>, used: Option<&Used>) -> Option<&'static s
     }
 }
 
-// A condition of its status by default forbids to store a response.
 fn lacks_lifetime(obstacles: &Obstacles) -> bool
     ensures { result ≡ lacks_lifetime obstacles.now }
 {
     !obstacles.status && obstacles.no_permission
 }
 
-// All conditions that forbid to store a response (RFC 7234, section 3), with the words for some.
+// RFC 7234, section 3.
 #[tactic(auto, unfolding(crate::specs::Members::reasons_by))]
 fn reasons_by(
     alloc: Global,
@@ -296,7 +296,6 @@ fn add_lifetime(to: &mut Members, lifetime: &Lifetime) -> Result<(), AllocError>
     to.some_text("source", lifetime.source.as_deref())
 }
 
-// The stored response that answers.
 #[tactic(auto, unfolding(crate::specs::Members::with_fresh))]
 fn add_fresh(to: &mut Members, used: &Used, is_asked: bool) -> Result<(), AllocError>
     ensures { OnOk result (map member_seen to.new.all.items
@@ -310,7 +309,6 @@ fn add_fresh(to: &mut Members, used: &Used, is_asked: bool) -> Result<(), AllocE
     add_lifetime(to, &used.lifetime)
 }
 
-// The stored response that the origin is asked about.
 #[tactic(auto, unfolding(crate::specs::Members::with_asked_about))]
 fn add_asked_about(to: &mut Members, used: &Used) -> Result<(), AllocError>
     ensures { OnOk result (map member_seen to.new.all.items
@@ -325,9 +323,9 @@ fn add_asked_about(to: &mut Members, used: &Used) -> Result<(), AllocError>
 }
 
 #[tactic(auto, unfolding(crate::specs::Members::with_used))]
-fn add_used(to: &mut Members, verdict: &Verdict) -> Result<(), AllocError>
+fn add_used(to: &mut Members, verdict: &AuditVerdict) -> Result<(), AllocError>
     ensures { OnOk result (map member_seen to.new.all.items
-        ≡ with_used (verdict_seen verdict.now) (map member_seen to.old.all.items)) }
+        ≡ with_used (audit_verdict_seen verdict.now) (map member_seen to.old.all.items)) }
 {
     to.some_text(
         "asks_for",
@@ -370,7 +368,6 @@ fn add_zero(to: &mut Members, lifetime: &Lifetime) -> Result<(), AllocError>
     }
 }
 
-// What was stored or updated.
 #[tactic(auto, unfolding(crate::specs::Members::with_kept))]
 fn add_kept(to: &mut Members, kept: &Kept) -> Result<(), AllocError>
     ensures { OnOk result (map member_seen to.new.all.items
@@ -401,9 +398,9 @@ pub fn add_received(
 }
 
 #[tactic(auto, unfolding(crate::specs::Members::with_verdict))]
-fn add_verdict(to: &mut Members, row: &Row<'_>, verdict: &Verdict) -> Result<(), AllocError>
+fn add_verdict(to: &mut Members, row: &Row<'_>, verdict: &AuditVerdict) -> Result<(), AllocError>
     ensures { OnOk result (map member_seen to.new.all.items
-        ≡ with_verdict (row_seen row.now) (verdict_seen verdict.now)
+        ≡ with_verdict (row_seen row.now) (audit_verdict_seen verdict.now)
         (map member_seen to.old.all.items)) }
 {
     add_used(to, verdict)?;
@@ -418,7 +415,7 @@ fn add_verdict(to: &mut Members, row: &Row<'_>, verdict: &Verdict) -> Result<(),
     to.count("sent", row.recorded.printed.sent)
 }
 
-/// Returns the url up to its query, if that isn't printed.
+/// Returns the url, without its query if that isn't printed.
 pub fn shown_url(url: &str, hides_query: bool) -> &str
     ensures { result.now ≡ shown_url hides_query url.now }
 {
@@ -439,7 +436,6 @@ fn add_audited(to: &mut Members, row: &Row<'_>) -> Result<(), AllocError>
     }
 }
 
-// What looks wrong in the response, and what other caches say of it.
 fn add_entry(to: &mut Members, entry: &Entry) -> Result<(), AllocError>
     ensures { OnOk result (map member_seen to.new.all.items
         ≡ with_entry (entry_seen entry.now) (map member_seen to.old.all.items)) }
@@ -448,7 +444,8 @@ fn add_entry(to: &mut Members, entry: &Entry) -> Result<(), AllocError>
     to.texts("others", others_of(to.alloc, entry)?)
 }
 
-/// Adds what looks wrong in the response and what other caches say of it, or why the entry isn't audited.
+/// Adds what looks wrong in the response and what other caches report of it, or why the entry isn't
+/// audited.
 #[tactic(auto, unfolding(crate::specs::Members::with_reading))]
 pub(crate) fn add_reading(to: &mut Members, reading: &Reading) -> Result<(), AllocError>
     ensures { OnOk result (map member_seen to.new.all.items
@@ -460,7 +457,6 @@ pub(crate) fn add_reading(to: &mut Members, reading: &Reading) -> Result<(), All
     }
 }
 
-// What is printed of every entry.
 #[tactic(auto, unfolding(crate::specs::Members::printed_members))]
 fn printed_members(alloc: Global, row: &Row<'_>, hides_query: bool) -> Result<Members, AllocError>
     ensures { IfOk result (λ to. map member_seen to.all.items

@@ -1,4 +1,4 @@
-//! The entries of a recording in the order of the walk.
+//! Sorts the entries of a recording for the walk.
 ghost use Rattle.std.specs.Prelude.{◌≡◌, ◌++◌, ℤ, map, option_map, IfOk, OnOk};
 ghost use Rattle.std.specs.Option.{option_to_list};
 ghost use Rattle.http_cache_recording.specs.Entry.{recorded_seen};
@@ -11,15 +11,15 @@ use std::alloc::{AllocError, Global};
 /// An entry, and its index in the recording.
 #[derive(Clone, Copy)]
 pub(crate) struct Sent<'a> {
-    /// Its index in the recording.
+    /// The index in the recording.
     pub index: usize,
-    /// What was recorded.
+    /// The recorded row.
     pub recorded: &'a Recorded,
-    /// What it holds.
+    /// The entry.
     pub entry: &'a Entry,
 }
 
-/// Returns the target of what was recorded, by which it is compared to others.
+/// Returns the target of a recorded row, by which it is compared with others.
 pub fn target_of(recorded: &Recorded) -> &str
     ensures { result.now ≡ target_of (recorded_seen recorded.now) }
 {
@@ -30,7 +30,7 @@ pub fn target_of(recorded: &Recorded) -> &str
 }
 
 impl<'a> Sent<'a> {
-    /// Returns its target.
+    /// Returns the target of the entry.
     pub(crate) fn target(&self) -> &'a str
         ensures { result.now ≡ target_of (sent_seen self.now).recorded }
     {
@@ -38,7 +38,6 @@ impl<'a> Sent<'a> {
     }
 }
 
-// When an entry was sent, with its index, if it isn't skipped.
 fn moment_at(index: usize, recorded: &Recorded) -> Option<(i128, usize)>
     ensures { result ≡ moment_at (index, recorded_seen recorded.now) }
 {
@@ -57,19 +56,18 @@ fn push_some(all: &mut Vec<(i128, usize)>, moment: Option<(i128, usize)>) -> Res
     }
 }
 
-// When each entry was sent, in the order of the walk. No two are equal, so no order is lost.
+// No two times and indices are equal, so the sort needn't be stable.
 fn order(alloc: Global, recorded: &[Recorded]) -> Result<Vec<(i128, usize)>, AllocError>
     ensures { IfOk result (λ all. IsOrder (map recorded_seen recorded.now) all.items) }
 {
     let mut all = Vec::new(alloc);
-    for place in 0..recorded.len() {
-        push_some(&mut all, moment_at(place, &recorded[place]))?;
+    for index in 0..recorded.len() {
+        push_some(&mut all, moment_at(index, &recorded[index]))?;
     }
     all.sort_unstable();
     Ok(all)
 }
 
-// The entry at an index, if that isn't skipped.
 fn sent_at(recorded: &[Recorded], index: usize) -> Option<Sent<'_>>
     ensures { (at : ℤ) → option_map sent_seen result
         ≡ sent_at (map recorded_seen recorded.now) (at, index) }
@@ -85,16 +83,16 @@ fn sent_at(recorded: &[Recorded], index: usize) -> Option<Sent<'_>>
     }
 }
 
-/// Returns the entries of a recording in the order of the walk: by the time at which they were sent,
-/// and of those sent at once by index.
+/// Returns the entries in the order of the walk: by the time of the request, and by index for equal
+/// times.
 pub(crate) fn walk_of(alloc: Global, recorded: &[Recorded]) -> Result<Vec<Sent<'_>>, AllocError>
     ensures { IfOk result (λ sent.
         IsWalk (map recorded_seen recorded.now) (map sent_seen sent.items)) }
 {
     let order = order(alloc, recorded)?;
     let mut all = Vec::with_capacity(alloc, order.len())?;
-    for place in 0..order.len() {
-        if let Some(sent) = sent_at(recorded, order[place].1) {
+    for index in 0..order.len() {
+        if let Some(sent) = sent_at(recorded, order[index].1) {
             all.push(sent)?;
         }
     }

@@ -1,4 +1,4 @@
-//! What caches on the way say of a response, to be read beside what the rules say.
+//! Collects what caches on the way report of a response, to be compared with the rules.
 ghost use Rattle.std.specs.Prelude.{◌≡◌, ◌++◌, map, string_bytes, IfOk, OnOk};
 ghost use Rattle.http_header.specs.Token.{lowercase};
 ghost use Rattle.http_cache_fields.specs.Headers.{headers_of};
@@ -10,7 +10,6 @@ use http_cache_fields::headers::first_text;
 use http_cache_recording::{Answer, Entry};
 use std::alloc::{AllocError, Global};
 
-// Adds the first value under a name, after the name.
 fn push_said(
     alloc: Global,
     all: &mut Vec<String>,
@@ -38,7 +37,7 @@ fn said_in(alloc: Global, headers: &HeaderMap) -> Result<Vec<String>, AllocError
     Ok(all)
 }
 
-/// Returns what caches on the way say of a response from the network: its Cache-Status (RFC 9211), X-Cache,
+/// Returns what caches report of a response from the network: Cache-Status (RFC 9211), X-Cache,
 /// CF-Cache-Status and Age.
 pub(crate) fn others_of(alloc: Global, entry: &Entry) -> Result<Vec<String>, AllocError>
     ensures { IfOk result (λ all. map string_bytes all.items ≡ others_of (entry_seen entry.now)) }

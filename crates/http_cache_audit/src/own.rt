@@ -1,5 +1,5 @@
-//! Responses that a visited browser had stored before the recording began, as its requests and its own
-//! answers show them.
+//! Infers the responses that a browser had stored before the recording began, from its requests and
+//! its own answers.
 ghost use Rattle.std.specs.Prelude.{◌≡◌, ◌≤ℤ◌, pos, option_map, IfOk, OnOk};
 ghost use Rattle.http_cache_fields.specs.Headers.{headers_of};
 ghost use Rattle.http_cache_semantics.specs.Messages.{response_seen};
@@ -19,7 +19,7 @@ use http_header::{HeaderName, HeaderValue};
 use jiff::Timestamp;
 use std::alloc::{AllocError, Global};
 
-/// Returns the time that a Date header says, if it says one (RFC 7231, section 7.1.1.2).
+/// Returns the time in Date, if it is one (RFC 7231, section 7.1.1.2).
 pub fn date_of(alloc: Global, headers: &HeaderMap) -> Result<Option<Timestamp>, AllocError>
     ensures { IfOk result (λ date. option_map (λ d. d.nanosecond) date
         ≡ date_in (headers_of headers.now)) }
@@ -30,7 +30,7 @@ pub fn date_of(alloc: Global, headers: &HeaderMap) -> Result<Option<Timestamp>, 
     }
 }
 
-// How old a response says that it is, in seconds.
+// In seconds.
 fn age_of(headers: &HeaderMap) -> u64
     ensures { result ≡ age_of (headers_of headers.now) }
 {
@@ -40,7 +40,7 @@ fn age_of(headers: &HeaderMap) -> u64
     }
 }
 
-// The time that its Date and its Age say, in nanoseconds.
+// Date plus Age.
 fn dated(alloc: Global, headers: &HeaderMap) -> Result<Option<i128>, AllocError>
     ensures { IfOk result (λ time. time ≡ dated (headers_of headers.now)) }
 {
@@ -50,15 +50,15 @@ fn dated(alloc: Global, headers: &HeaderMap) -> Result<Option<i128>, AllocError>
     Ok(Some(date.as_nanosecond() + age_of(headers) as i128 * 1_000_000_000))
 }
 
-// Whether a time lies between 1970 and another.
 fn lies_before(started: Timestamp, time: i128) -> bool
     ensures { result ≡ lies_before started.nanosecond time }
 {
     0 <= time && time <= started.as_nanosecond()
 }
 
-/// Returns when a response was received that the browser answered with: at its Date and its Age later,
-/// if that lies between 1970 and the request, else at the request.
+/// Returns when the browser received a response that it answered with.
+///
+/// That is Date plus Age if it is between 1970 and the request, otherwise the time of the request.
 #[tactic(auto, unfolding(crate::specs::Own::received_of))]
 pub(crate) fn received_of(
     alloc: Global,
@@ -80,7 +80,7 @@ pub(crate) fn received_of(
     }
 }
 
-/// Returns whether a request has a condition of its own for what its sender had stored.
+/// Returns whether a request has a condition of its own, since its sender had stored a response.
 #[tactic(auto, unfolding(crate::specs::Own::has_own_condition))]
 pub(crate) fn has_own_condition(entry: &Entry) -> bool
     ensures { result ≡ has_own_condition (entry_seen entry.now) }
@@ -92,14 +92,12 @@ pub(crate) fn has_own_condition(entry: &Entry) -> bool
     }
 }
 
-// Whether If-None-Match is one entity tag.
 fn is_only_tag(text: &str) -> bool
     ensures { result ≡ is_only_tag text.now }
 {
     text != "*" && !text.as_bytes().contains(&b',')
 }
 
-// The entity tag of a condition, if it is the only one.
 #[tactic(auto, unfolding(crate::specs::Own::tag_of))]
 fn tag_of(request: &HeaderMap) -> Option<&HeaderValue>
     ensures { option_map (λ v. v.now.bytes) result ≡ tag_of (headers_of request.now) }
@@ -110,7 +108,6 @@ fn tag_of(request: &HeaderMap) -> Option<&HeaderValue>
     first_value(request, &IF_NONE_MATCH)
 }
 
-// Puts a value under a name that the headers lack, if there is one and room for it.
 fn add_value(
     headers: &mut HeaderMap,
     name: &HeaderName,
@@ -128,8 +125,8 @@ fn add_value(
     put_value(headers, name, value)
 }
 
-/// Returns the response that a 304 to the client's own condition shows: with its headers and the
-/// validators of the condition.
+/// Returns the response that a 304 to the client's own condition shows, with the validators of the
+/// condition.
 #[tactic(auto, unfolding(crate::specs::Own::shown_by))]
 pub(crate) fn shown_by(
     entry: &Entry,

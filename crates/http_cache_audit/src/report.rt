@@ -1,5 +1,5 @@
-//! All that an audit writes: a line or an object for each row, then the counts, and what to do where the
-//! recording itself misleads.
+//! Writes an audit: a line or an object for each row, then the counts, and advice if the recording
+//! itself misleads.
 ghost use Rattle.std.specs.Prelude.{◌≡◌, ◌<◌, ◌*◌, ◌++◌, nat_lt, false, map, fold, codes, string_bytes, IfOk, OnOk};
 ghost use Rattle.std.specs.List.{flat_map};
 ghost use Rattle.serde_json.specs.Data.{object, string};
@@ -28,32 +28,32 @@ use serde_json::{Map, Value, put};
 use std::alloc::{AllocError, Global};
 use std::fmt::Write;
 
-/// How a recording is audited, and how that is printed.
+/// How a recording is audited and printed.
 #[derive(Clone, Copy, Debug)]
 pub struct Settings {
-    /// The cache that is asked.
+    /// The options of the cache that is asked.
     pub options: CacheOptions,
-    /// Requests are read without their `no-cache`.
+    /// Whether requests are read without their `no-cache`.
     pub ignores_no_cache: bool,
-    /// Queries of urls aren't printed.
+    /// Whether queries of urls are left out.
     pub hides_queries: bool,
-    /// An object a line, in place of plain lines.
+    /// Whether each line is a JSON object.
     pub json: bool,
-    /// An object a url, in place of the lines.
+    /// Whether an object is printed for each url instead of the lines.
     pub by_url: bool,
 }
 
-/// How many repeated requests there are, and how many of them a stored response answers.
+/// The number of repeated requests, and of those that a stored response answers.
 #[derive(Clone, Copy, Debug, PartialEq, Eq)]
 pub struct Hits {
     /// Those that a stored response answers.
     pub fresh: u64,
-    /// All of them.
+    /// All repeated requests.
     pub repeated: u64,
 }
 
 impl Hits {
-    /// Returns whether a stored response answers fewer than so many in a hundred.
+    /// Returns whether a stored response answers fewer than `percent` in a hundred.
     pub fn are_under(self, percent: u64) -> bool
         ensures { result ≡ nat_lt (self.fresh * 100) (percent * self.repeated) }
     {
@@ -69,7 +69,6 @@ const NO_CREDENTIALS: &str =
     "noticed: no entry has Cookie, Set-Cookie or Authorization; either the site sets none, or \
 the browser left them out of the export, and hits may be wrong: export it with sensitive data\n";
 
-// The byte, or `?` for one that isn't a blank or from `!` to `~`.
 fn printed_byte(b: u8) -> u8
     ensures value { result ≡ printed_byte b }
     ensures ascii { result < 128 }
@@ -132,7 +131,7 @@ fn line_of(alloc: Global, members: &Members) -> Result<String, AllocError>
     Ok(line)
 }
 
-/// Adds a line of text, with `?` for each byte that isn't a blank or from `!` to `~`.
+/// Adds a line of text, with `?` for each byte other than a blank and `!` to `~`.
 pub fn push_printed(out: &mut String, line: &str) -> Result<(), AllocError>
     ensures { OnOk result (string_bytes out.new ≡ string_bytes out.old
         ++ map printed_byte line.now ++ codes "\n") }
@@ -186,7 +185,7 @@ fn object_of(alloc: Global, members: &Members) -> Result<Map<String, Value>, All
     Ok(object)
 }
 
-// The line of an object whose members have no float.
+// No member is a float.
 fn push_object(
     alloc: Global,
     out: &mut String,
@@ -220,7 +219,6 @@ pub fn push_members(
     }
 }
 
-// The line of a row, which is counted.
 fn push_row(
     alloc: Global,
     out: &mut String,
@@ -259,7 +257,6 @@ fn push_counts(out: &mut String, counts: &Counts) -> Result<(), AllocError>
     Ok(())
 }
 
-// The counts as members of an object.
 fn put_counts(
     alloc: Global,
     object: &mut Map<String, Value>,
@@ -276,7 +273,7 @@ fn put_counts(
     Ok(())
 }
 
-// Whether an entry has a header that an export leaves out if it is sanitized.
+// A sanitized export leaves these headers out.
 #[tactic(auto, unfolding(crate::specs::Report::has_credentials))]
 fn has_credentials(recorded: &Recorded) -> bool
     ensures { result ≡ has_credentials (reading_seen recorded.now.reading) }
@@ -294,14 +291,13 @@ fn has_credentials(recorded: &Recorded) -> bool
         }
 }
 
-// What the recording itself may mislead by.
+// How the recording itself may mislead.
 #[derive(Clone, Copy)]
 struct Notes {
     cache_off: bool,
     no_credentials: bool,
 }
 
-// The counts with the notes.
 fn counts_of(alloc: Global, counts: &Counts, notes: Notes) -> Result<Map<String, Value>, AllocError>
     ensures { IfOk result (λ all. members_view all.entries
         ≡ counts_of notes (map count_seen counts.now.by_label.entries)) }
@@ -332,7 +328,7 @@ fn summary_of(
     Ok(all)
 }
 
-/// Adds what to do about a recording that seems to be made with the cache off, if it is one.
+/// Adds advice if the recording seems to be made with the cache off.
 #[tactic(auto, unfolding(crate::specs::Report::cache_off))]
 pub fn push_cache_off(out: &mut String, holds: bool) -> Result<(), AllocError>
     ensures { OnOk result (string_bytes out.new ≡ string_bytes out.old ++ given holds cache_off) }
@@ -344,7 +340,7 @@ pub fn push_cache_off(out: &mut String, holds: bool) -> Result<(), AllocError>
     }
 }
 
-/// Adds what to do about a recording that shows no credentials, if it is one.
+/// Adds advice if the recording shows no credentials.
 #[tactic(auto, unfolding(crate::specs::Report::no_credentials))]
 pub fn push_no_credentials(out: &mut String, holds: bool) -> Result<(), AllocError>
     ensures { OnOk result (string_bytes out.new ≡ string_bytes out.old
@@ -357,7 +353,6 @@ pub fn push_no_credentials(out: &mut String, holds: bool) -> Result<(), AllocErr
     }
 }
 
-// What follows the rows.
 #[tactic(auto, unfolding(crate::specs::Report::end_text))]
 fn push_end(
     alloc: Global,
@@ -396,14 +391,14 @@ fn push_rows<'a>(
     Ok(())
 }
 
-/// Returns whether an entry has a header that an export leaves out if it is sanitized.
+/// Returns whether an entry has a header that a sanitized export leaves out.
 pub fn any_credentials(recorded: &[Recorded]) -> bool
     ensures { result ≡ any_credentials (map recorded_seen recorded.now) }
 {
     recorded.iter().any(|one| has_credentials(one))
 }
 
-/// Returns a target where there is no entry.
+/// Returns the target to use if there is no entry.
 pub fn no_target(alloc: Global) -> Result<Uri, AllocError> {
     match Uri::from_str(alloc, "/") {
         Ok(target) => Ok(target),
@@ -411,14 +406,11 @@ pub fn no_target(alloc: Global) -> Result<Uri, AllocError> {
     }
 }
 
-/// Returns the text of the audit of a recording: a line for each entry in the order of the walk, one for
-/// each that isn't audited, then the counts by `group/name`, without those that are 0, and lines that
-/// begin with `noticed` where the recording itself misleads. With it comes how many repeated requests a
-/// stored response answers.
+/// Returns the text of an audit, and how many repeated requests a stored response answers.
 ///
-/// # Errors
-///
-/// Returns an error only if there is no memory.
+/// The text has a line for each entry in the order of the walk, then those that aren't audited. The
+/// counts that aren't 0 follow, by `group/name`, and lines that begin with `noticed` if the
+/// recording itself misleads. The only error is out of memory.
 pub fn audit(
     alloc: Global,
     recorded: &[Recorded],

@@ -1,4 +1,4 @@
-//! The last requests that went over the network, of which headers may be assumed.
+//! Finds the last requests over the network, whose headers may be assumed.
 ghost use Rattle.std.specs.Prelude.{◌≡◌, ◌-◌, ◌≤◌, [], ◌∷◌, ◌++◌, List, length, drop};
 ghost use Rattle.std.specs.Prelude.{option_map, OnOk};
 ghost use Rattle.http_cache_recording.specs.Entry.{entry_seen};
@@ -19,7 +19,6 @@ pub(crate) struct Sources<'a> {
     by_host: BTreeMap<String, &'a Entry>,
 }
 
-// Whether the network was asked as a store would have asked.
 fn is_source(entry: &Entry) -> bool
     ensures { result ≡ is_source (entry_seen entry.now) }
 {
@@ -29,7 +28,7 @@ fn is_source(entry: &Entry) -> bool
     )
 }
 
-// How many bytes of a text are before the first `/` or `?` from an index on.
+// Up to the first `/` or `?` from an index on.
 fn len_to_end(text: &[u8], start: usize) -> usize
     ensures value { result ≡ len_to_end (drop start text.now) }
     ensures within { result ≤ length text.now - start }
@@ -40,7 +39,6 @@ fn len_to_end(text: &[u8], start: usize) -> usize
         .count()
 }
 
-// The scheme and the authority of a target.
 #[tactic(auto, unfolding(crate::specs::Sources::host_of))]
 fn host_of(target: &str) -> &str
     ensures { result.now ≡ host_of target.now }
@@ -53,7 +51,7 @@ fn host_of(target: &str) -> &str
 }
 
 impl<'a> Sources<'a> {
-    /// Returns none.
+    /// Returns no sources.
     pub(crate) fn new(alloc: Global) -> Sources<'a>
         ensures { HoldsSources [] (sources_seen result) }
     {
@@ -63,7 +61,6 @@ impl<'a> Sources<'a> {
         }
     }
 
-    // The last at the host of a target.
     fn at_host(&self, target: &str) -> Option<&'a Entry>
         ensures { option_map (λ e. entry_seen e.now) result
             ≡ (sources_seen self.now).by_host (host_of target.now) }
@@ -71,8 +68,10 @@ impl<'a> Sources<'a> {
         self.by_host.get(host_of(target)).copied()
     }
 
-    /// Returns the request of which a header is assumed: the last for the target, else at the host; of
-    /// cookies always the latter.
+    /// Returns the request from which a header is assumed: the last for the target, or else at the
+    /// host.
+    ///
+    /// Cookies are always taken from the last at the host.
     #[tactic(auto, unfolding(crate::specs::Sources::source_in))]
     pub(crate) fn of(&self, target: &str, name: &str) -> Option<&'a Entry>
         ensures { option_map (λ e. entry_seen e.now) result

@@ -10,13 +10,13 @@ ghost use Rattle.http_cache_semantics.specs.Update.{selects};
 ghost use Rattle.http_cache_audit.specs.Row.{used_seen, received_seen, kept_seen};
 ghost use Rattle.http_cache_audit.specs.Lifetime.{kept_of};
 ghost use Rattle.http_cache_audit.specs.Order.{sent_seen};
-ghost use Rattle.http_cache_audit.specs.Assume.{asked_seen};
+ghost use Rattle.http_cache_audit.specs.Assume.{assumed_seen};
 ghost use Rattle.http_cache_audit.specs.Stored.{stored_seen, chosen_by, compared_to, answer, choose, used_of, validator_of};
 ghost use Rattle.http_cache_audit.specs.Stored.{differing, varies_by_all, stays, left_by, put_first, exchange_for};
 ghost use Rattle.http_cache_audit.specs.Stored.{forbidden_by, keeps_all, receive_full, updated_one, receive_304, selected};
 ghost use Rattle.http_cache_audit.specs.Stored.{receive_own_304, is_of_all};
 
-use crate::assume::Asked;
+use crate::assume::AssumedRequest;
 use crate::lifetime::{kept_of, lifetime_of};
 use crate::order::Sent;
 use crate::row::{Demand, Kept, Received, Used};
@@ -30,7 +30,7 @@ use http_header::HeaderName;
 use jiff::Timestamp;
 use std::alloc::{AllocError, Global};
 
-/// How many responses are stored for one target and method.
+/// The most responses for one target and method.
 const VARIANTS: usize = 64;
 
 /// A stored response.
@@ -38,28 +38,27 @@ const VARIANTS: usize = 64;
 pub(crate) struct Stored {
     /// Its policy.
     pub policy: CachePolicy,
-    /// Names whose values in its request are unknown.
+    /// The names whose values in its request are unknown.
     pub unknown: Vec<HeaderName>,
     /// The index of the entry with its full response, or of the one that showed it.
     pub from: usize,
-    /// How many bytes were sent for the full response, if it was sent in the recording.
+    /// The bytes that were sent for the full response, if it was sent in the recording.
     pub sent: Option<u64>,
 }
 
 /// How a stored response answers a request.
 #[derive(Clone, Copy)]
 pub(crate) struct Chosen {
-    /// Its index among those that are stored.
-    pub place: usize,
-    /// Whether it answers without asking the origin.
+    /// The index among the stored responses.
+    pub index: usize,
+    /// Whether it answers without validation.
     pub is_fresh: bool,
     /// What else the request asks for.
     pub demand: Option<Demand>,
 }
 
-// How a stored response answers a request, by why it isn't used for it without asking.
-fn chosen_by(reason: Option<Reason<'_>>, place: usize) -> Option<Chosen>
-    ensures { result ≡ chosen_by (option_map reason_seen reason.entry) place }
+fn chosen_by(reason: Option<Reason<'_>>, index: usize) -> Option<Chosen>
+    ensures { result ≡ chosen_by (option_map reason_seen reason.entry) index }
 {
     let (is_fresh, demand) = match reason {
         None => (true, None),
@@ -69,7 +68,7 @@ fn chosen_by(reason: Option<Reason<'_>>, place: usize) -> Option<Chosen>
         Some(_) => return None,
     };
     Some(Chosen {
-        place,
+        index,
         is_fresh,
         demand,
     })
@@ -81,7 +80,7 @@ fn has_first(headers: &HeaderMap, name: HeaderName) -> bool
     first_text(headers, name).is_some()
 }
 
-/// Returns the header by which a response can be validated.
+/// Returns the field by which a response can be validated (RFC 9110, section 8.8).
 #[tactic(auto, unfolding(crate::specs::Stored::validator_of))]
 pub(crate) fn validator_of(headers: &HeaderMap) -> Option<&'static str>
     ensures { option_map (λ w. w.now) result ≡ validator_of (headers_of headers.now) }
@@ -105,10 +104,13 @@ pub(crate) fn varies_by_all(headers: &HeaderMap) -> bool
 }
 
 impl Stored {
-    // A request as it compares to the stored one.
-    fn compared<'b>(&self, alloc: Global, asked: &Asked<'b>) -> Result<Asked<'b>, AllocError>
-        ensures { IfOk result (λ a. asked_seen a
-            ≡ compared_to (stored_seen self.now) (asked_seen asked.now)) }
+    fn compared<'b>(
+        &self,
+        alloc: Global,
+        asked: &AssumedRequest<'b>,
+    ) -> Result<AssumedRequest<'b>, AllocError>
+        ensures { IfOk result (λ a. assumed_seen a
+            ≡ compared_to (stored_seen self.now) (assumed_seen asked.now)) }
     {
         asked.compared(
             alloc,
@@ -117,24 +119,23 @@ impl Stored {
         )
     }
 
-    // How it answers a request, if it is for that.
     #[tactic(auto, unfolding(crate::specs::Stored::answer))]
     fn answer(
         &self,
         alloc: Global,
-        asked: &Asked<'_>,
-        place: usize,
+        asked: &AssumedRequest<'_>,
+        index: usize,
         now: Timestamp,
     ) -> Result<Option<Chosen>, AllocError>
         ensures value { IfOk result (λ c. c
-            ≡ answer (stored_seen self.now) (asked_seen asked.now) place now.nanosecond) }
-        ensures at { IfOk result (λ c. IfSome c (λ chosen. chosen.place ≡ place)) }
+            ≡ answer (stored_seen self.now) (assumed_seen asked.now) index now.nanosecond) }
+        ensures at { IfOk result (λ c. IfSome c (λ chosen. chosen.index ≡ index)) }
     {
         let asked = self.compared(alloc, asked)?;
-        Ok(chosen_by(self.policy.explain(&asked, now).reason, place))
+        Ok(chosen_by(self.policy.explain(&asked, now).reason, index))
     }
 
-    /// Returns what is reported of it if it answers a request.
+    /// Returns what is reported of the response if it answers a request.
     pub(crate) fn used(&self, alloc: Global, now: Timestamp) -> Result<Used, AllocError>
         ensures { IfOk result (λ used. used_seen used ≡ used_of (stored_seen self.now) now.nanosecond) }
     {
@@ -148,15 +149,15 @@ impl Stored {
         })
     }
 
-    /// Returns the names of Vary whose values differ from a request's, in lower case.
+    /// Returns the names in Vary whose values differ from a request's, in lower case.
     #[tactic(auto, unfolding(crate::specs::Stored::differing))]
     pub(crate) fn differing(
         &self,
         alloc: Global,
-        asked: &Asked<'_>,
+        asked: &AssumedRequest<'_>,
     ) -> Result<Vec<String>, AllocError>
         ensures { IfOk result (λ names. map string_bytes names.items
-            ≡ differing (stored_seen self.now) (asked_seen asked.now)) }
+            ≡ differing (stored_seen self.now) (assumed_seen asked.now)) }
     {
         let asked = self.compared(alloc, asked)?;
         let stored = self.policy.stored_request_headers();
@@ -172,29 +173,29 @@ impl Stored {
     }
 }
 
-/// Returns the one at an index.
-pub(crate) fn stored_at(list: &[Stored], place: usize) -> &Stored
-    requires { place < length list.now }
-    ensures { slice_get (map stored_seen list.now) place ≡ Some (stored_seen result.now) }
+/// Returns the stored response at an index.
+pub(crate) fn stored_at(list: &[Stored], index: usize) -> &Stored
+    requires { index < length list.now }
+    ensures { slice_get (map stored_seen list.now) index ≡ Some (stored_seen result.now) }
 {
-    &list[place]
+    &list[index]
 }
 
-/// Returns how those that are stored answer a request: by the first that may be used without asking,
-/// else by the first that is for it.
+/// Returns the first stored response that may be used without validation, or else the first for the
+/// request.
 pub(crate) fn choose(
     alloc: Global,
     stored: &[Stored],
-    asked: &Asked<'_>,
+    asked: &AssumedRequest<'_>,
     now: Timestamp,
 ) -> Result<Option<Chosen>, AllocError>
     ensures value { IfOk result (λ c. c
-        ≡ choose (map stored_seen stored.now) (asked_seen asked.now) now.nanosecond) }
-    ensures within { IfOk result (λ c. IfSome c (λ chosen. chosen.place < length stored.now)) }
+        ≡ choose (map stored_seen stored.now) (assumed_seen asked.now) now.nanosecond) }
+    ensures within { IfOk result (λ c. IfSome c (λ chosen. chosen.index < length stored.now)) }
 {
     let mut first = None;
-    for place in 0..stored.len() {
-        let Some(chosen) = stored_at(stored, place).answer(alloc, asked, place, now)? else {
+    for index in 0..stored.len() {
+        let Some(chosen) = stored_at(stored, index).answer(alloc, asked, index, now)? else {
             continue;
         };
         if chosen.is_fresh {
@@ -205,7 +206,6 @@ pub(crate) fn choose(
     Ok(first)
 }
 
-// What forbids to store a response, if something does.
 fn obstacles_of(policy: &CachePolicy) -> Option<Obstacles>
     ensures { result ≡ forbidden_by policy.now }
 {
@@ -218,13 +218,13 @@ fn obstacles_of(policy: &CachePolicy) -> Option<Obstacles>
 /// Returns the policy of a response.
 pub(crate) fn policy_of(
     alloc: Global,
-    asked: &Asked<'_>,
+    asked: &AssumedRequest<'_>,
     response: &response::Parts,
     received: Timestamp,
     options: CacheOptions,
 ) -> Result<CachePolicy, AllocError>
     ensures { IfOk result (λ policy. policy ≡ exchange_for (options_of options)
-        (asked_seen asked.now) (response_seen response.now) received.nanosecond) }
+        (assumed_seen asked.now) (response_seen response.now) received.nanosecond) }
 {
     match CachePolicy::new_options(alloc, asked, response, received, options) {
         Ok(policy) => Ok(policy),
@@ -242,14 +242,14 @@ fn put_in_front(list: &mut Vec<Stored>, one: Stored) -> Result<(), AllocError>
     }
 }
 
-fn take_out(list: &mut Vec<Stored>, place: usize)
-    requires { place < length list.old.items }
-    ensures items { list.new.items ≡ remove list.old.items place }
+fn take_out(list: &mut Vec<Stored>, index: usize)
+    requires { index < length list.old.items }
+    ensures items { list.new.items ≡ remove list.old.items index }
     ensures seen { map stored_seen list.new.items
-        ≡ remove (map stored_seen list.old.items) place }
+        ≡ remove (map stored_seen list.old.items) index }
     ensures len { length list.new.items + 1 ≡ length list.old.items }
 {
-    drop(list.remove(place));
+    drop(list.remove(index));
 }
 
 fn put_first(list: &mut Vec<Stored>, one: Stored) -> Result<(), AllocError>
@@ -261,8 +261,7 @@ fn put_first(list: &mut Vec<Stored>, one: Stored) -> Result<(), AllocError>
     Ok(())
 }
 
-/// Puts a response in front of those that are stored, unless it may not be stored. Of one target and
-/// method 64 are kept.
+/// Puts a response before the stored ones, if it may be stored. Only the newest 64 are kept.
 pub(crate) fn store(list: &mut Vec<Stored>, one: Stored) -> Result<Option<Obstacles>, AllocError>
     ensures obstacles { IfOk result (λ found. found ≡ forbidden_by one.policy) }
     ensures stored { IfOk result (λ found. is_none found ≡ true → map stored_seen list.new.items
@@ -277,7 +276,6 @@ pub(crate) fn store(list: &mut Vec<Stored>, one: Stored) -> Result<Option<Obstac
     Ok(None)
 }
 
-// Whether one of them varies by everything.
 fn any_is_of_all(kept: &[Stored]) -> bool
     ensures { result ≡ list_any is_of_all (map stored_seen kept.now) }
 {
@@ -285,17 +283,16 @@ fn any_is_of_all(kept: &[Stored]) -> bool
         .any(|other| varies_by_all(other.policy.stored_headers()))
 }
 
-// Whether a stored response stays beside a new one, after those that stay before it: of those that vary
-// by everything the newest does.
+// Of those that vary by everything, only the newest stays.
 #[tactic(auto, unfolding(crate::specs::Stored::stays))]
 fn stays(
     alloc: Global,
     kept: &[Stored],
     one: &Stored,
-    asked: &Asked<'_>,
+    asked: &AssumedRequest<'_>,
     now: Timestamp,
 ) -> Result<bool, AllocError>
-    ensures { IfOk result (λ yes. yes ≡ stays (asked_seen asked.now) now.nanosecond
+    ensures { IfOk result (λ yes. yes ≡ stays (assumed_seen asked.now) now.nanosecond
         (map stored_seen kept.now) (stored_seen one.now)) }
 {
     if varies_by_all(one.policy.stored_headers()) {
@@ -304,30 +301,28 @@ fn stays(
     Ok(one.answer(alloc, asked, 0, now)?.is_none())
 }
 
-// Removes what a new response replaces.
 fn make_room(
     alloc: Global,
     list: &mut Vec<Stored>,
-    asked: &Asked<'_>,
+    asked: &AssumedRequest<'_>,
     now: Timestamp,
 ) -> Result<(), AllocError>
     ensures { OnOk result (map stored_seen list.new.items
-        ≡ left_by (asked_seen asked.now) now.nanosecond (map stored_seen list.old.items)) }
+        ≡ left_by (assumed_seen asked.now) now.nanosecond (map stored_seen list.old.items)) }
 {
-    let mut place = 0;
-    while place < list.len() {
-        let one = stored_at(list.as_slice(), place);
-        if stays(alloc, &list[..place], one, asked, now)? {
-            place += 1;
+    let mut index = 0;
+    while index < list.len() {
+        let one = stored_at(list.as_slice(), index);
+        if stays(alloc, &list[..index], one, asked, now)? {
+            index += 1;
         } else {
-            take_out(list, place);
+            take_out(list, index);
         }
     }
     Ok(())
 }
 
-// Whether all that is stored stays: the origin has an error (RFC 9111, section 4.3.3), or the request
-// says `no-store`.
+// The origin server has an error (RFC 9111, section 4.3.3), or the request has `no-store`.
 fn keeps_all(status: u16, obstacles: Option<&Obstacles>) -> bool
     ensures { result ≡ keeps_all status (option_map (λ o. o.now) obstacles.entry) }
 {
@@ -344,12 +339,12 @@ pub(crate) fn receive_full(
     alloc: Global,
     list: &mut Vec<Stored>,
     sent: &Sent<'_>,
-    asked: &Asked<'_>,
+    asked: &AssumedRequest<'_>,
     response: &response::Parts,
     options: CacheOptions,
 ) -> Result<Received, AllocError>
     ensures { IfOk result (λ received. (map stored_seen list.new.items, received_seen received)
-        ≡ receive_full (options_of options) (sent_seen sent.now) (asked_seen asked.now)
+        ≡ receive_full (options_of options) (sent_seen sent.now) (assumed_seen asked.now)
         (response_seen response.now) (map stored_seen list.old.items)) }
 {
     let now = sent.entry.received;
@@ -372,15 +367,15 @@ pub(crate) fn receive_full(
     Ok(Received::Stored(kept))
 }
 
-// The stored response that a 304 updates, under its request (RFC 9111, section 4.3.4).
+// RFC 9111, section 4.3.4.
 fn updated(
     alloc: Global,
     one: &Stored,
-    asked: &Asked<'_>,
+    asked: &AssumedRequest<'_>,
     response: &response::Parts,
     now: Timestamp,
 ) -> Result<Stored, AllocError>
-    ensures { IfOk result (λ next. stored_seen next ≡ updated_one (asked_seen asked.now)
+    ensures { IfOk result (λ next. stored_seen next ≡ updated_one (assumed_seen asked.now)
         (response_seen response.now) now.nanosecond (stored_seen one.now)) }
 {
     match one.policy.next_policy(alloc, asked, response, now) {
@@ -395,7 +390,6 @@ fn updated(
     }
 }
 
-// Puts an updated response in front of all.
 fn put_updated(
     alloc: Global,
     list: &mut Vec<Stored>,
@@ -411,46 +405,45 @@ fn put_updated(
     Ok(kept)
 }
 
-/// Receives a 304 to a question about a stored response: that is updated, in front of all, or goes.
+/// Receives a 304 for the validated response, which is updated and put first, or is removed.
 #[tactic(auto, unfolding(crate::specs::Stored::receive_304))]
 pub(crate) fn receive_304(
     alloc: Global,
     list: &mut Vec<Stored>,
-    place: usize,
-    asked: &Asked<'_>,
+    index: usize,
+    asked: &AssumedRequest<'_>,
     response: &response::Parts,
     now: Timestamp,
 ) -> Result<Received, AllocError>
-    requires { place < length list.old.items }
-    ensures { IfOk result (λ received. IfSome (slice_get (map stored_seen list.old.items) place)
+    requires { index < length list.old.items }
+    ensures { IfOk result (λ received. IfSome (slice_get (map stored_seen list.old.items) index)
         (λ s. (map stored_seen list.new.items, received_seen received) ≡ receive_304
-        (asked_seen asked.now) (response_seen response.now) now.nanosecond place s
+        (assumed_seen asked.now) (response_seen response.now) now.nanosecond index s
         (map stored_seen list.old.items))) }
 {
-    let one = stored_at(list.as_slice(), place);
+    let one = stored_at(list.as_slice(), index);
     if !one.policy.is_confirmed_by(response) {
-        take_out(list, place);
+        take_out(list, index);
         return Ok(Received::NotSelected);
     }
     let next = updated(alloc, one, asked, response, now)?;
-    take_out(list, place);
+    take_out(list, index);
     Ok(Received::Updated(put_updated(alloc, list, next, now)?))
 }
 
 fn first_selected(list: &[Stored], response: &response::Parts) -> Option<usize>
     ensures value { result ≡ position (λ s. selects s.exchange (response_seen response.now))
         (map stored_seen list.now) }
-    ensures within { IfSome result (λ place. place < length list.now) }
+    ensures within { IfSome result (λ index. index < length list.now) }
 {
     list.iter()
         .position(|one| one.policy.is_confirmed_by(response))
 }
 
-// The first that a 304 selects by its validator.
 #[tactic(auto, unfolding(crate::specs::Stored::selected))]
 fn selected(list: &[Stored], response: &response::Parts) -> Option<usize>
     ensures value { result ≡ selected (response_seen response.now) (map stored_seen list.now) }
-    ensures within { IfSome result (λ place. place < length list.now) }
+    ensures within { IfSome result (λ index. index < length list.now) }
 {
     if validator_of(&response.headers).is_none() {
         return None;
@@ -458,27 +451,27 @@ fn selected(list: &[Stored], response: &response::Parts) -> Option<usize>
     first_selected(list, response)
 }
 
-/// Receives a 304 to the client's own condition: the first that it selects is updated, in front of all,
-/// and stays as it was too, unless it varies by everything.
+/// Receives a 304 to the client's own condition. The first response that it selects is updated and
+/// put first; its old form stays too, unless it varies by everything.
 #[tactic(auto, unfolding(crate::specs::Stored::receive_own_304))]
 pub(crate) fn receive_own_304(
     alloc: Global,
     list: &mut Vec<Stored>,
-    asked: &Asked<'_>,
+    asked: &AssumedRequest<'_>,
     response: &response::Parts,
     now: Timestamp,
 ) -> Result<Received, AllocError>
     ensures { IfOk result (λ received. (map stored_seen list.new.items, received_seen received)
-        ≡ receive_own_304 (asked_seen asked.now) (response_seen response.now) now.nanosecond
+        ≡ receive_own_304 (assumed_seen asked.now) (response_seen response.now) now.nanosecond
         (map stored_seen list.old.items)) }
 {
-    let Some(place) = selected(list.as_slice(), response) else {
+    let Some(index) = selected(list.as_slice(), response) else {
         return Ok(Received::NothingStored);
     };
-    let one = stored_at(list.as_slice(), place);
+    let one = stored_at(list.as_slice(), index);
     let next = updated(alloc, one, asked, response, now)?;
     if varies_by_all(one.policy.stored_headers()) {
-        take_out(list, place);
+        take_out(list, index);
     }
     Ok(Received::UpdatedOther(put_updated(alloc, list, next, now)?))
 }

@@ -1,11 +1,11 @@
-//! Maps by texts, which come from a file: ordered maps, so that no text makes them slow.
+//! Maps by texts of a file. They are ordered, so that no text makes them slow.
 ghost use Rattle.std.specs.Prelude.{◌≡◌, ℕ, List, Some, None, bytes_eq, OnOk, if◌then◌else◌};
 ghost use Rattle.std.specs.BTreeMap.{get_by_text};
 
 use std::alloc::{AllocError, Global};
 use std::collections::BTreeMap;
 
-/// Puts a value under a text, in place of what is there.
+/// Replaces the value under a text.
 #[tactic(auto, using(std::proofs::lemmas::Map::Text::text_keys))]
 pub(crate) fn put<V: Drop>(
     alloc: Global,
@@ -29,7 +29,7 @@ pub(crate) fn put<V: Drop>(
     }
 }
 
-/// Takes out the value under a text.
+/// Removes and returns the value under a text.
 #[tactic(auto, using(std::proofs::lemmas::Map::Text::text_keys))]
 pub(crate) fn take<V: Drop>(map: &mut BTreeMap<String, V>, text: &str) -> Option<V>
     ensures value { result ≡ get_by_text map.old text.now }

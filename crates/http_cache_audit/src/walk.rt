@@ -1,15 +1,15 @@
-//! What a cache would have done with each entry of a recording, one after the other.
+//! Walks the entries of a recording in order, with what a cache would have done with each.
 ghost use Rattle.std.specs.Prelude.{◌≡◌, ◌<◌, ◌++◌, [], length, map, option_map, is_some, slice_get, string_bytes, true, false};
 ghost use Rattle.std.specs.Prelude.{IfOk, IfSome, OnOk, nat_lt, cond, bytes_eq, List, ℕ, Some, None, ◌&&◌};
 ghost use Rattle.http_cache_fields.specs.Headers.{headers_of, value_count};
 ghost use Rattle.http_cache_semantics.specs.Messages.{response_seen};
 ghost use Rattle.http_cache_semantics.specs.Options.{options_of};
 ghost use Rattle.http_cache_recording.specs.Entry.{recorded_seen, entry_seen, answer_seen, body_seen, received as from_network};
-ghost use Rattle.http_cache_audit.specs.Row.{row_seen, verdict_seen, received_seen, updated};
+ghost use Rattle.http_cache_audit.specs.Row.{row_seen, audit_verdict_seen, received_seen, updated};
 ghost use Rattle.http_cache_audit.specs.Lifetime.{kept_of};
 ghost use Rattle.http_cache_audit.specs.Order.{sent_seen, target_of};
 ghost use Rattle.http_cache_audit.specs.Sources.{sources_seen, is_asked};
-ghost use Rattle.http_cache_audit.specs.Assume.{asked_seen};
+ghost use Rattle.http_cache_audit.specs.Assume.{assumed_seen};
 ghost use Rattle.http_cache_audit.specs.Stored.{stored_seen, forbidden_by, put_first};
 ghost use Rattle.http_cache_audit.specs.Walk.{walk_seen, received_apart, invalidates, verdict_with, assumed_by_own, asked_of, body_at};
 ghost use Rattle.http_cache_audit.specs.Walk.{receipt_of, used_fresh, asked_about, missed, judged, seed_of, judged_cached};
@@ -18,11 +18,11 @@ ghost use Rattle.http_cache_audit.specs.Walk.{asked_row, asked_row_on, passed_ro
 ghost use Rattle.http_cache_audit.specs.Walk.{rows_of, skipped_rows, skipped_rows_at, AreRows, left_by_passed, left_by_asked, refused};
 
 use crate::again::{again_by_own, again_of};
-use crate::assume::Asked;
+use crate::assume::AssumedRequest;
 use crate::lifetime::kept_of;
 use crate::order::{Sent, walk_of};
 use crate::own::{has_own_condition, received_of, shown_by};
-use crate::row::{Demand, Outcome, Received, Row, Verdict};
+use crate::row::{AuditVerdict, Demand, Outcome, Received, Row};
 use crate::sources::Sources;
 use crate::stored::{
     Chosen, Stored, choose, policy_of, receive_304, receive_full, receive_own_304, store,
@@ -45,14 +45,13 @@ struct Walk<'a> {
     alloc: Global,
     recorded: &'a [Recorded],
     options: CacheOptions,
-    // A target for all requests, since each list of stored responses is of one.
+    // One target for all requests, since each list of stored responses has one.
     target: &'a Uri,
 }
 
-/// What is stored, by method and target.
+/// By method and target.
 type Shelves = BTreeMap<String, Vec<Stored>>;
 
-// What became of the response to a request that is counted apart.
 fn received_apart(entry: &Entry) -> Received
     ensures { received_seen result ≡ received_apart (answer_seen entry.now.answer) }
 {
@@ -63,7 +62,7 @@ fn received_apart(entry: &Entry) -> Received
     }
 }
 
-// Whether a request invalidates what is stored for its target (RFC 7234, section 4.4).
+// RFC 7234, section 4.4.
 #[tactic(auto, unfolding(crate::specs::Walk::invalidates))]
 fn invalidates(entry: &Entry) -> bool
     ensures { result ≡ invalidates (entry_seen entry.now) }
@@ -89,7 +88,7 @@ fn key_of(alloc: Global, method: &str, target: &str) -> Result<String, AllocErro
     Ok(key)
 }
 
-// Removes what is stored for a target by a method, and returns how much that was.
+// It returns the number of removed responses.
 fn clear(
     alloc: Global,
     shelves: &mut Shelves,
@@ -116,14 +115,14 @@ fn is_asked(entry: &Entry) -> bool
     matches!(entry.kind, Kind::Asked)
 }
 
-// Whether a store is asked: the request could be answered by it, or no response was received for such a one.
+// It is asked for requests that it could answer, and for those without a whole response.
 fn asks_store(entry: &Entry) -> bool
     ensures { result ≡ asks_store (entry_seen entry.now).kind }
 {
     matches!(entry.kind, Kind::Asked | Kind::Failed)
 }
 
-// Takes out what is stored under a key, and whether a request had it.
+// It also returns whether an earlier request had the key.
 fn take_stored(alloc: Global, shelves: &mut Shelves, key: &str) -> (Vec<Stored>, bool)
     ensures stored { map stored_seen result.0.items ≡ on_shelf (shelf_at shelves.old key.now) }
     ensures is_known { result.1 ≡ is_some (shelf_at shelves.old key.now) }
@@ -136,7 +135,6 @@ fn take_stored(alloc: Global, shelves: &mut Shelves, key: &str) -> (Vec<Stored>,
     }
 }
 
-// Puts what is stored back under a key, if it is kept.
 fn put_stored(
     alloc: Global,
     shelves: &mut Shelves,
@@ -154,11 +152,10 @@ fn put_stored(
     Ok(())
 }
 
-// A verdict of which only the outcome and what became of the response are known.
-fn verdict_with(alloc: Global, outcome: Outcome, received: Received) -> Verdict
-    ensures { verdict_seen result ≡ verdict_with outcome (received_seen received) }
+fn verdict_with(alloc: Global, outcome: Outcome, received: Received) -> AuditVerdict
+    ensures { audit_verdict_seen result ≡ verdict_with outcome (received_seen received) }
 {
-    Verdict {
+    AuditVerdict {
         outcome,
         used: None,
         demand: None,
@@ -196,14 +193,13 @@ fn has_values(headers: &HeaderMap) -> bool
     headers.len() > 0
 }
 
-// Whether an answer of the browser shows a response.
 fn shows(response: &response::Parts) -> bool
     ensures { result ≡ shows (response_seen response.now) }
 {
     response.status.as_u16() != 304 && has_values(&response.headers)
 }
 
-// What is reported of the newest stored response, which a 304 confirmed.
+// A 304 confirmed the newest stored response.
 fn confirmed(alloc: Global, stored: &[Stored], now: Timestamp) -> Result<Received, AllocError>
     ensures { IfOk result (λ received. IfSome (slice_get (map stored_seen stored.now) 0)
         (λ s. received_seen received ≡ updated (kept_of s.exchange now.nanosecond))) }
@@ -215,16 +211,15 @@ fn confirmed(alloc: Global, stored: &[Stored], now: Timestamp) -> Result<Receive
 }
 
 impl<'a> Walk<'a> {
-    // Assumes what the answer of the browser varies by, if nothing is stored.
     fn assume_own(
         &self,
-        asked: &mut Asked<'a>,
+        asked: &mut AssumedRequest<'a>,
         stored: &[Stored],
         sent: &Sent<'a>,
         sources: &Sources<'a>,
     ) -> Result<(), AllocError>
-        ensures { OnOk result (asked_seen asked.new ≡ assumed_by_own
-            (walked_in (sources_seen sources.now) (sent_seen sent.now)) (asked_seen asked.old)
+        ensures { OnOk result (assumed_seen asked.new ≡ assumed_by_own
+            (walked_in (sources_seen sources.now) (sent_seen sent.now)) (assumed_seen asked.old)
             (map stored_seen stored.now) (answer_seen sent.now.entry.now.answer)) }
     {
         match &sent.entry.answer {
@@ -235,19 +230,19 @@ impl<'a> Walk<'a> {
         }
     }
 
-    // The request as it is asked, with what is assumed of it if a recording may lack its headers.
+    // A recording may lack headers of requests that didn't use the network.
     #[tactic(auto, unfolding(crate::specs::Walk::asked_of))]
     fn asked(
         &self,
         stored: &[Stored],
         sent: &Sent<'a>,
         sources: &Sources<'a>,
-    ) -> Result<Asked<'a>, AllocError>
-        ensures { IfOk result (λ a. asked_seen a ≡ asked_of (walk_seen self.now)
+    ) -> Result<AssumedRequest<'a>, AllocError>
+        ensures { IfOk result (λ a. assumed_seen a ≡ asked_of (walk_seen self.now)
             (walked_in (sources_seen sources.now) (sent_seen sent.now)) (map stored_seen stored.now)) }
     {
         let (alloc, entry) = (self.alloc, sent.entry);
-        let mut asked = Asked::new(alloc, self.target, &entry.method, &entry.headers)?;
+        let mut asked = AssumedRequest::new(alloc, self.target, &entry.method, &entry.headers)?;
         if let Answer::Received(_) = &entry.answer {
             return Ok(asked);
         }
@@ -258,7 +253,6 @@ impl<'a> Walk<'a> {
         Ok(asked)
     }
 
-    // The body of the full response of an entry.
     #[tactic(auto, unfolding(crate::specs::Walk::body_at))]
     fn body_at(&self, index: usize) -> Option<&'a Body>
         ensures { option_map (λ b. body_seen b.now) result ≡ body_at (walk_seen self.now) index }
@@ -269,19 +263,19 @@ impl<'a> Walk<'a> {
         }
     }
 
-    // What became of the response where a stored one wasn't used without asking.
+    // A stored response wasn't used without validation.
     #[tactic(auto, unfolding(crate::specs::Walk::receipt_of))]
     fn receive(
         &self,
         stored: &mut Vec<Stored>,
         sent: &Sent<'_>,
-        asked: &Asked<'_>,
-        place: Option<usize>,
+        asked: &AssumedRequest<'_>,
+        index: Option<usize>,
     ) -> Result<Received, AllocError>
-        requires { IfSome place (λ at. at < length stored.old.items) }
+        requires { IfSome index (λ at. at < length stored.old.items) }
         ensures { IfOk result (λ received. (map stored_seen stored.new.items, received_seen received)
-            ≡ receipt_of (walk_seen self.now) (sent_seen sent.now) (asked_seen asked.now)
-            (answer_seen sent.now.entry.now.answer) place (map stored_seen stored.old.items)) }
+            ≡ receipt_of (walk_seen self.now) (sent_seen sent.now) (assumed_seen asked.now)
+            (answer_seen sent.now.entry.now.answer) index (map stored_seen stored.old.items)) }
     {
         let (alloc, now) = (self.alloc, sent.entry.received);
         let response = match &sent.entry.answer {
@@ -292,45 +286,44 @@ impl<'a> Walk<'a> {
         if response.status.as_u16() != 304 {
             return receive_full(alloc, stored, sent, asked, response, self.options);
         }
-        match place {
-            Some(place) => receive_304(alloc, stored, place, asked, response, now),
+        match index {
+            Some(index) => receive_304(alloc, stored, index, asked, response, now),
             None => receive_own_304(alloc, stored, asked, response, now),
         }
     }
 
-    // The verdict where a stored response is used.
     #[tactic(auto, unfolding(crate::specs::Walk::used_fresh))]
-    fn use_fresh(&self, one: &Stored, entry: &Entry) -> Result<Verdict, AllocError>
-        ensures { IfOk result (λ verdict. verdict_seen verdict
+    fn use_fresh(&self, one: &Stored, entry: &Entry) -> Result<AuditVerdict, AllocError>
+        ensures { IfOk result (λ verdict. audit_verdict_seen verdict
             ≡ used_fresh (stored_seen one.now) (entry_seen entry.now)) }
     {
         let received = match &entry.answer {
             Answer::Failed => Received::Failed,
             _ => Received::Nothing,
         };
-        Ok(Verdict {
+        Ok(AuditVerdict {
             used: Some(one.used(self.alloc, entry.started)?),
             ..verdict_with(self.alloc, Outcome::Fresh, received)
         })
     }
 
-    // The verdict where one is asked about.
     #[tactic(auto, unfolding(crate::specs::Walk::asked_about))]
     fn ask_about(
         &self,
         stored: &mut Vec<Stored>,
         sent: &Sent<'_>,
-        asked: &Asked<'_>,
+        asked: &AssumedRequest<'_>,
         chosen: Chosen,
-    ) -> Result<Verdict, AllocError>
-        requires { chosen.place < length stored.old.items }
+    ) -> Result<AuditVerdict, AllocError>
+        requires { chosen.index < length stored.old.items }
         ensures { IfOk result (λ verdict. IfSome
-            (slice_get (map stored_seen stored.old.items) chosen.place) (λ s.
-            (verdict_seen verdict, map stored_seen stored.new.items)
-            ≡ asked_about (walk_seen self.now) (sent_seen sent.now) (asked_seen asked.now) chosen s
+            (slice_get (map stored_seen stored.old.items) chosen.index) (λ s.
+            (audit_verdict_seen verdict, map stored_seen stored.new.items)
+            ≡ asked_about (walk_seen self.now) (sent_seen sent.now)
+            (assumed_seen asked.now) chosen s
             (map stored_seen stored.old.items))) }
     {
-        let one = stored_at(stored.as_slice(), chosen.place);
+        let one = stored_at(stored.as_slice(), chosen.index);
         let used = one.used(self.alloc, sent.entry.started)?;
         let validator = validator_of(one.policy.stored_headers());
         let again = match &sent.entry.answer {
@@ -342,12 +335,12 @@ impl<'a> Walk<'a> {
             )),
             _ => None,
         };
-        let received = self.receive(stored, sent, asked, Some(chosen.place))?;
+        let received = self.receive(stored, sent, asked, Some(chosen.index))?;
         let outcome = match validator {
             Some(_) => Outcome::Validate,
             None => Outcome::Refetch,
         };
-        Ok(Verdict {
+        Ok(AuditVerdict {
             used: Some(used),
             demand: chosen.demand,
             validator,
@@ -356,16 +349,16 @@ impl<'a> Walk<'a> {
         })
     }
 
-    // The verdict where none is for the request.
     #[tactic(auto, unfolding(crate::specs::Walk::missed))]
     fn miss(
         &self,
         stored: &mut Vec<Stored>,
         sent: &Sent<'_>,
-        asked: &Asked<'_>,
-    ) -> Result<Verdict, AllocError>
-        ensures { IfOk result (λ verdict. (verdict_seen verdict, map stored_seen stored.new.items)
-            ≡ missed (walk_seen self.now) (sent_seen sent.now) (asked_seen asked.now)
+        asked: &AssumedRequest<'_>,
+    ) -> Result<AuditVerdict, AllocError>
+        ensures { IfOk result
+            (λ verdict. (audit_verdict_seen verdict, map stored_seen stored.new.items)
+            ≡ missed (walk_seen self.now) (sent_seen sent.now) (assumed_seen asked.now)
             (map stored_seen stored.old.items)) }
     {
         let (outcome, missed_by) = match stored.first() {
@@ -373,27 +366,27 @@ impl<'a> Walk<'a> {
             None => (Outcome::Miss, Vec::new(self.alloc)),
         };
         let received = self.receive(stored, sent, asked, None)?;
-        Ok(Verdict {
+        Ok(AuditVerdict {
             missed_by,
             ..verdict_with(self.alloc, outcome, received)
         })
     }
 
-    // The verdict by what is stored.
     #[tactic(auto, unfolding(crate::specs::Walk::judged))]
     fn judge(
         &self,
         stored: &mut Vec<Stored>,
         sent: &Sent<'_>,
-        asked: &Asked<'_>,
-    ) -> Result<Verdict, AllocError>
-        ensures { IfOk result (λ verdict. (verdict_seen verdict, map stored_seen stored.new.items)
-            ≡ judged (walk_seen self.now) (sent_seen sent.now) (asked_seen asked.now)
+        asked: &AssumedRequest<'_>,
+    ) -> Result<AuditVerdict, AllocError>
+        ensures { IfOk result
+            (λ verdict. (audit_verdict_seen verdict, map stored_seen stored.new.items)
+            ≡ judged (walk_seen self.now) (sent_seen sent.now) (assumed_seen asked.now)
             (map stored_seen stored.old.items)) }
     {
         match choose(self.alloc, stored.as_slice(), asked, sent.entry.started)? {
             Some(chosen) => if chosen.is_fresh {
-                self.use_fresh(&stored[chosen.place], sent.entry)
+                self.use_fresh(&stored[chosen.index], sent.entry)
             } else {
                 self.ask_about(stored, sent, asked, chosen)
             },
@@ -401,23 +394,23 @@ impl<'a> Walk<'a> {
         }
     }
 
-    // Stores a response that was stored before the recording began, or returns the verdict where it may
-    // not be stored.
+    // Stores a response that was stored before the recording began, or returns the verdict if it
+    // may not be stored.
     #[tactic(auto, unfolding(crate::specs::Walk::refused))]
     fn seed(
         &self,
         stored: &mut Vec<Stored>,
         sent: &Sent<'_>,
-        asked: &Asked<'_>,
+        asked: &AssumedRequest<'_>,
         response: &response::Parts,
         received: Timestamp,
-    ) -> Result<Option<Verdict>, AllocError>
-        ensures verdict { IfOk result (λ found. option_map verdict_seen found
-            ≡ refused (seed_of (walk_seen self.now) (sent_seen sent.now) (asked_seen asked.now)
+    ) -> Result<Option<AuditVerdict>, AllocError>
+        ensures verdict { IfOk result (λ found. option_map audit_verdict_seen found
+            ≡ refused (seed_of (walk_seen self.now) (sent_seen sent.now) (assumed_seen asked.now)
             (response_seen response.now) received.nanosecond).exchange) }
         ensures stored { IfOk result (λ found. map stored_seen stored.new.items ≡ cond (is_some found)
             (map stored_seen stored.old.items) (put_first (seed_of (walk_seen self.now)
-            (sent_seen sent.now) (asked_seen asked.now) (response_seen response.now)
+            (sent_seen sent.now) (assumed_seen asked.now) (response_seen response.now)
             received.nanosecond) (map stored_seen stored.old.items))) }
     {
         let one = Stored {
@@ -435,42 +428,43 @@ impl<'a> Walk<'a> {
         }
     }
 
-    // The verdict of an answer of the browser, where nothing is stored: it had the response before.
+    // Nothing is stored, so the browser had the response before.
     #[tactic(auto, unfolding(crate::specs::Walk::judged_cached))]
     fn judge_cached(
         &self,
         stored: &mut Vec<Stored>,
         sent: &Sent<'_>,
-        asked: &Asked<'_>,
+        asked: &AssumedRequest<'_>,
         response: &response::Parts,
-    ) -> Result<Verdict, AllocError>
+    ) -> Result<AuditVerdict, AllocError>
         requires { stored.old.items ≡ [] }
-        ensures { IfOk result (λ verdict. (verdict_seen verdict, map stored_seen stored.new.items)
-            ≡ judged_cached (walk_seen self.now) (sent_seen sent.now) (asked_seen asked.now)
+        ensures { IfOk result
+            (λ verdict. (audit_verdict_seen verdict, map stored_seen stored.new.items)
+            ≡ judged_cached (walk_seen self.now) (sent_seen sent.now) (assumed_seen asked.now)
             (response_seen response.now)) }
     {
         let received = received_of(self.alloc, &response.headers, sent.entry.started)?;
         if let Some(verdict) = self.seed(stored, sent, asked, response, received)? {
             return Ok(verdict);
         }
-        Ok(Verdict {
+        Ok(AuditVerdict {
             seeded: true,
             ..self.judge(stored, sent, asked)?
         })
     }
 
-    // The verdict of a 304 to the client's own condition, where nothing is stored.
     #[tactic(auto, unfolding(crate::specs::Walk::confirmed_own))]
     fn confirm_own(
         &self,
         stored: &mut Vec<Stored>,
         sent: &Sent<'_>,
-        asked: &Asked<'_>,
+        asked: &AssumedRequest<'_>,
         response: &response::Parts,
-    ) -> Result<Verdict, AllocError>
+    ) -> Result<AuditVerdict, AllocError>
         requires { stored.old.items ≡ [] }
-        ensures { IfOk result (λ verdict. (verdict_seen verdict, map stored_seen stored.new.items)
-            ≡ confirmed_own (walk_seen self.now) (sent_seen sent.now) (asked_seen asked.now)
+        ensures { IfOk result
+            (λ verdict. (audit_verdict_seen verdict, map stored_seen stored.new.items)
+            ≡ confirmed_own (walk_seen self.now) (sent_seen sent.now) (assumed_seen asked.now)
             (response_seen response.now)) }
     {
         let shown = shown_by(sent.entry, response)?;
@@ -479,7 +473,7 @@ impl<'a> Walk<'a> {
             return Ok(verdict);
         }
         let received = confirmed(self.alloc, stored.as_slice(), now)?;
-        Ok(Verdict {
+        Ok(AuditVerdict {
             demand: Some(Demand::Condition),
             validator: validator_of(&shown.headers),
             seeded: true,
@@ -487,20 +481,20 @@ impl<'a> Walk<'a> {
         })
     }
 
-    // The verdict of a response to the client's own condition, where nothing is stored.
     #[tactic(auto, unfolding(crate::specs::Walk::judged_own))]
     fn judge_own(
         &self,
         stored: &mut Vec<Stored>,
         sent: &Sent<'_>,
-        asked: &Asked<'_>,
+        asked: &AssumedRequest<'_>,
         response: &response::Parts,
-    ) -> Result<Verdict, AllocError>
+    ) -> Result<AuditVerdict, AllocError>
         requires empty { stored.old.items ≡ [] }
         requires response { answer_seen sent.now.entry.now.answer
             ≡ from_network (response_seen response.now) }
-        ensures { IfOk result (λ verdict. (verdict_seen verdict, map stored_seen stored.new.items)
-            ≡ judged_own (walk_seen self.now) (sent_seen sent.now) (asked_seen asked.now)
+        ensures { IfOk result
+            (λ verdict. (audit_verdict_seen verdict, map stored_seen stored.new.items)
+            ≡ judged_own (walk_seen self.now) (sent_seen sent.now) (assumed_seen asked.now)
             (response_seen response.now)) }
     {
         if response.status.as_u16() == 304 {
@@ -511,7 +505,7 @@ impl<'a> Walk<'a> {
             };
         }
         let received = self.receive(stored, sent, asked, None)?;
-        Ok(Verdict {
+        Ok(AuditVerdict {
             demand: Some(Demand::Condition),
             again: Some(again_by_own(&sent.entry.headers, response)),
             seeded: true,
@@ -519,16 +513,16 @@ impl<'a> Walk<'a> {
         })
     }
 
-    // The verdict by what is stored, or by what the entry shows to have been stored before.
     #[tactic(auto, unfolding(crate::specs::Walk::judged_all))]
     fn judge_all(
         &self,
         stored: &mut Vec<Stored>,
         sent: &Sent<'_>,
-        asked: &Asked<'_>,
-    ) -> Result<Verdict, AllocError>
-        ensures { IfOk result (λ verdict. (verdict_seen verdict, map stored_seen stored.new.items)
-            ≡ judged_all (walk_seen self.now) (sent_seen sent.now) (asked_seen asked.now)
+        asked: &AssumedRequest<'_>,
+    ) -> Result<AuditVerdict, AllocError>
+        ensures { IfOk result
+            (λ verdict. (audit_verdict_seen verdict, map stored_seen stored.new.items)
+            ≡ judged_all (walk_seen self.now) (sent_seen sent.now) (assumed_seen asked.now)
             (map stored_seen stored.old.items)) }
     {
         match &sent.entry.answer {
@@ -542,7 +536,6 @@ impl<'a> Walk<'a> {
         }
     }
 
-    // The row of a request that a store is asked for, by what is stored under its method and target.
     fn asked_row(
         &self,
         stored: &mut Vec<Stored>,
@@ -571,7 +564,6 @@ impl<'a> Walk<'a> {
         })
     }
 
-    // The row of a request that a store is asked for.
     fn ask(
         &self,
         shelves: &mut Shelves,
@@ -594,7 +586,6 @@ impl<'a> Walk<'a> {
         Ok(row)
     }
 
-    // The row of a request that is counted apart.
     fn pass(&self, shelves: &mut Shelves, sent: &Sent<'a>) -> Result<Row<'a>, AllocError>
         ensures row { IfOk result (λ row. row_seen row
             ≡ passed_row (shelf_at shelves.old) (sent_seen sent.now)) }
@@ -622,7 +613,6 @@ impl<'a> Walk<'a> {
         })
     }
 
-    // The row of an entry.
     fn row(
         &self,
         shelves: &mut Shelves,
@@ -642,7 +632,6 @@ impl<'a> Walk<'a> {
         }
     }
 
-    // The rows of entries, one after the other.
     fn rows(&self, sent: &[Sent<'a>]) -> Result<Vec<Row<'a>>, AllocError>
         ensures { IfOk result (λ rows. map row_seen rows.items
             ≡ rows_of (walk_seen self.now) (map sent_seen sent.now)) }
@@ -658,7 +647,6 @@ impl<'a> Walk<'a> {
     }
 }
 
-// Adds the row of what has an index, if that isn't audited.
 fn push_if_skipped<'a>(
     alloc: Global,
     rows: &mut Vec<Row<'a>>,
@@ -683,7 +671,6 @@ fn push_if_skipped<'a>(
     }
 }
 
-// Adds the rows of what isn't audited.
 fn push_skipped<'a>(
     alloc: Global,
     rows: &mut Vec<Row<'a>>,
@@ -698,11 +685,10 @@ fn push_skipped<'a>(
     Ok(())
 }
 
-/// Returns the rows of a recording: of its entries in the order of the walk, then of what isn't audited.
+/// Returns the rows of a recording: its entries in the order of the walk, then those that aren't
+/// audited.
 ///
-/// # Errors
-///
-/// Returns an error only if there is no memory.
+/// The only error is out of memory.
 pub fn rows_of<'a>(
     alloc: Global,
     recorded: &'a [Recorded],

@@ -1,4 +1,4 @@
-//! What recorded requests cost as they are, and where headers of their responses are changed.
+//! Compares what recorded requests cost as they are, and with changed headers.
 ghost use Rattle.std.specs.Prelude.{◌≡◌, ◌++◌, map, string_bytes, IfOk, OnOk};
 ghost use Rattle.http_cache_recording.specs.Entry.{recorded_seen};
 ghost use Rattle.http_cache_semantics.specs.Options.{options_of};
@@ -18,7 +18,6 @@ use http_cache_recording::Recorded;
 use http_cache_semantics::CacheOptions;
 use std::alloc::{AllocError, Global};
 
-// The bytes of a load in both walks.
 #[tactic(auto, unfolding(crate::specs::WhatIf::with_bytes))]
 fn add_bytes(to: &mut Members, load: &str, now: &Counts, then: &Counts) -> Result<(), AllocError>
     ensures { OnOk result (map member_seen to.new.all.items
@@ -32,7 +31,6 @@ fn add_bytes(to: &mut Members, load: &str, now: &Counts, then: &Counts) -> Resul
     to.some_count("more", after.saturating_sub(before))
 }
 
-// A sum of a load, unless it is 0.
 fn add_sum(
     to: &mut Members,
     name: &'static str,
@@ -47,7 +45,6 @@ fn add_sum(
     to.some_count(name, sum)
 }
 
-// The sums of a load in both walks.
 #[tactic(auto, unfolding(crate::specs::WhatIf::load_members))]
 fn load_members(
     alloc: Global,
@@ -83,7 +80,6 @@ fn push_load(
     push_members(alloc, out, &members, json)
 }
 
-// What a recording costs as it is, and what it shows of each full response.
 fn costs_now(
     alloc: Global,
     recorded: &[Recorded],
@@ -99,7 +95,6 @@ fn costs_now(
     Ok((known, costs))
 }
 
-// What another recording costs, by what is known of each full response.
 fn costs_then(
     alloc: Global,
     recorded: &[Recorded],
@@ -114,12 +109,8 @@ fn costs_then(
     all_costs(alloc, recorded, known, rows.as_slice())
 }
 
-/// Returns the text of what the requests of a recording cost as they are, and with the changes made: a line
-/// for the first load, and one for the later loads.
-///
-/// # Errors
-///
-/// Returns an error only if there is no memory.
+/// Returns the costs of a recording as it is and with the changes: a line for the first load, and
+/// one for the later loads. The only error is out of memory.
 pub fn what_if(
     alloc: Global,
     recorded: Vec<Recorded>,

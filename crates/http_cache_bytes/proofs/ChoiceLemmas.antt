@@ -1,4 +1,4 @@
--- Stored forms that are read from the last one to the first.
+-- Stored forms are read from the last one to the first.
 use Rattle.std.proofs.Common.{◌≡◌, ℕ, zero, suc, ◌+◌, ◌<◌, ◌≤◌, ◌≢◌, inl, inr, List, [], ◌∷◌, ◌++◌, length, take, drop, Some, sym, ap, ◌∙◌, subst, arith, slice_get, append_assoc, append-nil}
 use Rattle.std.specs.Prelude.{slice_index}
 use Rattle.std.specs.List.{sum}
@@ -11,7 +11,7 @@ use Rattle.http_cache_semantics.specs.Exchange.{Exchange}
 use Rattle.http_cache_bytes.specs.Form.{IsPolicyIn, IsNoForm}
 use Rattle.http_cache_bytes.specs.Choice.{form_at, ArePoliciesIn, AreNoPolicies}
 
--- the forms after the rest were read, and these are their policies
+-- these are the policies of the forms after `rest`
 pub record IsReading (bytes lengths : List ℕ) (left : ℕ) (rest : List ℕ) (es : List Exchange) : Type 0 where
   pub count : left + length es ≡ length lengths
   pub tail : List ℕ
@@ -41,7 +41,7 @@ reading_start bytes lengths = record {
 
 -- ---- one form more
 
--- the sums before it and after it
+-- the lengths after a form add up to the bytes after it
 sums_after : (bytes lengths : List ℕ) (left k : ℕ) (rest : List ℕ) (es : List Exchange) → left ≡ k + 1
     → IsReading bytes lengths left rest es
     → length rest + sum (drop (k + 1) lengths) ≡ length bytes
@@ -53,7 +53,6 @@ within_lengths : (bytes lengths : List ℕ) (left k : ℕ) (rest : List ℕ) (es
 within_lengths bytes lengths left k rest es next reading =
     let counted = reading.count in omega (arith, counted, next)
 
--- it has no room in what is left
 pub no_room : (bytes lengths : List ℕ) (left k : ℕ) (rest : List ℕ) (es : List Exchange) → left ≡ k + 1
     → IsReading bytes lengths left rest es → length rest < slice_index lengths k → AreNoPolicies bytes lengths
 no_room bytes lengths left k rest es next reading room =
@@ -62,7 +61,7 @@ no_room bytes lengths left k rest es next reading room =
     let split = sum_split lengths k in
     inl (λ whole. omega (arith, room, after, further, split, whole))
 
--- where the lengths add up, it begins after those before it
+-- if the lengths add up, the form begins after those before it
 pub form_here : (bytes lengths : List ℕ) (left k : ℕ) (rest : List ℕ) (es : List Exchange) (at : ℕ) → left ≡ k + 1
     → IsReading bytes lengths left rest es → at + slice_index lengths k ≡ length rest
     → sum lengths ≡ length bytes → drop at rest ≡ form_at bytes lengths k
@@ -82,7 +81,6 @@ form_here bytes lengths left k rest es at next reading room whole =
     ∙ subst (λ n. take n (drop at rest ++ reading.tail) ≡ drop at rest) size (take-append_seam (drop at rest) reading.tail) in
     sym cut ∙ ap (λ s. take (slice_index lengths k) (drop s bytes)) start
 
--- it can't be read
 pub no_form : (bytes lengths : List ℕ) (left k : ℕ) (rest : List ℕ) (es : List Exchange) (at : ℕ) → left ≡ k + 1
     → IsReading bytes lengths left rest es → at + slice_index lengths k ≡ length rest
     → IsNoForm (drop at rest) → AreNoPolicies bytes lengths

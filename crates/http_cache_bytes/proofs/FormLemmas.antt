@@ -9,9 +9,9 @@ use Rattle.serde_json.specs.Find.{of_integer}
 use Rattle.serde_json.specs.View.{items_of}
 use Rattle.serde_json.specs.Written.{has_float, items_have_float, members_have_float, compact_text}
 use Rattle.http_header.specs.HeaderMap.{Entries}
-use Rattle.http_cache_stored.specs.FormData.{options_data, moment_data}
-use Rattle.http_cache_stored.specs.HeaderObject.{text_data, members_data}
-use Rattle.http_cache_stored.specs.Stored.{stored_data}
+use Rattle.http_cache_json.specs.FormData.{options_data, moment_data}
+use Rattle.http_cache_json.specs.HeaderObject.{text_data, members_data}
+use Rattle.http_cache_json.specs.Stored.{stored_data}
 use Rattle.http_cache_semantics.specs.Exchange.{Exchange}
 use Rattle.http_cache_semantics.specs.Kept.{kept_exchange}
 use Rattle.http_cache_semantics.specs.Stored.{ReadsBack}
@@ -19,7 +19,6 @@ use Rattle.http_cache_policy.proofs.ReadLemmas.{kept-restored}
 use Rattle.http_cache_compact.specs.Compact.{IsCompactOf}
 use Rattle.http_cache_bytes.specs.Form.{is_compact, IsTextFor, IsWrittenFor}
 
--- the first byte is that of the compact form
 first_is : (bytes : List ℕ) → slice_index bytes 0 ≡ 1 → is_compact bytes ≡ true
 first_is bytes first = eq-eqb (slice_index bytes 0) 1 first
 

@@ -1,4 +1,4 @@
--- The lemmas about calls over bytes.
+-- Lemmas about calls over bytes.
 mod ResultLemmas
 mod FormLemmas
 mod ChoiceLemmas

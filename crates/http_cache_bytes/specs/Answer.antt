@@ -9,7 +9,7 @@ use Rattle.http_cache_policy.specs.declared.before.BeforeRequest.TheVariants.{Fr
 use Rattle.http_cache_bytes.specs.declared.answer.Verdict.TheVariants as verdict
 use Rattle.http_cache_bytes.specs.declared.answer.Answer.{Answer}
 
--- the verdict on an answer, and the head that is sent by it
+-- the verdict of an answer, and the head that is sent
 abbrev pub IsSentFor : BeforeRequest → Answer → Type 0
 IsSentFor (Fresh parts) a = (a.verdict ≡ verdict.Fresh) × (a.head.items ≡ response_text parts)
 IsSentFor (Stale sent matches) a =

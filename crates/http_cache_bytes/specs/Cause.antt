@@ -15,43 +15,33 @@ ForPolicy stored P = (e : Exchange) × IsPolicyIn stored e × P e
 abbrev pub ForRequest : List ℕ → (RequestSeen → Type 0) → Type 0
 ForRequest request P = (asked : Request.Parts) × IsRequest request asked × P (request_seen asked)
 
--- P holds of the response in a head
 abbrev pub ForResponse : List ℕ → (ResponseSeen → Type 0) → Type 0
 ForResponse response P = (answered : Response.Parts) × IsResponse response answered × P (response_seen answered)
 
--- P holds of the policy in a stored form and the request in a head
 abbrev pub ForAsked : List ℕ → List ℕ → (Exchange → RequestSeen → Type 0) → Type 0
 ForAsked stored request P = ForPolicy stored (λ e. ForRequest request (λ asked. P e asked))
 
--- P holds of the request and the response in two heads
 abbrev pub ForExchange : List ℕ → List ℕ → (RequestSeen → ResponseSeen → Type 0) → Type 0
 ForExchange request response P = ForRequest request (λ asked. ForResponse response (λ answered. P asked answered))
 
--- P holds of the policy in a stored form, and of the request and the response in two heads
 abbrev pub ForReceived : List ℕ → List ℕ → List ℕ → (Exchange → RequestSeen → ResponseSeen → Type 0) → Type 0
 ForReceived stored request response P =
     ForPolicy stored (λ e. ForExchange request response (λ asked answered. P e asked answered))
 
--- P holds of the policy in a stored form and the response in a head
 abbrev pub ForConfirmed : List ℕ → List ℕ → (Exchange → ResponseSeen → Type 0) → Type 0
 ForConfirmed stored response P = ForPolicy stored (λ e. ForResponse response (λ answered. P e answered))
 
--- P holds of the responses in two heads
 abbrev pub ForBoth : List ℕ → List ℕ → (ResponseSeen → ResponseSeen → Type 0) → Type 0
 ForBoth stored received P = ForResponse stored (λ r. ForResponse received (λ s. P r s))
 
--- the stored form or the response can't be read
 abbrev pub IsUnconfirmed : List ℕ → List ℕ → Type 0
 IsUnconfirmed stored response = IsNoForm stored ⊎ IsNoResponse response
 
--- the stored form or the request can't be read
 abbrev pub IsUnasked : List ℕ → List ℕ → Type 0
 IsUnasked stored request = IsNoForm stored ⊎ IsNoRequest request
 
--- one of the two heads can't be read
 abbrev pub IsNoExchange : List ℕ → List ℕ → Type 0
 IsNoExchange request response = IsNoRequest request ⊎ IsNoResponse response
 
--- one of the two heads has too many fields for a header map
 abbrev pub OverfillsExchange : List ℕ → List ℕ → Type 0
 OverfillsExchange request response = OverfillsRequest request ⊎ OverfillsResponse response

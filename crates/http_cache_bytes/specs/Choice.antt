@@ -12,17 +12,17 @@ use Rattle.http_cache_bytes.specs.declared.choice.Chosen.{Chosen}
 use Rattle.http_cache_bytes.specs.Cause.{ForRequest}
 use Rattle.http_cache_bytes.specs.Form.{IsPolicyIn, IsNoForm}
 
--- the form at an index among forms one after another that have these lengths
+-- the form at an index among consecutive forms with these lengths
 unfoldable pub form_at : List ℕ → List ℕ → ℕ → List ℕ
 form_at bytes lengths i = take (slice_index lengths i) (drop (sum (take i lengths)) bytes)
 
--- the bytes are forms one after another that have these lengths, and these are their policies
+-- these are the policies of consecutive forms with these lengths
 pub record ArePoliciesIn (bytes lengths : List ℕ) (es : List Exchange) : Type 0 where
   pub whole : sum lengths ≡ length bytes
   pub count : length es ≡ length lengths
   pub each : (i : ℕ) (e : Exchange) → slice_get es i ≡ Some e → IsPolicyIn (form_at bytes lengths i) e
 
--- the lengths don't add up to that of the bytes, or one of the forms can't be read
+-- the lengths don't add up to the length of the bytes, or one of the forms can't be read
 abbrev pub AreNoPolicies : List ℕ → List ℕ → Type 0
 AreNoPolicies bytes lengths =
     (sum lengths ≢ length bytes)
@@ -33,15 +33,14 @@ abbrev pub ForVariants : List ℕ → List ℕ → List ℕ → (List Exchange �
 ForVariants bytes lengths request P =
     (es : List Exchange) × ArePoliciesIn bytes lengths es × ForRequest request (λ asked. P es asked)
 
--- the index, the verdict and the head that is sent by a choice
+-- the index, the verdict and the head that a choice sends
 abbrev pub IsSentByChoice : Choice → Option Chosen → Type 0
-IsSentByChoice (Fresh place parts) chosen = IsSomeAnd chosen (λ c.
-    (c.index ≡ place) × (c.answer.verdict ≡ verdict.Fresh) × (c.answer.head.items ≡ response_text parts))
-IsSentByChoice (Validate place sent) chosen = IsSomeAnd chosen (λ c.
-    (c.index ≡ place) × (c.answer.verdict ≡ verdict.Validate) × (c.answer.head.items ≡ request_text sent))
+IsSentByChoice (Fresh index parts) chosen = IsSomeAnd chosen (λ c.
+    (c.index ≡ index) × (c.answer.verdict ≡ verdict.Fresh) × (c.answer.head.items ≡ response_text parts))
+IsSentByChoice (Validate index sent) chosen = IsSomeAnd chosen (λ c.
+    (c.index ≡ index) × (c.answer.verdict ≡ verdict.Validate) × (c.answer.head.items ≡ request_text sent))
 IsSentByChoice Nothing chosen = chosen ≡ None
 
--- what a cache with these policies does with a request at a time
 pub record IsChosenFor (es : List Exchange) (asked : RequestSeen) (now : ℤ) (chosen : Option Chosen)
     : Type 0 where
   pub choice : Choice

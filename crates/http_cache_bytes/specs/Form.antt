@@ -14,59 +14,55 @@ use Rattle.http_cache_semantics.specs.Stored.{Reads, ReadsBack, with_target}
 use Rattle.http_cache_compact.specs.Compact.{IsCompactOf}
 use Rattle.http_cache_bytes.specs.declared.form.Stored.{Stored}
 
--- the bytes are JSON, and its value is of the exchange
+-- the bytes are JSON whose value is of the exchange
 pub record IsTextOf (bytes : List ℕ) (e : Exchange) : Type 0 where
   pub value : Data
   pub json : read bytes ≡ Some value
   pub stored : Reads value e
 
--- the same, in UTF-8
+-- the bytes are also UTF-8
 pub record IsJsonOf (bytes : List ℕ) (e : Exchange) : Type 0 where
   pub utf8 : IsUtf8 bytes
   pub text : IsTextOf bytes e
 
--- the bytes begin as the compact form does
+-- the first byte is the version of the compact form
 abbrev pub is_compact : List ℕ → Bool
 is_compact bytes = slice_index bytes 0 == 1
 
--- the bytes are a stored form of the exchange: by their first byte the compact form, or JSON
+-- the bytes are a stored form of the exchange; the first byte says whether it is compact or JSON
 pub record IsFormOf (bytes : List ℕ) (e : Exchange) : Type 0 where
   pub compact : is_compact bytes ≡ true → IsCompactOf bytes e
   pub json : is_compact bytes ≡ false → IsJsonOf bytes e
 
--- the bytes are no JSON of a policy
 unfoldable pub IsNoJson : List ℕ → Type 0
 IsNoJson bytes = (e : Exchange) → IsJsonOf bytes e → ⊥
 
--- the bytes are no compact form
 unfoldable pub IsNoCompact : List ℕ → Type 0
 IsNoCompact bytes = (e : Exchange) → IsCompactOf bytes e → ⊥
 
--- the bytes are no stored form
 unfoldable pub IsNoForm : List ℕ → Type 0
 IsNoForm bytes = (e : Exchange) → IsFormOf bytes e → ⊥
 
--- the policy of a stored form: what is kept of the exchange that it is of
+-- a stored form's policy has what is kept of the form's exchange
 pub record IsPolicyIn (stored : List ℕ) (e : Exchange) : Type 0 where
   pub read : Exchange
   pub is_read : IsFormOf stored read
   pub kept : e ≡ kept_exchange read
 
--- the bytes read as the exchange, but for its target, which is the one that the printed target spells
+-- the bytes read as the exchange, except that the target is the one that the printed target reads
+-- as
 pub record IsWrittenFor (e : Exchange) (bytes : List ℕ) : Type 0 where
   pub back : (f : Exchange) → IsFormOf bytes f ↔ ReadsBack e f
   pub restored : (f : Exchange) → IsFormOf bytes f → kept_exchange f ≡ with_target e f.target
 
--- the same of JSON
+-- the JSON text reads as the exchange
 pub record IsTextFor (e : Exchange) (bytes : List ℕ) : Type 0 where
   pub back : (f : Exchange) → IsTextOf bytes f ↔ ReadsBack e f
 
--- the stored form of the exchange, and whether it may be stored
 pub record IsStoredFor (e : Exchange) (s : Stored) : Type 0 where
   pub form : IsWrittenFor e s.form.items
   pub storable : s.storable ≡ is_storable e
 
--- the policy of a response to a request, both as heads
 abbrev pub IsPolicyOf : List ℕ → List ℕ → Options → ℤ → Exchange → Type 0
 IsPolicyOf request response options received e =
     (asked : Request.Parts) × IsRequest request asked

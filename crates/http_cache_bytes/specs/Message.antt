@@ -1,4 +1,4 @@
--- Heads that are made of others.
+-- Heads of responses that are made from others.
 use Rattle.std.specs.Prelude.{◌≡◌, ℕ, ℤ, List}
 use Rattle.http.specs.declared.response.Parts as Response
 use Rattle.http_heads.specs.Texts.{response_text}
@@ -22,10 +22,10 @@ pub record IsHeadWith (status : ℕ) (P : Headers → Type 0) (bytes : List ℕ)
   pub headers : P (headers_of parts.headers)
   pub text : bytes ≡ response_text parts
 
--- the bytes are the head of the response with one field line for each name
+-- the head has one field line for each name
 abbrev pub IsJoined : ResponseSeen → List ℕ → Type 0
 IsJoined r bytes = IsHeadWith r.status (λ h. h ≡ joined_headers r.headers) bytes
 
--- the bytes are the head of the stored response with the fields of a 304
+-- the head is the stored one with the fields of a 304
 abbrev pub IsUpdated : ResponseSeen → ResponseSeen → List ℕ → Type 0
 IsUpdated stored received bytes = IsHeadWith stored.status (AreUpdated stored.headers received.headers) bytes

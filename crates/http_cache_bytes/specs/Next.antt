@@ -9,7 +9,6 @@ use Rattle.http_cache_semantics.specs.Update.{selects, next_exchange}
 use Rattle.http_cache_bytes.specs.Form.{IsStoredFor}
 use Rattle.http_cache_bytes.specs.declared.next.Next.{Next}
 
--- what is stored of an exchange once a response to a request was received, and the head for the client
 pub record IsNextFor (e : Exchange) (asked : RequestSeen) (answered : ResponseSeen) (now : ℤ) (n : Next)
     : Type 0 where
   pub not_modified : n.not_modified ≡ selects e answered

@@ -1,4 +1,4 @@
-//! What a cache does with a request, and why.
+//! Decides what a cache does with a request, and explains it.
 ghost use Rattle.std.specs.Prelude.{◌≡◌, ◌≢◌, ◌⊎◌, Err, IfOk, IsErrOf, IsOkUnless, string_bytes};
 ghost use Rattle.http_heads.specs.Heads.{IsNoRequest, OverfillsRequest};
 ghost use Rattle.http_cache_semantics.specs.Messages.{request_seen};
@@ -20,25 +20,23 @@ use std::hash::RandomState;
 /// What a cache does with a request.
 #[derive(Clone, Copy, Debug, PartialEq, Eq)]
 pub enum Verdict {
-    /// It sends the stored response.
+    /// The stored response is sent.
     Fresh,
-    /// It validates the stored response at the origin server.
+    /// The stored response is validated at the origin server.
     Validate,
-    /// It forwards the request, for which the stored response is not a response.
+    /// The request is forwarded, since the stored response doesn't match it.
     Forward,
 }
 
 /// What a cache does with a request, and the head that it sends.
 #[derive(Drop)]
 pub struct Answer {
-    /// What it does.
+    /// What the cache does.
     pub verdict: Verdict,
-    /// The head of the response for the client if it is fresh, else of the request that validates
-    /// what is stored.
+    /// The head that the cache sends: of the response if it is fresh, else of the request to send.
     pub head: Vec<u8>,
 }
 
-// The bytes of an answer.
 fn bytes_of_answer(alloc: Global, answer: &BeforeRequest) -> Result<Answer, CacheError>
     ensures sent { IfOk result (IsSentFor answer.now) }
     ensures only_memory { IsOkUnless result CacheError.Memory }
@@ -59,7 +57,6 @@ fn bytes_of_answer(alloc: Global, answer: &BeforeRequest) -> Result<Answer, Cach
     })
 }
 
-// What a cache does with a request.
 fn answer_to(
     alloc: Global,
     policy: &CachePolicy,
@@ -78,7 +75,6 @@ fn answer_to(
     bytes_of_answer(alloc, &answer)
 }
 
-// What a cache does with the request of a head.
 fn ask(
     alloc: Global,
     keys: RandomState,
@@ -98,14 +94,15 @@ fn ask(
     answer_to(alloc, policy, &request, now)
 }
 
-/// Returns what a cache does with a request at `now` that has stored a response under the policy,
-/// and the head that it sends (RFC 7234, section 4).
+/// Returns what a cache with a stored response does with a request at `now`, and the head that it
+/// sends (RFC 7234, section 4).
 ///
 /// # Errors
 ///
-/// `Malformed` if `stored` is no stored form or `request` no head of a request; `HeaderMapFull` if
-/// a header map can't hold the fields of the request, or of what is sent; `DateNotPrintable` if
-/// the response is fresh and `now` before 1900; and `Memory`.
+/// - `Malformed` if `stored` is no stored form or `request` no head of a request.
+/// - `HeaderMapFull` if a header map can't hold the fields of the request, or of what is sent.
+/// - `DateNotPrintable` if the response is fresh and `now` is before 1900.
+/// - `Memory` if there is not enough memory.
 pub fn before(
     alloc: Global,
     keys: RandomState,
@@ -125,7 +122,6 @@ pub fn before(
     ask(alloc, keys, &policy, request, now)
 }
 
-// The member of Cache-Status for the request of a head.
 fn explain_to(
     alloc: Global,
     keys: RandomState,
@@ -144,13 +140,14 @@ fn explain_to(
     policy.explain(&request, now).cache_status(alloc, name)
 }
 
-/// Returns the member of Cache-Status for a cache of the name, which says why the stored response
-/// is used for a request at `now` or not (RFC 9211, section 2).
+/// Returns the member of Cache-Status that says why a cache uses the stored response for a request
+/// at `now`, or why not (RFC 9211, section 2).
 ///
 /// # Errors
 ///
-/// `Malformed` if `stored` is no stored form or `request` no head of a request; `HeaderMapFull` if
-/// a header map can't hold the fields of the request; and `Memory`.
+/// - `Malformed` if `stored` is no stored form or `request` no head of a request.
+/// - `HeaderMapFull` if a header map can't hold the fields of the request.
+/// - `Memory` if there is not enough memory.
 pub fn explain(
     alloc: Global,
     keys: RandomState,

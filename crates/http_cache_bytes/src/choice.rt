@@ -1,4 +1,4 @@
-//! Which of several stored responses a cache uses for a request.
+//! Decides which of several stored responses a cache uses for a request.
 ghost use Rattle.std.specs.Prelude.{◌≡◌, ◌≢◌, ◌∷◌, ◌⊎◌, Err, IfOk, OnOk, IsErrOf, IsOkUnless};
 ghost use Rattle.http_heads.specs.Heads.{IsNoRequest, OverfillsRequest};
 ghost use Rattle.http_cache_semantics.specs.Exchange.{Exchange};
@@ -43,8 +43,8 @@ fn add_form(alloc: Global, variants: &mut Variants, form: &[u8]) -> Result<(), C
     Ok(())
 }
 
-// The policies of stored forms one after another. The last one is read first, since a policy is
-// added before the others.
+// Reads the policies of consecutive stored forms. The last form is read first, since each policy is
+// put before the others.
 fn variants_in(alloc: Global, forms: &[u8], lengths: &[usize]) -> Result<Variants, CacheError>
     ensures found { IfOk result (ArePoliciesIn forms.now lengths.now) }
     ensures malformed { IsErrOf result CacheError.Malformed → AreNoPolicies forms.now lengths.now }
@@ -70,7 +70,6 @@ fn variants_in(alloc: Global, forms: &[u8], lengths: &[usize]) -> Result<Variant
     }
 }
 
-// A choice, with the head that is sent as bytes.
 fn chosen_of(alloc: Global, choice: &Choice) -> Result<Option<Chosen>, CacheError>
     ensures sent { IfOk result (IsSentByChoice choice.now) }
     ensures only_memory { IsOkUnless result CacheError.Memory }
@@ -94,7 +93,6 @@ fn chosen_of(alloc: Global, choice: &Choice) -> Result<Option<Chosen>, CacheErro
     })
 }
 
-// What a cache with these policies does with a request.
 fn choose_among(
     alloc: Global,
     variants: &Variants,
@@ -115,7 +113,6 @@ fn choose_among(
     chosen_of(alloc, &choice)
 }
 
-// What a cache with these policies does with the request of a head.
 fn choose_for(
     alloc: Global,
     keys: RandomState,
@@ -137,17 +134,19 @@ fn choose_for(
     choose_among(alloc, variants, &request, now)
 }
 
-/// Returns which of several stored responses a cache uses for a request at `now`: the first that is
-/// fresh, else the first that is a response to the request, which has to be validated, else none
-/// (RFC 7234, sections 4 and 4.1). `forms` has their stored forms one after another, and `lengths`
-/// the length of each.
+/// Returns which of several stored responses a cache uses for a request at `now` (RFC 7234,
+/// sections 4 and 4.1). It is the first fresh one, else the first one that matches the request and
+/// has to be validated, else none.
+///
+/// `forms` has the stored forms one after another, and `lengths` the length of each.
 ///
 /// # Errors
 ///
-/// `Malformed` if the lengths don't add up to that of `forms`, one of the forms is no stored form,
-/// or `request` is no head of a request; `HeaderMapFull` if a header map can't hold the fields of
-/// the request, or of what is sent; `DateNotPrintable` if the chosen response is fresh and `now`
-/// before 1900; and `Memory`.
+/// - `Malformed` if the lengths don't add up to the length of `forms`, one of the forms is no
+///   stored form, or `request` is no head of a request.
+/// - `HeaderMapFull` if a header map can't hold the fields of the request, or of what is sent.
+/// - `DateNotPrintable` if the chosen response is fresh and `now` is before 1900.
+/// - `Memory` if there is not enough memory.
 pub fn choose(
     alloc: Global,
     keys: RandomState,

@@ -1,4 +1,4 @@
-//! What a stored response is like: its age, lifetime and what it may be used for.
+//! Facts about a stored response: its age, its lifetime and its allowed uses.
 ghost use Rattle.std.specs.Prelude.{◌≡◌, ◌≢◌, Err, IfOk, IsErrOf};
 ghost use Rattle.std.specs.Duration.{as_nanos};
 ghost use Rattle.http_heads.specs.Heads.{IsNoRequest, OverfillsRequest, IsNoResponse, OverfillsResponse};
@@ -24,7 +24,7 @@ use std::alloc::Global;
 use std::hash::RandomState;
 use std::time::Duration;
 
-// What is known of a stored response at a time, whatever the request.
+// The facts that don't depend on a request, at a time.
 #[derive(Clone, Copy)]
 struct Facts {
     storability: Storability,
@@ -33,7 +33,7 @@ struct Facts {
     time_to_live: Duration,
 }
 
-// What is known of a stored response for a request at a time.
+// The facts that depend on a request, at a time.
 #[derive(Clone, Copy)]
 struct Uses {
     fresh: bool,
@@ -106,12 +106,12 @@ fn uses_in(
     uses_for(alloc, keys, &policy, request, now)
 }
 
-/// Returns what lets the stored response be stored, or every condition that forbids it (RFC 7234,
+/// Returns what allows the response to be stored, or every condition that forbids it (RFC 7234,
 /// section 3).
 ///
 /// # Errors
 ///
-/// `Malformed` if `stored` is no stored form, and `Memory`.
+/// `Malformed` if `stored` is no stored form, and `Memory` if there is not enough memory.
 pub fn storability(alloc: Global, stored: &[u8]) -> Result<Storability, CacheError>
     ensures value { IfOk result (λ s. ForPolicy stored.now (λ e. s ≡ storability e)) }
     ensures malformed { IsErrOf result CacheError.Malformed → IsNoForm stored.now }
@@ -122,12 +122,12 @@ pub fn storability(alloc: Global, stored: &[u8]) -> Result<Storability, CacheErr
     Ok(facts.storability)
 }
 
-/// Returns how long the stored response stays fresh from when it was made, and what decides it
-/// (RFC 7234, section 4.2.1).
+/// Returns the freshness lifetime of the stored response, and what decides it (RFC 7234, section
+/// 4.2.1).
 ///
 /// # Errors
 ///
-/// `Malformed` if `stored` is no stored form, and `Memory`.
+/// `Malformed` if `stored` is no stored form, and `Memory` if there is not enough memory.
 pub fn freshness(alloc: Global, stored: &[u8]) -> Result<Freshness, CacheError>
     ensures value { IfOk result (λ f. ForPolicy stored.now (λ e. freshness_seen f ≡ freshness e)) }
     ensures malformed { IsErrOf result CacheError.Malformed → IsNoForm stored.now }
@@ -142,7 +142,7 @@ pub fn freshness(alloc: Global, stored: &[u8]) -> Result<Freshness, CacheError>
 ///
 /// # Errors
 ///
-/// `Malformed` if `stored` is no stored form, and `Memory`.
+/// `Malformed` if `stored` is no stored form, and `Memory` if there is not enough memory.
 pub fn age(alloc: Global, stored: &[u8], now: Timestamp) -> Result<Duration, CacheError>
     ensures value { IfOk result (λ d. ForPolicy stored.now
         (λ e. as_nanos d ≡ age_at e now.nanosecond)) }
@@ -158,7 +158,7 @@ pub fn age(alloc: Global, stored: &[u8], now: Timestamp) -> Result<Duration, Cac
 ///
 /// # Errors
 ///
-/// `Malformed` if `stored` is no stored form, and `Memory`.
+/// `Malformed` if `stored` is no stored form, and `Memory` if there is not enough memory.
 pub fn time_to_live(alloc: Global, stored: &[u8], now: Timestamp) -> Result<Duration, CacheError>
     ensures value { IfOk result (λ d. ForPolicy stored.now
         (λ e. as_nanos d ≡ time_to_live_at e now.nanosecond)) }
@@ -170,13 +170,14 @@ pub fn time_to_live(alloc: Global, stored: &[u8], now: Timestamp) -> Result<Dura
     Ok(facts.time_to_live)
 }
 
-/// Returns whether the stored response may be used for a request at `now` without validation
-/// (RFC 7234, section 4).
+/// Returns whether the stored response may be used for a request at `now` without validation (RFC
+/// 7234, section 4).
 ///
 /// # Errors
 ///
-/// `Malformed` if `stored` is no stored form or `request` no head of a request; `HeaderMapFull` if
-/// a header map can't hold the fields of the request; and `Memory`.
+/// - `Malformed` if `stored` is no stored form or `request` no head of a request.
+/// - `HeaderMapFull` if a header map can't hold the fields of the request.
+/// - `Memory` if there is not enough memory.
 pub fn fresh_at(
     alloc: Global,
     keys: RandomState,
@@ -194,7 +195,7 @@ pub fn fresh_at(
     Ok(uses.fresh)
 }
 
-/// Returns which use of the stored response is allowed for a request at `now` once it is stale
+/// Returns which uses of the stored response are allowed for a request at `now` once it is stale
 /// (RFC 5861, sections 3 and 4).
 ///
 /// # Errors
@@ -217,7 +218,7 @@ pub fn stale_use(
     Ok(uses.stale)
 }
 
-/// Returns whether a 304 answers the request's own conditions, once the stored response may be used
+/// Returns whether a 304 answers the request's own conditions, if the stored response may be used
 /// (RFC 9110, section 13.2.2).
 ///
 /// # Errors
@@ -259,8 +260,9 @@ fn confirms(
 ///
 /// # Errors
 ///
-/// `Malformed` if `stored` is no stored form or `response` no head of a response; `HeaderMapFull`
-/// if a header map can't hold the fields of the response; and `Memory`.
+/// - `Malformed` if `stored` is no stored form or `response` no head of a response.
+/// - `HeaderMapFull` if a header map can't hold the fields of the response.
+/// - `Memory` if there is not enough memory.
 pub fn is_confirmed_by(
     alloc: Global,
     keys: RandomState,

@@ -1,4 +1,4 @@
-//! Policies from stored forms and to them.
+//! Reads policies from stored forms, and writes them.
 ghost use Rattle.std.specs.Prelude.{◌≡◌, ◌≢◌, ◌↔◌, false, Err, IfOk, IsErrOf, IsOkUnless, string_bytes, slice_index};
 ghost use Rattle.serde_json.specs.View.{view};
 ghost use Rattle.http_cache_semantics.specs.Options.{options_of};
@@ -20,7 +20,7 @@ use serde_json::Value;
 use std::alloc::Global;
 use std::hash::RandomState;
 
-/// How a policy is written.
+/// The form in which a policy is written.
 #[derive(Clone, Copy, Debug, PartialEq, Eq)]
 pub enum Form {
     /// The compact form, which is read the fastest.
@@ -29,7 +29,7 @@ pub enum Form {
     Json,
 }
 
-/// A policy to be kept beside a response.
+/// A policy to store with a response.
 #[derive(Drop)]
 pub struct Stored {
     /// The stored form of the policy.
@@ -38,7 +38,6 @@ pub struct Stored {
     pub storable: bool,
 }
 
-// The JSON text of a policy.
 fn json_of(alloc: Global, policy: &CachePolicy) -> Result<String, CacheError>
     ensures text { IfOk result (λ text. IsTextFor policy.now (string_bytes text)) }
     ensures json { IfOk result (λ text. is_compact (string_bytes text) ≡ false) }
@@ -48,7 +47,6 @@ fn json_of(alloc: Global, policy: &CachePolicy) -> Result<String, CacheError>
     Ok(value.to_string(alloc)?)
 }
 
-// The compact form of a policy.
 fn compact_of_policy(alloc: Global, policy: &CachePolicy) -> Result<Vec<u8>, CacheError>
     ensures back { IfOk result (λ bytes. (f : Exchange)
         → IsCompactOf bytes.items f ↔ ReadsBack policy.now f) }
@@ -70,7 +68,6 @@ fn compact_of_policy(alloc: Global, policy: &CachePolicy) -> Result<Vec<u8>, Cac
     }
 }
 
-// The stored form of a policy.
 fn form_of(alloc: Global, form: Form, policy: &CachePolicy) -> Result<Vec<u8>, CacheError>
     requires { kept_exchange policy.now ≡ policy.now }
     ensures form { IfOk result (λ bytes. IsWrittenFor policy.now bytes.items) }
@@ -82,7 +79,6 @@ fn form_of(alloc: Global, form: Form, policy: &CachePolicy) -> Result<Vec<u8>, C
     }
 }
 
-/// Returns what is kept of a policy.
 pub(crate) fn stored_of(
     alloc: Global,
     form: Form,
@@ -98,7 +94,6 @@ pub(crate) fn stored_of(
     })
 }
 
-// The policy of a JSON value.
 fn policy_of_value(alloc: Global, value: &Value) -> Result<CachePolicy, CacheError>
     ensures found { IfOk result (λ policy. (e : Exchange) × Reads (view value.now) e
         × (policy ≡ kept_exchange e)) }
@@ -110,7 +105,6 @@ fn policy_of_value(alloc: Global, value: &Value) -> Result<CachePolicy, CacheErr
     CachePolicy::from_value(alloc, value)
 }
 
-// The policy of JSON text.
 #[tactic(auto, unfolding(crate::specs::Form::IsNoJson))]
 fn policy_in_json(alloc: Global, stored: &[u8]) -> Result<CachePolicy, CacheError>
     ensures found { IfOk result (λ policy. (e : Exchange) × IsJsonOf stored.now e
@@ -126,7 +120,6 @@ fn policy_in_json(alloc: Global, stored: &[u8]) -> Result<CachePolicy, CacheErro
     }
 }
 
-// The policy of a compact form.
 fn policy_in_compact(alloc: Global, stored: &[u8]) -> Result<CachePolicy, CacheError>
     ensures found { IfOk result (λ policy. (e : Exchange) × IsCompactOf stored.now e
         × (policy ≡ kept_exchange e)) }
@@ -140,14 +133,13 @@ fn policy_in_compact(alloc: Global, stored: &[u8]) -> Result<CachePolicy, CacheE
     }
 }
 
-// Whether bytes begin as the compact form does.
+// Returns whether the first byte is the version of the compact form.
 fn is_compact(bytes: &[u8]) -> bool
     ensures { result ≡ is_compact bytes.now }
 {
     !bytes.is_empty() && bytes[0] == VERSION
 }
 
-/// Returns the policy of a stored form.
 #[tactic(auto, unfolding(crate::specs::Form::IsNoForm))]
 pub(crate) fn policy_in(alloc: Global, stored: &[u8]) -> Result<CachePolicy, CacheError>
     ensures found { IfOk result (IsPolicyIn stored.now) }
@@ -162,7 +154,6 @@ pub(crate) fn policy_in(alloc: Global, stored: &[u8]) -> Result<CachePolicy, Cac
     }
 }
 
-// The policy of the response of a head.
 fn policy_with(
     alloc: Global,
     keys: RandomState,
@@ -183,7 +174,6 @@ fn policy_with(
     CachePolicy::new_options(alloc, request, &response, received, options)
 }
 
-// The policy of a response to a request, both as heads.
 fn policy_of(
     alloc: Global,
     keys: RandomState,
@@ -205,13 +195,14 @@ fn policy_of(
     policy_with(alloc, keys, &request, response, options, received)
 }
 
-/// Returns the policy of a response to a request in a stored form, and whether the response may be
-/// stored (RFC 7234, section 3). `received` is the time at which the response was received.
+/// Returns the stored form of the policy for a request and its response, and whether the response
+/// may be stored (RFC 7234, section 3). `received` is the time at which the response was received.
 ///
 /// # Errors
 ///
-/// `Malformed` if `request` is no head of a request or `response` no head of a response,
-/// `HeaderMapFull` if one has more fields than a header map holds, and `Memory`.
+/// - `Malformed` if `request` is no head of a request or `response` no head of a response.
+/// - `HeaderMapFull` if one has more fields than a header map holds.
+/// - `Memory` if there is not enough memory.
 pub fn new(
     alloc: Global,
     keys: RandomState,

@@ -1,4 +1,4 @@
-//! Heads as the calls read them, with the library's errors.
+//! Reads heads, with the library's errors.
 ghost use Rattle.std.specs.Prelude.{◌≡◌, ◌≢◌, Err, IfOk, IsErrOf};
 ghost use Rattle.http_heads.specs.Heads.{IsRequest, IsNoRequest, OverfillsRequest, IsResponse, IsNoResponse, OverfillsResponse};
 ghost use Rattle.http_heads.specs.declared.error.HeadError.{HeadError};
@@ -21,7 +21,6 @@ fn error_of(e: HeadError) -> CacheError
     }
 }
 
-/// Returns the request of a head.
 pub(crate) fn request_in(
     alloc: Global,
     keys: RandomState,
@@ -38,7 +37,6 @@ pub(crate) fn request_in(
     }
 }
 
-/// Returns the response of a head.
 pub(crate) fn response_in(
     alloc: Global,
     keys: RandomState,

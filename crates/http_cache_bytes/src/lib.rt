@@ -1,7 +1,7 @@
 //! The library's calls over bytes: a message is a head of HTTP/1.1, and a policy its stored form.
+//! No call keeps state.
 //!
-//! No call keeps anything. It relies on `http_heads` for heads and on `http_cache_semantics` for
-//! every rule of caching.
+//! It relies on `http_heads` for heads and on `http_cache_semantics` for every rule of caching.
 #![tactic(auto)]
 
 mod answer;

@@ -1,4 +1,4 @@
-//! Heads of responses that are made of others.
+//! Makes heads of responses from others.
 ghost use Rattle.std.specs.Prelude.{◌≡◌, ◌≢◌, ◌⊎◌, Err, IfOk, IsErrOf, IsOkUnless};
 ghost use Rattle.http_heads.specs.Heads.{IsNoResponse, OverfillsResponse};
 ghost use Rattle.http_cache_semantics.specs.Headers.{headers_of};
@@ -19,7 +19,6 @@ use jiff::Timestamp;
 use std::alloc::Global;
 use std::hash::RandomState;
 
-// The head of the stored response.
 fn head_at(alloc: Global, policy: &CachePolicy, now: Timestamp) -> Result<Vec<u8>, CacheError>
     ensures head { IfOk result (λ bytes. IsHeadAt policy.now now.nanosecond bytes.items) }
     ensures full { IsErrOf result CacheError.HeaderMapFull → RefusesAge policy.now }
@@ -30,13 +29,14 @@ fn head_at(alloc: Global, policy: &CachePolicy, now: Timestamp) -> Result<Vec<u8
     Ok(bytes_of_response(alloc, &parts)?)
 }
 
-/// Returns the head of the stored response as it may be sent at `now`, fresh or not: its status and
-/// every field line but those of one connection, with its Age (RFC 9111, sections 4.2.4 and 5.1).
+/// Returns the head of the stored response as it may be sent at `now`, fresh or not. It has the
+/// stored status, all field lines but connection-specific ones, and Age (RFC 9111, sections 4.2.4
+/// and 5.1).
 ///
 /// # Errors
 ///
-/// `Malformed` if `stored` is no stored form, `HeaderMapFull` if the fields have no room for Age,
-/// and `Memory`.
+/// `Malformed` if `stored` is no stored form, `HeaderMapFull` if there is no room for Age, and
+/// `Memory` if there is not enough memory.
 pub fn response_at(alloc: Global, stored: &[u8], now: Timestamp) -> Result<Vec<u8>, CacheError>
     ensures head { IfOk result (λ bytes. ForPolicy stored.now
         (λ e. IsHeadAt e now.nanosecond bytes.items)) }
@@ -48,7 +48,6 @@ pub fn response_at(alloc: Global, stored: &[u8], now: Timestamp) -> Result<Vec<u
     head_at(alloc, &policy, now)
 }
 
-// The head with one field line for each name.
 fn join(alloc: Global, parts: &response::Parts) -> Result<Vec<u8>, CacheError>
     ensures head { IfOk result (λ bytes. IsJoined (response_seen parts.now) bytes.items) }
     ensures only_memory { IsOkUnless result CacheError.Memory }
@@ -61,16 +60,16 @@ fn join(alloc: Global, parts: &response::Parts) -> Result<Vec<u8>, CacheError>
     Ok(bytes_of_response(alloc, &joined)?)
 }
 
-/// Returns the head of a response with one field line for each name (RFC 9110, section 5.3), as a
-/// cache keeps it before `new`.
+/// Returns the head of a response with one field line for each name, as a cache stores it before
+/// `new` (RFC 9110, section 5.3).
 ///
-/// Set-Cookie keeps its lines, as does a name with a line that isn't text. Age, Date, ETag, Expires
+/// Set-Cookie, and a name with a line that isn't text, keep their lines. Age, Date, ETag, Expires
 /// and Last-Modified keep the first line.
 ///
 /// # Errors
 ///
-/// `Malformed` if `response` is no head of a response, `HeaderMapFull` if a header map can't hold its
-/// fields, and `Memory`.
+/// `Malformed` if `response` is no head of a response, `HeaderMapFull` if a header map can't hold
+/// its fields, and `Memory` if there is not enough memory.
 pub fn joined(alloc: Global, keys: RandomState, response: &[u8]) -> Result<Vec<u8>, CacheError>
     ensures head { IfOk result (λ bytes. ForResponse response.now (λ r. IsJoined r bytes.items)) }
     ensures malformed { IsErrOf result CacheError.Malformed → IsNoResponse response.now }
@@ -81,7 +80,6 @@ pub fn joined(alloc: Global, keys: RandomState, response: &[u8]) -> Result<Vec<u
     join(alloc, &parts)
 }
 
-// The head of a response with a status and headers.
 fn head_of(alloc: Global, status: StatusCode, headers: HeaderMap) -> Result<Vec<u8>, CacheError>
     ensures head { IfOk result (λ bytes. IsHeadWith status (λ h. h ≡ headers_of headers) bytes.items) }
     ensures only_memory { IsOkUnless result CacheError.Memory }
@@ -94,7 +92,6 @@ fn head_of(alloc: Global, status: StatusCode, headers: HeaderMap) -> Result<Vec<
     Ok(bytes_of_response(alloc, &parts)?)
 }
 
-// The head of a stored response with the fields of a 304.
 fn update(
     alloc: Global,
     stored: &response::Parts,
@@ -114,7 +111,6 @@ fn update(
     }
 }
 
-// The head of a stored response with the fields of the 304 of a head.
 fn update_with(
     alloc: Global,
     keys: RandomState,
@@ -133,13 +129,14 @@ fn update_with(
     update(alloc, stored, &received)
 }
 
-/// Returns the head of a stored response with the fields of a 304 in place of the stored ones of
-/// their names, and new names too (RFC 9111, section 3.2).
+/// Returns the head of a stored response with the fields of a 304, which replace stored fields with
+/// their names (RFC 9111, section 3.2).
 ///
 /// # Errors
 ///
-/// `Malformed` if one of the two is no head of a response, `HeaderMapFull` if a header map can't hold
-/// the fields of one or of both, and `Memory`.
+/// - `Malformed` if one of the two is no head of a response.
+/// - `HeaderMapFull` if a header map can't hold the fields of one or of both.
+/// - `Memory` if there is not enough memory.
 pub fn updated(
     alloc: Global,
     keys: RandomState,

@@ -1,4 +1,4 @@
-//! What is stored and sent after the origin server has responded.
+//! Decides what is stored and sent after the origin server has responded.
 ghost use Rattle.std.specs.Prelude.{◌≡◌, ◌≢◌, ◌⊎◌, Err, IfOk, IsErrOf, IsOkUnless};
 ghost use Rattle.http_heads.specs.Heads.{IsNoResponse, OverfillsResponse};
 ghost use Rattle.http_heads.specs.Texts.{response_text};
@@ -23,15 +23,14 @@ use std::hash::RandomState;
 /// What is stored after the origin server has responded, and the head for the client.
 #[derive(Drop)]
 pub struct Next {
-    /// Whether the stored body is still that of the response.
+    /// Whether the stored body is still the body of the response.
     pub not_modified: bool,
-    /// The policy from then on.
+    /// The policy to store.
     pub stored: Stored,
     /// The head of the response for the client.
     pub head: Vec<u8>,
 }
 
-// What is stored and sent of a policy.
 fn next_of(
     alloc: Global,
     form: Form,
@@ -53,7 +52,6 @@ fn next_of(
     })
 }
 
-// The bytes of what is stored and sent.
 fn bytes_of_next(alloc: Global, form: Form, answer: &AfterResponse) -> Result<Next, CacheError>
     requires { kept_exchange (policy_in answer.now) ≡ policy_in answer.now }
     ensures next { IfOk result (λ next. (next.not_modified ≡ is_not_modified answer.now)
@@ -67,7 +65,6 @@ fn bytes_of_next(alloc: Global, form: Form, answer: &AfterResponse) -> Result<Ne
     }
 }
 
-// What is stored and sent after a response to a request was received.
 fn received(
     alloc: Global,
     form: Form,
@@ -90,7 +87,6 @@ fn received(
     bytes_of_next(alloc, form, &answer)
 }
 
-// What is stored and sent after the response of a head was received.
 fn receive(
     alloc: Global,
     keys: RandomState,
@@ -114,7 +110,6 @@ fn receive(
     received(alloc, form, policy, request, &response, now)
 }
 
-// What is stored and sent after a response to the request of a head was received.
 fn receive_for(
     alloc: Global,
     keys: RandomState,
@@ -140,14 +135,16 @@ fn receive_for(
     receive(alloc, keys, form, policy, &request, response, now)
 }
 
-/// Returns what is stored after the origin server has responded to a request at `now`, and the head
+/// Returns what to store after the origin server has responded to a request at `now`, and the head
 /// for the client (RFC 7234, section 4.3.4).
 ///
 /// # Errors
 ///
-/// `Malformed` if `stored` is no stored form, `request` no head of a request or `response` no head
-/// of a response; `HeaderMapFull` if a header map can't hold the fields of a head or of what is
-/// sent; `DateNotPrintable` if `now` is before 1900; and `Memory`.
+/// - `Malformed` if `stored` is no stored form, `request` no head of a request or `response` no
+///   head of a response.
+/// - `HeaderMapFull` if a header map can't hold the fields of a head or of what is sent.
+/// - `DateNotPrintable` if `now` is before 1900.
+/// - `Memory` if there is not enough memory.
 pub fn after(
     alloc: Global,
     keys: RandomState,

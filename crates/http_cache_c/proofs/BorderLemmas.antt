@@ -1,4 +1,4 @@
--- What is returned and written, by the codes and bytes that are handed over.
+-- Codes and written bytes determine what a call returned and wrote.
 use Rattle.std.proofs.Common.{◌≡◌, ℕ, ℤ, List, arith, ◌∙◌, subst, w32}
 use Rattle.std.specs.Prelude.{FitsSigned}
 use Rattle.std.specs.Int.{cast_signed, cast_unsigned}
@@ -12,7 +12,7 @@ same_out z k xs ys r n old new fits zs is h =
     subst (λ (b : List ℕ). IsHanded k b r n old new) is
     (subst (λ (c : ℤ). IsHanded c xs r n old new) (to_z-of_z w32 z fits ∙ zs) h)
 
--- a result that is done or too small is no other error
+-- the code of a buffer that is too small is no success
 pub small_is_failed : (z : ℤ) → z ≡ too_small → ¬ (IsDone z)
 small_is_failed z is done = omega (arith, ints, is, done)
 

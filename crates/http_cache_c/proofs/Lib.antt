@@ -1,2 +1,2 @@
--- The lemmas about what crosses to C.
+-- Lemmas about what crosses to C.
 mod BorderLemmas

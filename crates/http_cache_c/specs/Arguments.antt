@@ -1,4 +1,4 @@
--- What the arguments of a call say.
+-- The arguments of a call.
 use Rattle.std.specs.Prelude.{ℕ, ◌+◌, ◌*◌, ◌<◌, ◌≢◌, ℤ, pos, ◌+ℤ◌, ◌*ℤ◌, not, ◌==◌}
 use Rattle.jiff_core.specs.Timestamp.{IsTimestampNanos}
 use Rattle.http_cache_semantics.specs.Options.{Options}
@@ -10,11 +10,10 @@ use Rattle.http_cache_c.specs.declared.arguments.HcsTime.{HcsTime}
 abbrev pub nanosecond_in : HcsTime → ℤ
 nanosecond_in t = t.seconds *ℤ pos 1_000_000_000 +ℤ pos t.nanoseconds
 
--- the nanoseconds are below a second, and the time is one that a date can have
+-- the nanoseconds are below a second, and a date can have the time
 abbrev pub IsTime : HcsTime → Type 0
 IsTime t = (t.nanoseconds < 1_000_000_000) × IsTimestampNanos (nanosecond_in t)
 
--- the options of a cache
 abbrev pub options_in : HcsCache → Options
 options_in c = record {
   shared = not (c.shared == 0);
@@ -27,10 +26,8 @@ options_in c = record {
 abbrev pub AreOptions : HcsCache → Type 0
 AreOptions c = (c.immutable_nanoseconds < 1_000_000_000) × (c.heuristic_denominator ≢ 0)
 
--- the number is that of a form
 abbrev pub IsForm : HcsCache → Type 0
 IsForm c = c.form < 2
 
--- the nanoseconds of a duration
 abbrev pub nanos_of : HcsDuration → ℕ
 nanos_of d = d.seconds * 1_000_000_000 + d.nanoseconds

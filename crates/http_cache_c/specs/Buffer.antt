@@ -1,7 +1,7 @@
 -- What is written to a buffer.
 use Rattle.std.specs.Prelude.{◌≡◌, ◌≤◌, ℕ, ℤ, List, ◌++◌, length, drop}
 
--- the bytes are at the front of the buffer, and what follows them is as it was
+-- the bytes are at the front of the buffer, and what follows them is unchanged
 pub record IsWritten (bytes : List ℕ) (needed : ℕ) (old new : List ℕ) : Type 0 where
   pub needed_is : needed ≡ length bytes
   pub fits : length bytes ≤ length old

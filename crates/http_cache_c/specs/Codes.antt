@@ -11,7 +11,6 @@ use Rattle.http_cache_bytes.specs.declared.answer.Verdict.{Verdict}
 use Rattle.http_cache_bytes.specs.declared.answer.Verdict.TheVariants.{Fresh, Validate, Forward}
 use Rattle.http_cache_bytes.specs.declared.next.Next.{Next}
 
--- out of memory
 abbrev pub no_memory : ℤ
 no_memory = neg_ℤ (pos 1)
 
@@ -27,29 +26,25 @@ full = neg_ℤ (pos 3)
 abbrev pub undated : ℤ
 undated = neg_ℤ (pos 4)
 
--- a buffer is too small
 abbrev pub too_small : ℤ
 too_small = neg_ℤ (pos 5)
 
--- an argument is out of its range
 abbrev pub bad_argument : ℤ
 bad_argument = neg_ℤ (pos 6)
 
--- the call did what it is for
+-- the call succeeded
 abbrev pub IsDone : ℤ → Type 0
 IsDone code = pos 0 ≤ℤ code
 
--- 0 for fresh, 1 for validate, 2 for forward
 abbrev pub verdict_code : Verdict → ℤ
 verdict_code Fresh = pos 0
 verdict_code Validate = pos 1
 verdict_code Forward = pos 2
 
--- 1 for true, 0 for false
 abbrev pub bool_code : Bool → ℤ
 bool_code b = if b then pos 1 else pos 0
 
--- 0 if the stored body is still that of the response, else 1 if the new one may be stored, else 2
+-- 0 if the stored body stays, else 1 if the new response may be stored, else 2
 abbrev pub next_code : Next → ℤ
 next_code n =
     if n.not_modified then pos 0 else (if n.stored.storable then pos 1 else pos 2)
@@ -70,7 +65,7 @@ source_code source.LastModified = pos 10
 source_code source.Immutable = pos 11
 source_code source.Nothing = pos 12
 
--- 1 while it is validated, and 2 more if the origin server fails
+-- 1 while it is validated, plus 2 if the origin server fails
 abbrev pub stale_use_code : StaleUse → ℤ
 stale_use_code u =
     if u.while_revalidate then (if u.if_error then pos 3 else pos 1)
@@ -84,16 +79,15 @@ permission_code permission.SMaxage = pos 3
 permission_code permission.Public = pos 4
 permission_code permission.Status = pos 5
 
--- 0 if it may not be stored, else the code of what lets it
+-- 0 if the response may not be stored, else the code of what allows it
 abbrev pub storability_code : Storability → ℤ
 storability_code (storability.Allowed p) = permission_code p
 storability_code (storability.Forbidden os) = pos 0
 
--- the value of a bit
 abbrev pub bit : Bool → ℕ → ℕ
 bit b n = if b then n else 0
 
--- a bit for each condition that forbids to store it, in the order of the struct
+-- a bit for each condition that forbids storing, in the order of the struct
 abbrev pub obstacle_bits : Storability → ℕ
 obstacle_bits (storability.Allowed p) = 0
 obstacle_bits (storability.Forbidden os) =

@@ -1,4 +1,4 @@
--- What is written of each result.
+-- What is written for each result.
 use Rattle.std.specs.Prelude.{◌≡◌, ℕ, ℤ, List, Option, Some, None}
 use Rattle.http_cache_bytes.specs.declared.answer.Answer.{Answer}
 use Rattle.http_cache_bytes.specs.declared.answer.Verdict.TheVariants.{Forward}
@@ -8,24 +8,23 @@ use Rattle.http_cache_bytes.specs.declared.next.Next.{Next}
 use Rattle.http_cache_c.specs.Codes.{verdict_code, bool_code, next_code}
 use Rattle.http_cache_c.specs.Buffer.{IsWritten, IsHanded}
 
--- the stored form, with 1 if the response may be stored, else 0
+-- the stored form is written; the code says whether the response may be stored
 abbrev pub IsStoredOut : Stored → ℤ → ℕ → List ℕ → List ℕ → Type 0
 IsStoredOut s result needed old new =
     IsHanded (bool_code s.storable) s.form.items result needed old new
 
--- the head, with the code of the verdict
+-- the head is written, and the code of the verdict returned
 abbrev pub IsAnswerOut : Answer → ℤ → ℕ → List ℕ → List ℕ → Type 0
 IsAnswerOut a result needed old new =
     IsHanded (verdict_code a.verdict) a.head.items result needed old new
 
--- the index and the head, with the code of the verdict; for none how many there are, and no head
+-- the index and the head of the chosen response; for none the number of responses, and no head
 abbrev pub IsChosenOut : Option Chosen → ℕ → ℤ → ℕ → ℕ → List ℕ → List ℕ → Type 0
 IsChosenOut (Some c) count result index needed old new =
     (index ≡ c.index) × IsAnswerOut c.answer result needed old new
 IsChosenOut None count result index needed old new =
     (index ≡ count) × (result ≡ verdict_code Forward) × (needed ≡ 0) × (new ≡ old)
 
--- the stored form and the head, each in its buffer
 pub record IsNextOut (n : Next) (result : ℤ) (form_needed : ℕ) (old_form new_form : List ℕ)
     (needed : ℕ) (old new : List ℕ) : Type 0 where
   pub code_is : result ≡ next_code n

@@ -21,7 +21,7 @@ use crate::codes::{BAD_ARGUMENT, NO_MEMORY, code_of, code_of_bool, code_of_verdi
 use http_cache_bytes::{before, explain, new};
 use std::alloc::Global;
 
-/// Writes the stored form of the policy of a response, and returns 1 if the response may be stored,
+/// Writes the stored form of the policy of a response. Returns 1 if the response may be stored,
 /// else 0.
 #[unsafe(no_mangle)]
 pub extern "C" fn hcs_new(
@@ -68,8 +68,8 @@ pub extern "C" fn hcs_new(
     }
 }
 
-/// Writes the head that a cache sends for a request, and returns what it does: 0 for fresh, 1 for
-/// validate, 2 for forward.
+/// Writes the head that a cache sends for a request. Returns 0 if the stored response is fresh, 1
+/// if it is validated, 2 if the request is forwarded.
 #[unsafe(no_mangle)]
 pub extern "C" fn hcs_before(
     alloc: Global,
@@ -110,7 +110,7 @@ pub extern "C" fn hcs_before(
     }
 }
 
-/// Writes the member of Cache-Status for a cache of the name, and returns 0.
+/// Writes the member of Cache-Status, and returns 0.
 #[unsafe(no_mangle)]
 pub extern "C" fn hcs_explain(
     alloc: Global,

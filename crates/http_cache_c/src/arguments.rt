@@ -1,4 +1,4 @@
-//! Structs that C passes, and what they say.
+//! Reads and writes the structs that C passes.
 ghost use Rattle.std.specs.Prelude.{◌≡◌, IfSome, IfNone};
 ghost use Rattle.std.specs.Duration.{as_nanos};
 ghost use Rattle.http_cache_semantics.specs.Options.{options_of};
@@ -13,11 +13,11 @@ use std::io;
 use std::random::RandomSource;
 use std::time::Duration;
 
-/// How a cache behaves, and its secret.
+/// The options of a cache, and its secret.
 #[repr(C)]
 #[derive(Clone, Copy)]
 pub struct HcsCache {
-    /// Random bits, chosen once a process, against header names that collide.
+    /// Random bits, chosen once for each process, against header names that collide.
     pub secret: u64,
     /// More random bits.
     pub more_secret: u64,
@@ -33,11 +33,11 @@ pub struct HcsCache {
     pub shared: u8,
     /// Not 0 if cargo-cult directives are ignored.
     pub ignore_cargo_cult: u8,
-    /// How stored forms are written: 0 for the compact form, 1 for JSON.
+    /// The form in which policies are written: 0 for the compact form, 1 for JSON.
     pub form: u8,
 }
 
-/// A time: the seconds since 1970, and the nanoseconds after them.
+/// A time.
 #[repr(C)]
 #[derive(Clone, Copy)]
 pub struct HcsTime {
@@ -74,7 +74,7 @@ impl RandomSource for Secret {
     }
 }
 
-/// Returns the keys of header maps. A `Secret` always has bytes.
+/// Returns the keys of header maps, which exist, since a `Secret` always has bytes.
 pub(crate) fn keys_of(cache: &HcsCache) -> Option<RandomState> {
     let secret = Secret {
         low: cache.secret,
@@ -83,7 +83,7 @@ pub(crate) fn keys_of(cache: &HcsCache) -> Option<RandomState> {
     RandomState::new(&secret).ok()
 }
 
-/// Returns the time, if it is one.
+/// Returns the time, if it is in range.
 pub(crate) fn time_of(time: &HcsTime) -> Option<Timestamp>
     ensures some { IfSome result (λ t. t.nanosecond ≡ nanosecond_in time.now) }
     ensures none { IfNone result (¬ (IsTime time.now)) }
@@ -116,7 +116,6 @@ pub(crate) fn options_of(cache: &HcsCache) -> Option<CacheOptions>
     })
 }
 
-/// Returns the duration as C reads it.
 pub(crate) fn duration_of(duration: Duration) -> HcsDuration
     ensures { nanos_of result ≡ as_nanos duration }
 {
@@ -126,7 +125,7 @@ pub(crate) fn duration_of(duration: Duration) -> HcsDuration
     }
 }
 
-/// Returns the form in which policies are written, if there is one of the number.
+/// Returns the form in which policies are written, if the number is valid.
 pub(crate) fn form_of(cache: &HcsCache) -> Option<Form>
     ensures none { IfNone result (¬ (IsForm cache.now)) }
 {

@@ -1,4 +1,4 @@
-//! Bytes to buffers of the caller.
+//! Writes bytes to buffers of the caller.
 ghost use Rattle.std.specs.Prelude.{◌≡◌, ◌≤◌, ◌<◌, ◌⊎◌, true, false, length, pos, ◌≤ℤ◌};
 ghost use Rattle.http_cache_c.specs.Buffer.{IsWritten, IsHanded};
 ghost use Rattle.http_cache_c.specs.Codes.{IsDone, too_small};
@@ -13,8 +13,8 @@ fn write(bytes: &[u8], out: &mut [u8])
     out[..bytes.len()].copy_from_slice(bytes);
 }
 
-/// Writes the bytes and returns the code if there is room, else writes nothing. Either way `needed`
-/// is how much room there has to be.
+/// Writes the bytes and returns the code if there is room, else writes nothing. `needed` becomes
+/// the required room in either case.
 pub(crate) fn hand(code: i32, bytes: &[u8], out: &mut [u8], needed: &mut usize) -> i32
     requires { pos 0 ≤ℤ code }
     ensures done { IsDone result → IsHanded code bytes.now result needed.new out.old out.new }
@@ -30,8 +30,7 @@ pub(crate) fn hand(code: i32, bytes: &[u8], out: &mut [u8], needed: &mut usize) 
     code
 }
 
-/// Writes both to their buffers if there is room in each, else writes nothing, and returns whether
-/// it did.
+/// Writes both to their buffers if each has room, else writes nothing. Returns whether it wrote.
 pub(crate) fn write_both(
     form: &[u8],
     form_out: &mut [u8],

@@ -15,7 +15,8 @@ use crate::codes::{BAD_ARGUMENT, NO_MEMORY, code_of, code_of_verdict};
 use http_cache_bytes::{Chosen, Verdict, choose};
 use std::alloc::Global;
 
-// Writes the index and the head of the chosen response, or as the index how many there are.
+// Writes the index and the head of the chosen response. If there is none, the index becomes the
+// number of stored responses.
 fn hand_chosen(
     chosen: &Option<Chosen>,
     count: usize,
@@ -44,8 +45,8 @@ fn hand_chosen(
     )
 }
 
-/// Writes which of several stored responses a cache uses for a request, and the head that it sends,
-/// and returns what it does: 0 for fresh, 1 for validate, 2 for forward.
+/// Writes which of several stored responses a cache uses for a request, and the head that it sends.
+/// Returns 0 if the response is fresh, 1 if it is validated, 2 if the request is forwarded.
 #[unsafe(no_mangle)]
 pub extern "C" fn hcs_choose(
     alloc: Global,

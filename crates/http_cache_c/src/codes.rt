@@ -7,7 +7,7 @@ use http_cache_bytes::{Next, Verdict};
 use http_cache_semantics::explain::{LifetimeSource, Obstacles, Permission, Storability};
 use http_cache_semantics::{CacheError, StaleUse};
 
-/// Out of memory.
+/// There is not enough memory.
 pub(crate) const NO_MEMORY: i32 = -1;
 
 /// A stored form or a head can't be read.
@@ -25,7 +25,6 @@ pub(crate) const TOO_SMALL: i32 = -5;
 /// An argument is out of its range.
 pub(crate) const BAD_ARGUMENT: i32 = -6;
 
-/// Returns the code of an error.
 pub(crate) fn code_of(e: CacheError) -> i32
     ensures negative { ¬ (IsDone result) }
     ensures malformed { result ≡ malformed → e ≡ CacheError.Malformed }
@@ -41,7 +40,6 @@ pub(crate) fn code_of(e: CacheError) -> i32
     }
 }
 
-/// Returns the code of a verdict.
 pub(crate) fn code_of_verdict(verdict: Verdict) -> i32
     ensures { result ≡ verdict_code verdict }
 {
@@ -52,14 +50,12 @@ pub(crate) fn code_of_verdict(verdict: Verdict) -> i32
     }
 }
 
-/// Returns 1 for true and 0 for false.
 pub(crate) fn code_of_bool(holds: bool) -> i32
     ensures { result ≡ bool_code holds }
 {
     if holds { 1 } else { 0 }
 }
 
-/// Returns the code of what is stored next.
 pub(crate) fn code_of_next(next: &Next) -> i32
     ensures code { result ≡ next_code next.now }
     ensures done { IsDone result }
@@ -73,7 +69,6 @@ pub(crate) fn code_of_next(next: &Next) -> i32
     }
 }
 
-/// Returns the code of what decides how long a response stays fresh.
 pub(crate) fn code_of_source(source: LifetimeSource) -> i32
     ensures { result ≡ source_code source }
 {
@@ -94,7 +89,6 @@ pub(crate) fn code_of_source(source: LifetimeSource) -> i32
     }
 }
 
-/// Returns the code of the uses of a stale response.
 pub(crate) fn code_of_stale_use(allowed: StaleUse) -> i32
     ensures { result ≡ stale_use_code allowed }
 {
@@ -119,7 +113,7 @@ fn code_of_permission(permission: Permission) -> i32
     }
 }
 
-/// Returns the code of what lets a response be stored, or 0.
+/// Returns the code of what allows a response to be stored, or 0.
 pub(crate) fn code_of_storability(storability: Storability) -> i32
     ensures { result ≡ storability_code storability }
 {
@@ -147,7 +141,7 @@ fn bits_of_obstacles(obstacles: Obstacles) -> u32
         + bit(obstacles.no_permission, 64)
 }
 
-/// Returns a bit for each condition that forbids to store a response.
+/// Returns a bit for each condition that forbids storing a response.
 pub(crate) fn bits_of_storability(storability: Storability) -> u32
     ensures { result ≡ obstacle_bits storability }
 {

@@ -1,4 +1,4 @@
-//! What a stored response is like: its age, lifetime and what it may be used for.
+//! Facts about a stored response: its age, its lifetime and its allowed uses.
 ghost use Rattle.std.specs.Prelude.{◌≡◌, ℕ, List};
 ghost use Rattle.http_heads.specs.Heads.{OverfillsRequest, OverfillsResponse};
 ghost use Rattle.http_cache_semantics.specs.Age.{age_at, time_to_live_at};
@@ -25,8 +25,9 @@ use http_cache_bytes::{
 };
 use std::alloc::Global;
 
-/// Returns what lets the response be stored, from 1, or 0 if it may not be stored. Then
-/// `obstacles` has a bit for each condition that forbids it, and else 0.
+/// Returns a code from 1 on for what allows the response to be stored, or 0 if it may not be
+/// stored. In the latter case `obstacles` has a bit for each condition that forbids it, and else it
+/// is 0.
 #[unsafe(no_mangle)]
 pub extern "C" fn hcs_storability(alloc: Global, stored: &[u8], obstacles: &mut u32) -> i32
     ensures value { IsDone result → ForPolicy stored.now
@@ -47,7 +48,7 @@ pub extern "C" fn hcs_storability(alloc: Global, stored: &[u8], obstacles: &mut 
     }
 }
 
-/// Writes how long the response stays fresh, and returns what decides it.
+/// Writes the freshness lifetime, and returns the code of what decides it.
 #[unsafe(no_mangle)]
 pub extern "C" fn hcs_freshness(alloc: Global, stored: &[u8], lifetime: &mut HcsDuration) -> i32
     ensures value { IsDone result → ForPolicy stored.now
@@ -143,8 +144,8 @@ pub extern "C" fn hcs_fresh_at(
     }
 }
 
-/// Returns which use of the stored response is allowed for the request once it is stale: 1 while it
-/// is validated, 2 if the origin server fails, 3 for both, and 0 for neither.
+/// Returns which uses of the stored response are allowed for the request once it is stale: 1 while
+/// it is validated, 2 if the origin server fails, 3 for both, 0 for neither.
 #[unsafe(no_mangle)]
 pub extern "C" fn hcs_stale_use(
     alloc: Global,

@@ -1,7 +1,5 @@
-//! The library's calls for C, as c/http_cache_semantics.h declares them.
-//!
-//! Each export calls the function of `http_cache_bytes` of its name, and writes what that returns to
-//! the caller's buffers.
+//! The library's calls for C, as c/http_cache_semantics.h declares them. Each export calls the
+//! function of `http_cache_bytes` with its name, and writes the result to the caller's buffers.
 #![tactic(auto)]
 
 ghost use Rattle.std.specs.Prelude.{◌≡◌};

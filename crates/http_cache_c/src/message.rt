@@ -1,4 +1,4 @@
-//! Heads of responses that are made of others.
+//! Heads of responses that are made from others.
 ghost use Rattle.std.specs.Prelude.{◌≡◌, ◌<◌, ◌⊎◌, ℕ, List, length, pos};
 ghost use Rattle.http_heads.specs.Heads.{IsNoResponse, OverfillsResponse};
 ghost use Rattle.http_cache_semantics.specs.ResponseAt.{RefusesAge};

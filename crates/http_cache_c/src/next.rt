@@ -16,7 +16,7 @@ use crate::codes::{BAD_ARGUMENT, NO_MEMORY, TOO_SMALL, code_of, code_of_next};
 use http_cache_bytes::{Next, after};
 use std::alloc::Global;
 
-// Writes what is stored and sent next if there is room for both, else nothing.
+// Writes both the stored form and the head if there is room for them, else nothing.
 fn hand_next(
     next: &Next,
     form: &mut [u8],
@@ -47,9 +47,9 @@ fn hand_next(
     }
 }
 
-/// Writes the next stored form and the head for the client after the origin server has responded.
-/// Returns 0 if the stored body is still that of the response; 1 if the received body replaces it;
-/// 2 if it does and the response may not be stored.
+/// Writes the next stored form and the head for the client, after the origin server has responded.
+/// Returns 0 if the stored body stays, 1 if the received body replaces it, 2 if it does and the
+/// response may not be stored.
 #[unsafe(no_mangle)]
 pub extern "C" fn hcs_after(
     alloc: Global,

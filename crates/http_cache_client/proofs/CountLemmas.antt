@@ -17,7 +17,7 @@ one_more stored text (x ∷ ts) (suc i) d there =
     ≡ stored_count stored (map text (take (suc i) (x ∷ ts))) + length (stored (text (get_or ts i d))))
     next (ap (λ n. first + n) before ∙ omega arith)
 
--- the count of those before and of the next one
+-- the count before a target plus its own count
 pub counted : {T : Type 0} (stored now : StoredByTarget) (text : T → List ℕ) (ts : List T) (i : ℕ) (t : T) (count more sum : ℕ)
     → now ≡ stored → i < length ts → count ≡ stored_count stored (map text (take i ts)) → t ≡ get_or ts i t
     → more ≡ length (now (text t)) → sum ≡ count + more
@@ -27,7 +27,6 @@ counted stored now text ts i t count more sum same there before item is added =
     let here = is ∙ ap (λ s. length (s (text t))) same ∙ ap (λ y. length (stored (text y))) item in
     omega (arith, before, here, added, next)
 
--- two calls that change nothing
 pub kept_twice : (first second third : StoredByTarget) (a b c : ℕ) → KeepsAll first a second b → KeepsAll second b third c
     → KeepsAll first a third c
 kept_twice first second third a b c one other = record {

@@ -9,23 +9,21 @@ use Rattle.http_cache_fields.specs.Headers.{Headers, headers_of}
 use Rattle.http_cache_client.specs.declared.origin.FetchError.{FetchError}
 use Rattle.http_cache_client.specs.declared.origin.FetchError.TheVariants.{Memory, Lost, Origin}
 
--- what was received for a request, and when, or that nothing was
+-- the received response and its time, or nothing
 abbrev pub Outcome : Type 0
 Outcome = Option (Response (List ℕ) × ℤ)
 
--- what an origin was sent and what it sent, from one state to the next
+-- the origin's states before and after, the request that it was sent, and its outcome
 abbrev pub Sends : Type 0 → Type 1
 Sends O = O → Request (List ℕ) → Outcome → O → Type 0
 
--- a request that validates a stored response: without a body, and with the stored validators as its
--- only conditions
+-- a validation request: it has no body, and its only conditions are the stored validators
 pub record IsValidating (request : Request (List ℕ)) : Type 0 where
   pub no_body : body_of request ≡ []
   pub stored : Headers
   pub clean : IsClean stored (headers_of (head_of_request request).headers)
 
 module _ {O : Type 0} (sent : Sends O) (before after : O) where
-  -- the origin was sent a validation
   pub record HasSentValidation (outcome : Outcome) : Type 0 where
     pub validation : Request (List ℕ)
     pub validating : IsValidating validation
@@ -36,7 +34,7 @@ module _ {O : Type 0} (sent : Sends O) (before after : O) (request : Request (Li
   pub record HasSentOwn (outcome : Outcome) : Type 0 where
     pub was_sent : sent before request outcome after
 
-  -- it was sent a validation, which ended in a 304, and then the client's own request
+  -- a validation ended in a 304, and the client's own request followed
   pub record HasSentBoth (outcome : Outcome) : Type 0 where
     pub between : O
     pub response : Response (List ℕ)
@@ -45,28 +43,27 @@ module _ {O : Type 0} (sent : Sends O) (before after : O) (request : Request (Li
     pub not_modified : (head_of response).status ≡ 304
     pub was_sent : sent between request outcome after
 
-  -- it was sent one request, or two, the second after a 304; with the outcome of the last
+  -- one request was sent, or a second one after a 304; the outcome belongs to the last
   abbrev pub HasSent : Outcome → Type 0
   HasSent outcome =
       HasSentOwn outcome ⊎ (HasSentValidation sent before after outcome ⊎ HasSentBoth outcome)
 
-  -- it was sent nothing, or that
   abbrev pub HasSentTwiceAtMost : Type 0
   HasSentTwiceAtMost = (after ≡ before) ⊎ ((outcome : Outcome) × HasSent outcome)
 
-  -- it was sent the client's own request, and a 304 was received for it
+  -- the last request sent was the client's own one, and its response was a 304
   abbrev pub HasSentFor304 : Type 0
   HasSentFor304 =
       (between : O) × (response : Response (List ℕ)) × (received : ℤ)
       × (sent between request (Some (response, received)) after × ((head_of response).status ≡ 304))
 
--- there is no response only for a reason
+-- `Origin` is returned only if `reason` holds
 abbrev pub HasNoResponse : {E : Type 0} → Type 0 → FetchError E → Type 0
 HasNoResponse reason Memory = ⊤
 HasNoResponse reason Lost = ⊤
 HasNoResponse reason (Origin _) = reason
 
--- there is no memory, and nothing was sent, only if that is so
+-- `Memory` is returned only if `unsent` holds
 abbrev pub IsUnsent : {E : Type 0} → Type 0 → FetchError E → Type 0
 IsUnsent unsent Memory = unsent
 IsUnsent unsent Lost = ⊤

@@ -12,7 +12,7 @@ use Rattle.http_cache_plans.specs.declared.body.Body.{Body}
 use Rattle.http_cache_client.specs.declared.tokens.Received.{Received}
 use Rattle.http_cache_client.specs.declared.tokens.Received.TheVariants.{Answer, Again}
 
--- the body is here, and is the whole of the response (RFC 9111, section 3.3)
+-- the whole body was received, and the client has it (RFC 9111, section 3.3)
 abbrev pub IsWholeResponse : Request (List ℕ) → Response Body → Type 0
 IsWholeResponse request response = IsWholeBody request (head_of response) (body_of response)
 
@@ -21,26 +21,22 @@ abbrev pub MayBeStored : Request (List ℕ) → Response Body → Type 0
 MayBeStored request response =
     (is_looked_up request ≡ true) × IsWholeResponse request response
 
--- the text of the target of a request
 abbrev pub own_text : Request (List ℕ) → List ℕ
 own_text request = target_text (head_of_request request).uri (headers_of (head_of_request request).headers)
 
--- the answer after a validation is a 304 only to a request with a condition
+-- a 304 answers only a request with a condition (RFC 9110, section 15.4.5)
 abbrev pub IsConditionalReceipt : Request (List ℕ) → Received → Type 0
 IsConditionalReceipt request (Answer answer) = (head_of answer).status ≡ 304 → HasCondition request
 IsConditionalReceipt request (Again _) = ⊤
 
--- its body is elsewhere only if that of the received response is
-abbrev pub KeepsBodyPlace : Response Body → Received → Type 0
-KeepsBodyPlace response (Answer answer) = IsElsewhere (body_of answer) → IsElsewhere (body_of response)
-KeepsBodyPlace response (Again _) = ⊤
+abbrev pub KeepsBodyLocation : Response Body → Received → Type 0
+KeepsBodyLocation response (Answer answer) = IsElsewhere (body_of answer) → IsElsewhere (body_of response)
+KeepsBodyLocation response (Again _) = ⊤
 
--- the client's own request is sent only after a 304
 abbrev pub IsAfterA304 : Response Body → Received → Type 0
 IsAfterA304 response (Answer _) = ⊤
 IsAfterA304 response (Again _) = (head_of response).status ≡ 304
 
--- the body of the answer is here
 abbrev pub HasBodyHere : Received → Type 0
 HasBodyHere (Answer answer) = ¬ (IsElsewhere (body_of answer))
 HasBodyHere (Again _) = ⊤

@@ -2,7 +2,6 @@
 use Rattle.std.specs.Prelude.{ℕ, List, [], ◌∷◌, ◌+◌, length}
 use Rattle.http_cache_storage.specs.Shelf.{StoredByTarget}
 
--- how many responses are stored for all of some targets
 abbrev pub stored_count : StoredByTarget → List (List ℕ) → ℕ
 stored_count stored [] = 0
 stored_count stored (text ∷ texts) = length (stored text) + stored_count stored texts

@@ -1,4 +1,4 @@
-//! What is done with a request.
+//! Decides what to do with a request: answer it, validate a stored response, or forward it.
 ghost use Rattle.std.specs.Prelude.{◌≡◌, true, List, IfOk, IfSome, Contains};
 ghost use Rattle.http.specs.Response.{head_of as head_of_response};
 ghost use Rattle.http_cache_messages.specs.Asking.{is_looked_up};
@@ -6,8 +6,9 @@ ghost use Rattle.http_cache_storage.specs.Shelf.{KeepsAll};
 ghost use Rattle.http_cache_storage.specs.declared.shelf.StoredResponse.{StoredResponse};
 ghost use Rattle.http_cache_plans.specs.Judge.{IsSelectedOf};
 ghost use Rattle.http_cache_client.specs.Ask.{fields_of, IsOfStore, IsCleanValidation, IsCleanDecision};
-ghost use Rattle.http_cache_client.specs.Ask.{IsConditionalDecision, IsCleanVerdict, IsConditionalVerdict};
-ghost use Rattle.http_cache_client.specs.Ask.{IsVerdictOf, IsVerdictIn, IsDecisionOf, IsAnswered};
+ghost use Rattle.http_cache_client.specs.Ask.{IsConditionalDecision, IsCleanContact};
+ghost use Rattle.http_cache_client.specs.Ask.{IsConditionalContact};
+ghost use Rattle.http_cache_client.specs.Ask.{IsContactOf, IsContactIn, IsDecisionOf, IsAnswered};
 ghost use Rattle.http_cache_client.specs.Ask.{IsAnswer, IsOnlyIfCached};
 
 use crate::client::Client;
@@ -27,67 +28,68 @@ use http_cache_storage::{Shelf, StoredResponse, Target};
 use jiff::Timestamp;
 use std::alloc::{AllocError, Global};
 
-// What is done with a request where no stored response may be used without validation.
+// What to do with a request that no stored response may answer without validation.
 #[derive(Drop)]
-enum Verdict {
-    // A stale response may be used while it is validated.
+enum OriginContact {
+    // The stale response may answer the request while it is validated.
     UseWhile(Reply, Validation),
     Validate(Validation),
     Forward(Forwarded),
 }
 
-// The validation of a stored response, or the client's own request if that has no validator or the
-// request of the validation can't be made.
+// Returns the request that validates `stored`. It is the client's own request if `stored` has no
+// validator (RFC 9111, section 4.3.1) or no validation request can be made.
 fn validation_of(
     alloc: Global,
     stored: &StoredResponse,
     incoming: &Incoming<'_>,
     said: Why,
-) -> Result<Verdict, AllocError>
-    ensures clean { IfOk result IsCleanVerdict }
+) -> Result<OriginContact, AllocError>
+    ensures clean { IfOk result IsCleanContact }
     ensures conditional { IfOk result
-        (IsConditionalVerdict (fields_of incoming.now.request.now)) }
-    ensures answered { IfOk result (λ verdict. (all : List StoredResponse) → Contains all stored.now
-        → IsVerdictOf all verdict) }
+        (IsConditionalContact (fields_of incoming.now.request.now)) }
+    ensures answered { IfOk result (λ contact. (all : List StoredResponse) → Contains all stored.now
+        → IsContactOf all contact) }
 {
     if !has_validator(stored.policy.stored_headers()) {
-        return Ok(Verdict::Forward(Forwarded::of(Some(stored.id), said)));
+        return Ok(OriginContact::Forward(Forwarded::of(Some(stored.id), said)));
     }
     match validation_request(alloc, incoming.request(), &stored.policy) {
-        Ok(request) => Ok(Verdict::Validate(Validation {
+        Ok(request) => Ok(OriginContact::Validate(Validation {
             id: Some(stored.id),
             why: said,
             request: Box::new(alloc, request)?,
         })),
         Err(CacheError::Memory) => Err(AllocError),
-        Err(_) => Ok(Verdict::Forward(Forwarded::of(Some(stored.id), said))),
+        Err(_) => Ok(OriginContact::Forward(Forwarded::of(Some(stored.id), said))),
     }
 }
 
-// What is done with a stored response that matches and has to be validated.
+// Handles a stored response that matches the request and has to be validated. It may answer while
+// it is validated if `stale_use` allows that (RFC 5861, section 3).
 fn matching(
     alloc: Global,
     stored: &StoredResponse,
     incoming: &Incoming<'_>,
     why: Why,
     now: Timestamp,
-) -> Result<Verdict, AllocError>
-    ensures clean { IfOk result IsCleanVerdict }
+) -> Result<OriginContact, AllocError>
+    ensures clean { IfOk result IsCleanContact }
     ensures conditional { IfOk result
-        (IsConditionalVerdict (fields_of incoming.now.request.now)) }
-    ensures answered { IfOk result (λ verdict. (all : List StoredResponse) → Contains all stored.now
-        → IsVerdictOf all verdict) }
+        (IsConditionalContact (fields_of incoming.now.request.now)) }
+    ensures answered { IfOk result (λ contact. (all : List StoredResponse) → Contains all stored.now
+        → IsContactOf all contact) }
 {
-    let verdict = validation_of(alloc, stored, incoming, why)?;
+    let contact = validation_of(alloc, stored, incoming, why)?;
     let asking = incoming.asking(stored.policy.stored_method());
     if !stored.policy.stale_use(&asking, now).while_revalidate {
-        return Ok(verdict);
+        return Ok(contact);
     }
     let Some(reply) = Reply::of(alloc, stored, incoming, now)? else {
-        return Ok(verdict);
+        return Ok(contact);
     };
-    match verdict {
-        Verdict::Validate(due) => Ok(Verdict::UseWhile(reply, due)),
+    match contact {
+        OriginContact::Validate(due) => Ok(OriginContact::UseWhile(reply, due)),
         other => {
             drop(reply);
             Ok(other)
@@ -95,20 +97,20 @@ fn matching(
     }
 }
 
-// What is done with a request where no stored response may be used without validation. It isn't inlined,
-// so that a hit makes no room for its values.
+// Handles a request that no stored response may answer without validation. It isn't inlined, so
+// that a hit reserves no stack for its values.
 #[inline(never)]
 fn otherwise(
     alloc: Global,
     selected: Selected<'_>,
     incoming: &Incoming<'_>,
     now: Timestamp,
-) -> Result<Verdict, AllocError>
-    ensures clean { IfOk result IsCleanVerdict }
+) -> Result<OriginContact, AllocError>
+    ensures clean { IfOk result IsCleanContact }
     ensures conditional { IfOk result
-        (IsConditionalVerdict (fields_of incoming.now.request.now)) }
-    ensures answered { IfOk result (λ verdict. (all : List StoredResponse)
-        → IsSelectedOf all selected.entry → IsVerdictOf all verdict) }
+        (IsConditionalContact (fields_of incoming.now.request.now)) }
+    ensures answered { IfOk result (λ contact. (all : List StoredResponse)
+        → IsSelectedOf all selected.entry → IsContactOf all contact) }
 {
     let forwarded = match selected {
         Selected::Matching(one, said) => {
@@ -116,13 +118,13 @@ fn otherwise(
         }
         Selected::Other(said) => Forwarded::of(None, why_of(alloc, &said)?),
         Selected::Nothing => Forwarded::of(None, Why::of(Forward::UriMiss)),
-        // The head of a fresh one can't be sent.
+        // A fresh response is still here only if its head can't be sent.
         Selected::Fresh(_) => Forwarded::of(None, Why::of(Forward::Miss)),
     };
-    Ok(Verdict::Forward(forwarded))
+    Ok(OriginContact::Forward(forwarded))
 }
 
-// Why a request that isn't looked up is forwarded (RFC 9211, section 2.2).
+// Returns why a request that isn't looked up is forwarded (RFC 9211, section 2.2).
 fn why_not_looked_up(method: &Method) -> Why {
     Why::of(if *method == Method::GET || *method == Method::HEAD {
         Forward::Bypass
@@ -131,7 +133,7 @@ fn why_not_looked_up(method: &Method) -> Why {
     })
 }
 
-// The client's own request, past a shelf that failed.
+// Forwards the client's own request after the shelf failed.
 fn past_shelf(alloc: Global) -> Result<Forwarded, AllocError> {
     Ok(Forwarded {
         id: None,
@@ -141,7 +143,7 @@ fn past_shelf(alloc: Global) -> Result<Forwarded, AllocError> {
 }
 
 impl<S: Shelf + Drop> Client<S> {
-    // Returns a stored response as the answer, or None if the shelf has lost its body.
+    // Answers with a stored response. Returns None if the shelf has lost its body.
     fn used(
         &mut self,
         alloc: Global,
@@ -160,7 +162,7 @@ impl<S: Shelf + Drop> Client<S> {
         Ok(Some(answer_of(alloc, reply.head, body, &member)?))
     }
 
-    // Answers with a stale response that is validated meanwhile.
+    // Answers with a stale response while it is validated (RFC 5861, section 3).
     fn used_while(
         &mut self,
         alloc: Global,
@@ -185,7 +187,7 @@ impl<S: Shelf + Drop> Client<S> {
         Ok(Decision::Stale { answer, due })
     }
 
-    // The client's own answer to a request for a stored response only.
+    // Returns the 504 for a request that says `only-if-cached` (RFC 9111, section 5.2.1.7).
     pub(crate) fn not_cached(&self, alloc: Global) -> Result<Response<Bytes>, AllocError>
         ensures { IfOk result (λ answer. (head_of_response answer).status ≡ 504) }
     {
@@ -198,39 +200,38 @@ impl<S: Shelf + Drop> Client<S> {
         answer_of(alloc, head, Bytes::new(), &member)
     }
 
-    // What is done where no stored response may be used without validation.
     #[inline(never)]
     fn not_fresh(
         &mut self,
         alloc: Global,
         target: &Target,
         incoming: &Incoming<'_>,
-        verdict: Verdict,
+        contact: OriginContact,
     ) -> Result<Decision, AllocError>
-        requires { IsCleanVerdict verdict }
+        requires { IsCleanContact contact }
         ensures kept { KeepsAll (S.stored self.old.shelf) (S.next_id self.old.shelf)
             (S.stored self.new.shelf) (S.next_id self.new.shelf) }
         ensures clean { IfOk result IsCleanDecision }
-        ensures conditional { IsConditionalVerdict (fields_of incoming.now.request.now) verdict
+        ensures conditional { IsConditionalContact (fields_of incoming.now.request.now) contact
             → IfOk result (IsConditionalDecision (fields_of incoming.now.request.now)) }
-        ensures answered { IsVerdictIn (S.stored self.old.shelf) verdict → IfOk result
+        ensures answered { IsContactIn (S.stored self.old.shelf) contact → IfOk result
             (IsAnswered (S.stored self.old.shelf) (fields_of incoming.now.request.now)) }
         ensures only_if_cached { IsOnlyIfCached (fields_of incoming.now.request.now)
             → IfOk result IsAnswer }
     {
-        // Then nothing is sent (RFC 9111, section 5.2.1.7).
+        // Nothing is sent for such a request (RFC 9111, section 5.2.1.7).
         if incoming.is_only_if_cached() {
-            drop(verdict);
+            drop(contact);
             return Ok(Decision::Answer(self.not_cached(alloc)?));
         }
-        match verdict {
-            Verdict::UseWhile(reply, due) => self.used_while(alloc, target, reply, due),
-            Verdict::Validate(validation) => Ok(Decision::Validate(validation)),
-            Verdict::Forward(forwarded) => Ok(Decision::Forward(forwarded)),
+        match contact {
+            OriginContact::UseWhile(reply, due) => self.used_while(alloc, target, reply, due),
+            OriginContact::Validate(validation) => Ok(Decision::Validate(validation)),
+            OriginContact::Forward(forwarded) => Ok(Decision::Forward(forwarded)),
         }
     }
 
-    // What is done with a request that is looked up.
+    // Decides about a request that is looked up.
     fn asked(
         &mut self,
         alloc: Global,
@@ -250,8 +251,8 @@ impl<S: Shelf + Drop> Client<S> {
         let request = incoming.request();
         let target = Target::of(alloc, request.uri(), request.headers())?;
         if !self.read(alloc, &target)? {
-            let verdict = Verdict::Forward(past_shelf(alloc)?);
-            return self.not_fresh(alloc, &target, incoming, verdict);
+            let contact = OriginContact::Forward(past_shelf(alloc)?);
+            return self.not_fresh(alloc, &target, incoming, contact);
         }
         let selected = select(self.shelf.found(&target), incoming, now);
         if let Selected::Fresh(one) = selected
@@ -260,22 +261,18 @@ impl<S: Shelf + Drop> Client<S> {
             if let Some(answer) = self.used(alloc, &target, reply)? {
                 return Ok(Decision::Answer(answer));
             }
-            let verdict = Verdict::Forward(past_shelf(alloc)?);
-            return self.not_fresh(alloc, &target, incoming, verdict);
+            let contact = OriginContact::Forward(past_shelf(alloc)?);
+            return self.not_fresh(alloc, &target, incoming, contact);
         }
-        let verdict = otherwise(alloc, selected, incoming, now)?;
-        self.not_fresh(alloc, &target, incoming, verdict)
+        let contact = otherwise(alloc, selected, incoming, now)?;
+        self.not_fresh(alloc, &target, incoming, contact)
     }
 
-    /// Returns what is done with a request that was received at `now`: an answer from the shelf, or
-    /// what is to be sent to the origin server (RFC 9111, section 4).
+    /// Returns what to do with a request that was received at `now`: an answer from the shelf, or a
+    /// request to send to the origin server (RFC 9111, section 4).
     ///
-    /// `Answer` is a stored response that may be used without validation, or the client's own 504 to a
-    /// request that says `only-if-cached`. `Stale` is a stale one that may be used while the validation
-    /// beside it is under way (RFC 5861, section 3). Cache-Status of an answer has the client's member
-    /// after those of earlier caches.
-    ///
-    /// If the shelf fails, the request is forwarded, unless it says `only-if-cached`.
+    /// If the shelf fails, the request is forwarded, unless it says `only-if-cached`. In an answer,
+    /// the client's member of Cache-Status is after the members of earlier caches.
     ///
     /// # Errors
     ///

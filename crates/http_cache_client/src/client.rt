@@ -1,4 +1,4 @@
-//! A caching client: its shelf, its name and its options.
+//! The caching client: its shelf, its name in Cache-Status and its options.
 ghost use Rattle.std.specs.Prelude.{◌≡◌, ◌⊎◌, ℕ, List, true, map, string_bytes, length, IfOk, OnOk, OnErr};
 ghost use Rattle.http_cache_storage.specs.Shelf.{KeepsAll, KeepsOthers, RemovesThese};
 ghost use Rattle.http_cache_storage.specs.Target.{text_of};
@@ -13,12 +13,12 @@ use http_cache_storage::{Shelf, ShelfError, Target};
 use jiff::Timestamp;
 use std::alloc::{AllocError, Global};
 
-/// A caching client over a shelf of stored responses, with the name that it has in Cache-Status (RFC
-/// 9211).
+/// A caching client over a shelf of stored responses (RFC 9111).
 ///
-/// It answers only GET and HEAD without a body from the shelf, and stores only their responses. Every
-/// other request is forwarded as it is, and an unsafe one removes what is stored for its target (RFC
-/// 9111, sections 2, 4 and 4.4). It stores no partial content (206) and collapses no requests.
+/// It looks up only GET and HEAD without a body, and stores only their responses (RFC 9111,
+/// sections 2 to 4). It forwards every other request as it is. A response to an unsafe request can
+/// remove what is stored (RFC 9111, section 4.4). It stores no partial content (206) and collapses
+/// no requests.
 // It has no Model, since a function from texts to stored responses has no code.
 #[derive(Drop)]
 pub struct Client<S: Drop> {
@@ -28,7 +28,7 @@ pub struct Client<S: Drop> {
 }
 
 impl<S: Shelf + Drop> Client<S> {
-    /// Returns a client of a name over a shelf, for one user (`shared: false`) or for several.
+    /// Returns a client over a shelf. `options.shared` says whether it serves several users.
     pub fn new(shelf: S, options: CacheOptions, name: String) -> Client<S>
         ensures { result.shelf ≡ shelf }
     {
@@ -39,7 +39,7 @@ impl<S: Shelf + Drop> Client<S> {
         }
     }
 
-    /// Returns the name of the client in Cache-Status (RFC 9211, section 2).
+    /// Returns the client's name in Cache-Status (RFC 9211, section 2).
     pub fn name(&self) -> &str
         ensures { result.now ≡ string_bytes self.now.name }
     {
@@ -53,7 +53,7 @@ impl<S: Shelf + Drop> Client<S> {
         &self.shelf
     }
 
-    /// Returns the shelf of a client that is done.
+    /// Returns the shelf, and drops the client.
     pub fn into_shelf(self) -> S
         ensures { result ≡ self.shelf }
     {
@@ -61,12 +61,14 @@ impl<S: Shelf + Drop> Client<S> {
         shelf
     }
 
-    /// Removes the stored responses that can't be used again at `now`, and returns how many: the stale
-    /// ones that can neither be validated nor served stale (RFC 9111, section 4.2.4).
+    /// Removes the stored responses that can't be used again at `now`, and returns their number.
+    ///
+    /// A response can't be used again if it varies by `*` (RFC 9111, section 4.1), or if it is
+    /// stale and can neither be validated nor served stale (RFC 9111, section 4.2.4).
     ///
     /// # Errors
     ///
-    /// That of the shelf, which then has what it had.
+    /// The error of the shelf. Nothing is removed then.
     pub fn sweep(&mut self, now: Timestamp) -> Result<usize, ShelfError>
         ensures kept { OnErr result (KeepsAll (S.stored self.old.shelf) (S.next_id self.old.shelf)
             (S.stored self.new.shelf) (S.next_id self.new.shelf)) }
@@ -75,7 +77,6 @@ impl<S: Shelf + Drop> Client<S> {
         self.shelf.sweep(now)
     }
 
-    // How many responses are stored for a target.
     fn count(&mut self, alloc: Global, target: &Target) -> Result<usize, ShelfError>
         ensures count { IfOk result (λ count. count ≡ length (S.stored self.old.shelf
             (text_of target.now))) }
@@ -86,7 +87,6 @@ impl<S: Shelf + Drop> Client<S> {
         Ok(self.shelf.found(target).len())
     }
 
-    // How many responses are stored for all of some targets.
     fn count_all(&mut self, alloc: Global, targets: &[Target]) -> Result<usize, ShelfError>
         ensures count { IfOk result (λ count. count
             ≡ stored_count (S.stored self.old.shelf) (map text_of targets.now)) }
@@ -104,12 +104,12 @@ impl<S: Shelf + Drop> Client<S> {
         Ok(count)
     }
 
-    /// Removes all that is stored for some targets, in one step, as a purge does, and returns how many
-    /// responses that were. A target that is listed twice is counted twice.
+    /// Removes all stored responses of some targets in one step, as a purge does, and returns their
+    /// number. A target that is listed twice is counted twice.
     ///
     /// # Errors
     ///
-    /// That of the shelf. Then it has what it had.
+    /// The error of the shelf, or `Memory` if the number is out of range. Nothing is removed then.
     pub fn remove(&mut self, alloc: Global, targets: &[Target]) -> Result<usize, ShelfError>
         ensures removed { OnOk result (RemovesThese (map text_of targets.now)
             (S.stored self.old.shelf) (S.stored self.new.shelf)) }
@@ -124,7 +124,7 @@ impl<S: Shelf + Drop> Client<S> {
         Ok(count)
     }
 
-    // Reads what is stored for a target, and returns whether the shelf could.
+    // Reads what is stored for a target. Returns false if the shelf failed.
     pub(crate) fn read(&mut self, alloc: Global, target: &Target) -> Result<bool, AllocError>
         ensures kept { KeepsAll (S.stored self.old.shelf) (S.next_id self.old.shelf)
             (S.stored self.new.shelf) (S.next_id self.new.shelf) }
@@ -138,7 +138,7 @@ impl<S: Shelf + Drop> Client<S> {
         }
     }
 
-    // The body that is sent with a stored response, or None if the shelf has lost it.
+    // Returns the body to send with a stored response, or None if the shelf has lost it.
     pub(crate) fn body_of(
         &mut self,
         alloc: Global,
@@ -216,7 +216,7 @@ impl<S: Shelf + Drop> Client<S> {
         }
     }
 
-    // Makes a change as the last step of a call; a shelf that failed has what it had.
+    // Makes a change as the last step of a call. A shelf that failed keeps what it had.
     pub(crate) fn commit(&mut self, change: Change) -> Result<Settled, AllocError>
         ensures kept { OnErr result (KeepsAll (S.stored self.old.shelf) (S.next_id self.old.shelf)
             (S.stored self.new.shelf) (S.next_id self.new.shelf)) }

@@ -1,4 +1,4 @@
-//! Answers requests by asking an origin at most twice.
+//! Answers a request with at most two requests to an origin.
 ghost use Rattle.std.specs.Prelude.{◌≡◌, ◌⊎◌, true, false, Some, None, IsSome, IfOk, IfErr, OnOk, OnErr};
 ghost use Rattle.http.specs.Response.{head_of, body_of};
 ghost use Rattle.http_cache_messages.specs.Asking.{is_looked_up};
@@ -23,7 +23,6 @@ use http_cache_storage::Shelf;
 use jiff::Timestamp;
 use std::alloc::{AllocError, Global};
 
-// A response whose body is here.
 fn with_bytes(response: Response<Body>) -> Response<Bytes>
     requires { ¬ (IsElsewhere (body_of response)) }
     ensures { (head_of result).status ≡ (head_of response).status }
@@ -35,7 +34,6 @@ fn with_bytes(response: Response<Body>) -> Response<Bytes>
     }
 }
 
-// A response as the client takes it.
 fn with_body(response: Response<Bytes>) -> Response<Body>
     ensures here { ¬ (IsElsewhere (body_of result)) }
     ensures status { (head_of result).status ≡ (head_of response).status }
@@ -44,7 +42,7 @@ fn with_body(response: Response<Bytes>) -> Response<Body>
     Response::from_parts(head, Body::Here(bytes))
 }
 
-// A token for a request that is sent past what is stored.
+// Returns a token for a request that bypasses the shelf.
 fn bypass(alloc: Global, detail: &str) -> Result<Forwarded, AllocError> {
     let why = Why {
         forward: Forward::Bypass,
@@ -53,8 +51,8 @@ fn bypass(alloc: Global, detail: &str) -> Result<Forwarded, AllocError> {
     Ok(Forwarded::of(None, why))
 }
 
-// Sends the request of a validation. It is a function of its own, since the prover looks into each
-// request that is dropped.
+// Sends the validation request. It is a separate function, since the prover looks into each request
+// that is dropped.
 fn send_validation<O: Origin>(
     alloc: Global,
     origin: &mut O,
@@ -70,7 +68,7 @@ fn send_validation<O: Origin>(
 }
 
 impl<S: Shelf + Drop> Client<S> {
-    // The origin gave no response to a request.
+    // Handles a request that got no response from the origin (RFC 5861, section 4).
     fn unanswered<E: Drop>(
         &mut self,
         alloc: Global,
@@ -92,7 +90,7 @@ impl<S: Shelf + Drop> Client<S> {
         }
     }
 
-    // The client's own request is sent.
+    // Sends the client's own request.
     fn forward<O: Origin>(
         &mut self,
         alloc: Global,
@@ -127,8 +125,8 @@ impl<S: Shelf + Drop> Client<S> {
         }
     }
 
-    // The origin is asked whether a stored response is still valid, and after a 304 that isn't for it,
-    // the client's own request is sent.
+    // Sends the validation request. After a 304 that doesn't confirm the stored response, sends the
+    // client's own request.
     fn validate<O: Origin>(
         &mut self,
         alloc: Global,
@@ -169,7 +167,8 @@ impl<S: Shelf + Drop> Client<S> {
         }
     }
 
-    // What a decision says is sent. It isn't inlined, so that a hit makes no room for its values.
+    // Sends what the decision asks for. It isn't inlined, so that a hit reserves no stack for its
+    // values.
     #[inline(never)]
     fn sent<O: Origin>(
         &mut self,
@@ -209,18 +208,19 @@ impl<S: Shelf + Drop> Client<S> {
     }
 
     /// Returns the response to a request that was received at `now`: from the shelf if a stored
-    /// response may be used, else by way of the origin (RFC 9111, section 4).
+    /// response may be used, else from the origin (RFC 9111, section 4).
     ///
-    /// The origin is sent nothing or one request; or two, if the first validates a stored response and
-    /// ends in a 304 that isn't for it. Where a stale response could be used while it is validated,
-    /// `fetch` waits for the validation.
+    /// At most one request is sent, or two if the first is a validation that ends in a 304 which
+    /// doesn't confirm the stored response. `fetch` waits for a validation, even where a stale
+    /// response could answer meanwhile.
     ///
     /// # Errors
     ///
-    /// `Origin` if the last request that was sent had no response, and no stored response may be used in
-    /// its place. `Memory` if there is not enough memory, and nothing was sent; `Lost` if there is not
-    /// enough memory after something was. After each what is stored is as it was, except that a response
-    /// which a 304 didn't confirm is removed before the second request.
+    /// - `Origin` if the last request got no response and no stored response may be used instead.
+    /// - `Memory` if there is not enough memory and nothing was sent.
+    /// - `Lost` if there is not enough memory after a request was sent.
+    ///
+    /// What is stored is then as it was, but a response that a 304 didn't confirm may be removed.
     pub fn fetch<O: Origin>(
         &mut self,
         alloc: Global,
@@ -254,7 +254,8 @@ impl<S: Shelf + Drop> Client<S> {
         }
     }
 
-    // What is answered to a request for a stored response only, or None if it is sent.
+    // Returns the answer to a request that says `only-if-cached` (RFC 9111, section 5.2.1.7).
+    // Returns None for a request that is sent.
     fn unasked(
         &self,
         alloc: Global,
@@ -269,7 +270,7 @@ impl<S: Shelf + Drop> Client<S> {
         Ok(None)
     }
 
-    // The client's own request is sent past what is stored.
+    // Sends the client's own request, and stores nothing.
     fn pass_on<O: Origin>(
         &mut self,
         alloc: Global,
@@ -299,13 +300,13 @@ impl<S: Shelf + Drop> Client<S> {
         }
     }
 
-    /// Returns the response to a request that is sent past what is stored, as where the time isn't known:
-    /// nothing is answered from the shelf, and nothing is stored. Cache-Status says `fwd=bypass` with the
-    /// detail (RFC 9211, section 2.2).
+    /// Returns the origin's response to a request that bypasses the shelf, for instance if the time
+    /// is unknown. Nothing is stored. Cache-Status has `fwd=bypass` with the detail (RFC 9211,
+    /// section 2.2).
     ///
-    /// A response without an error to an unsafe request still removes what is stored for its targets (RFC
-    /// 9111, section 4.4). A GET or HEAD that says `only-if-cached` is answered with a 504, and nothing is
-    /// sent.
+    /// A response without an error to an unsafe request still removes what is stored for its
+    /// targets (RFC 9111, section 4.4). A GET or HEAD that says `only-if-cached` is answered with a
+    /// 504.
     ///
     /// # Errors
     ///

@@ -1,4 +1,4 @@
-//! Where responses come from.
+//! The interface through which the client sends requests.
 ghost use Rattle.std.specs.Prelude.{ℕ, ℤ, List, Option, Some, None, IfOk, OnErr};
 ghost use Rattle.http.specs.declared.request.Request.{Request};
 ghost use Rattle.http.specs.declared.response.Response.{Response};
@@ -10,14 +10,14 @@ use std::error::Error;
 use std::fmt;
 use std::fmt::Debug;
 
-/// Why a request has no response.
+/// The reason why a request has no response.
 #[derive(Debug, PartialEq, Eq, Drop)]
 pub enum FetchError<E> {
     /// There is not enough memory, and nothing was sent. What is stored is unchanged.
     Memory,
-    /// A request was sent, and then there was not enough memory for its response.
+    /// A request was sent, but there was not enough memory for its response.
     Lost,
-    /// The origin server was asked and gave no response, and nothing stored may be used in its place.
+    /// The origin server sent no response, and no stored response may be used instead.
     Origin(E),
 }
 
@@ -33,16 +33,16 @@ impl<E: fmt::Display> fmt::Display for FetchError<E> {
 
 impl<E: Debug + fmt::Display + Drop> Error for FetchError<E> {}
 
-/// Sends requests: to the origin server, or to the next cache on the way there.
+/// Sends requests to the origin server, or to the next cache on the way to it.
 pub trait Origin {
-    /// Why there is no response.
+    /// The reason why there is no response.
     type Error;
 
-    // In the first state it was sent the request; the response was received at the time, or none was,
-    // and the second state is left.
+    // The origin is sent the request in the first state, and the second state follows. The outcome
+    // is the response with the time of its receipt, or None.
     ghost sent: { Self → Request (List ℕ) → Option (Response (List ℕ) × ℤ) → Self → Type 0 };
 
-    /// Sends a request, and returns its response and the time at which that was received.
+    /// Sends a request, and returns its response with the time at which it was received.
     fn send(
         &mut self,
         request: &Request<Bytes>,

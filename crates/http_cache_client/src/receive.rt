@@ -1,4 +1,5 @@
-//! What is done with the outcome of a request that was sent.
+//! Handles the outcome of a request that was sent: stores, renews or removes responses, and
+//! answers.
 ghost use Rattle.std.specs.Prelude.{◌≡◌, ◌≢◌, ◌⊎◌, ℕ, List, true, false, None, IfOk, IfSome, OnErr};
 ghost use Rattle.http.specs.Response.{head_of, body_of};
 ghost use Rattle.http_cache_storage.specs.Shelf.{KeepsAll, KeepsOthers};
@@ -6,7 +7,8 @@ ghost use Rattle.http_cache_storage.specs.Target.{text_of};
 ghost use Rattle.http_cache_plans.specs.Plan.{Stores, IsChangeOf, IsElsewhere, IsWhole, IsKnownPlan};
 ghost use Rattle.http_cache_plans.specs.Plan.{HasCondition, is_failure};
 ghost use Rattle.http_cache_client.specs.Receive.{IsWholeResponse, MayBeStored, IsConditionalReceipt};
-ghost use Rattle.http_cache_client.specs.Receive.{own_text, KeepsBodyPlace, HasBodyHere, IsAfterA304};
+ghost use Rattle.http_cache_client.specs.Receive.{own_text, KeepsBodyLocation};
+ghost use Rattle.http_cache_client.specs.Receive.{HasBodyHere, IsAfterA304};
 
 use crate::client::Client;
 use crate::tokens::{Forwarded, Received, Validation};
@@ -17,9 +19,9 @@ use http_cache_plans::failure::{is_failure, stale_reply};
 use http_cache_plans::freshen::freshened;
 use http_cache_plans::invalidate::invalidated;
 use http_cache_plans::plan::{Arrived, Change, Plan, plan_of};
-use http_cache_plans::receipt::{Lines, line_for, prepared};
+use http_cache_plans::receipt::{CacheStatuses, cache_status_for, prepared};
 use http_cache_plans::renewal::{Renewal, renewal_of};
-use http_cache_plans::report::{answer_of, forwarded, replace_line};
+use http_cache_plans::report::{answer_of, forwarded, replace_cache_status};
 use http_cache_plans::{Body, Times, Why};
 use http_cache_policy::explain::{Forward, Member};
 use http_cache_storage::{ResponseId, Shelf, Target};
@@ -27,7 +29,7 @@ use jiff::Timestamp;
 use std::alloc::{AllocError, Global};
 use std::mem;
 
-// What Cache-Status says of a response: why its request was sent, its status, and when it was received.
+// What Cache-Status reports of a received response.
 #[derive(Clone, Copy)]
 struct Receipt<'a> {
     why: &'a Why,
@@ -35,7 +37,7 @@ struct Receipt<'a> {
     received: Timestamp,
 }
 
-// A request that was sent, and is the client's own or a validation.
+// A request that was sent: the client's own one or a validation.
 #[derive(Clone, Copy)]
 struct Pending<'a> {
     id: Option<ResponseId>,
@@ -45,11 +47,11 @@ struct Pending<'a> {
 }
 
 impl<S: Shelf + Drop> Client<S> {
-    // Makes the change of a plan as the last step, and returns the answer that says what was done.
+    // Makes the change of the plan as the last step, and returns the answer with its Cache-Status.
     fn settle(
         &mut self,
         answer: Response<Body>,
-        lines: Lines,
+        cache_statuses: CacheStatuses,
         plan: Plan,
     ) -> Result<Response<Body>, AllocError>
         ensures kept { OnErr result (KeepsAll (S.stored self.old.shelf) (S.next_id self.old.shelf)
@@ -70,13 +72,13 @@ impl<S: Shelf + Drop> Client<S> {
         } = plan;
         let settled = self.commit(change)?;
         let (mut head, body) = answer.into_parts();
-        if let Some(line) = line_for(lines, settled, says_stored) {
-            replace_line(&mut head.headers, line);
+        if let Some(cache_status) = cache_status_for(cache_statuses, settled, says_stored) {
+            replace_cache_status(&mut head.headers, cache_status);
         }
         Ok(Response::from_parts(head, body))
     }
 
-    // The answer by a response that was received, with what becomes of it.
+    // Answers with a received response, and makes the change of the plan.
     fn finish(
         &mut self,
         alloc: Global,
@@ -103,7 +105,7 @@ impl<S: Shelf + Drop> Client<S> {
             ..said
         };
         match prepared(alloc, response, &member, plan.is_known, receipt.received) {
-            Ok((answer, lines)) => self.settle(answer, lines, plan),
+            Ok((answer, cache_statuses)) => self.settle(answer, cache_statuses, plan),
             Err(cause) => {
                 drop(plan);
                 Err(cause)
@@ -111,7 +113,7 @@ impl<S: Shelf + Drop> Client<S> {
         }
     }
 
-    // A stale response where the origin failed, if that is allowed.
+    // Returns a stale response if the origin failed and that is allowed (RFC 5861, section 4).
     fn stale_answer(
         &mut self,
         alloc: Global,
@@ -147,7 +149,7 @@ impl<S: Shelf + Drop> Client<S> {
         Ok(Some(answer_of(alloc, reply.head, body, &member)?))
     }
 
-    // What becomes of a response to a request that is looked up.
+    // Plans what to do with the response to a request that is looked up.
     fn planned(
         &mut self,
         alloc: Global,
@@ -170,7 +172,7 @@ impl<S: Shelf + Drop> Client<S> {
         plan_of(alloc, target, stored, arrived, &self.options)
     }
 
-    // The answer by a response to a request that is looked up, which is stored if it may be.
+    // Stores the response if that is allowed (RFC 9111, section 3), and answers with it.
     fn stored(
         &mut self,
         alloc: Global,
@@ -212,8 +214,8 @@ impl<S: Shelf + Drop> Client<S> {
         self.finish(alloc, Response::from_parts(head, body), &receipt, plan)
     }
 
-    // The answer by a response to a request that is looked up. If the origin failed, what is stored is
-    // kept, and may be used.
+    // Answers a request that is looked up. If the origin failed, what is stored is kept (RFC 9111,
+    // section 4.3.3).
     fn taken(
         &mut self,
         alloc: Global,
@@ -264,7 +266,7 @@ impl<S: Shelf + Drop> Client<S> {
         self.stored(alloc, target, pending, incoming, response, times)
     }
 
-    // Removes a stored response that a 304 doesn't confirm.
+    // Removes a stored response that a 304 didn't confirm.
     fn unconfirmed(
         &mut self,
         alloc: Global,
@@ -287,7 +289,8 @@ impl<S: Shelf + Drop> Client<S> {
         Ok(Forwarded::of(None, why))
     }
 
-    // The answer by a stored response that a 304 confirmed. None if the shelf has lost its body.
+    // Answers with a stored response that a 304 confirmed (RFC 9111, section 4.3.4). Returns None
+    // if the shelf has lost its body.
     fn confirmed(
         &mut self,
         alloc: Global,
@@ -334,7 +337,7 @@ impl<S: Shelf + Drop> Client<S> {
         }
     }
 
-    // The outcome of a validation that ended in a 304.
+    // Handles a 304 to a validation (RFC 9111, section 4.3.3).
     fn validated(
         &mut self,
         alloc: Global,
@@ -386,20 +389,20 @@ impl<S: Shelf + Drop> Client<S> {
         Ok(Received::Again(again))
     }
 
-    /// Takes the response to a validation, and returns the answer to the client's request (RFC 9111,
-    /// section 4.3.3).
+    /// Takes the response to a validation, and returns the answer to the client's request, or the
+    /// client's own request to send (RFC 9111, section 4.3.3).
     ///
-    /// A 304 that confirms the stored response renews it. A 304 that doesn't removes it, and the
-    /// client's own request is to be sent. A 500, 502, 503 or 504 leaves what is stored, and is answered
-    /// by the stale response if `stale_use` allows that (RFC 5861, section 4). Any other response is
-    /// stored if it may be, and is the answer. If the stored response was removed or replaced meanwhile,
-    /// a 304 confirms nothing. The token is spent only on success.
+    /// - A 304 that confirms the stored response renews it. Any other 304 removes it. A 304
+    ///   confirms nothing if the stored response was removed or replaced meanwhile.
+    /// - A 5xx leaves what is stored. A 500, 502, 503 or 504 is replaced by the stale response if
+    ///   `stale_use` allows that (RFC 5861, section 4).
+    /// - Any other response is the answer, and is stored if that is allowed (RFC 9111, section 3).
     ///
-    /// `request` is the client's own request, as it was given to `ask`.
+    /// `request` is the request that was passed to `ask`. The token is spent only on success.
     ///
     /// # Errors
     ///
-    /// `AllocError` if there is not enough memory. Then what is stored is as it was.
+    /// `AllocError` if there is not enough memory. What is stored is then as it was.
     pub fn receive(
         &mut self,
         alloc: Global,
@@ -418,7 +421,7 @@ impl<S: Shelf + Drop> Client<S> {
             → KeepsAll (S.stored self.old.shelf) (S.next_id self.old.shelf)
             (S.stored self.new.shelf) (S.next_id self.new.shelf) }
         ensures conditional { IfOk result (IsConditionalReceipt request.now) }
-        ensures whose_body { IfOk result (KeepsBodyPlace response) }
+        ensures whose_body { IfOk result (KeepsBodyLocation response) }
         ensures again { IfOk result (IsAfterA304 response) }
         ensures unspent { OnErr result (validation.new.id ≡ validation.old.id) }
     {
@@ -437,18 +440,18 @@ impl<S: Shelf + Drop> Client<S> {
         Ok(Received::Answer(answer))
     }
 
-    /// Takes the response to the client's own request, and returns the answer: that response, or a
-    /// stale one if the origin server failed and `stale_use` allows it (RFC 5861, section 4).
+    /// Takes the response to the client's own request, and returns the answer. A stale response
+    /// replaces it if the origin failed and `stale_use` allows that (RFC 5861, section 4).
     ///
-    /// The response is stored if the request is looked up and the response may be stored (RFC 9111,
-    /// section 3). A response without an error to an unsafe request removes what is stored for the
-    /// target, and for the targets of Location and Content-Location of the same origin (RFC 9111,
-    /// section 4.4). If the shelf fails, the response is returned unstored, and Cache-Status says so. The
-    /// token is spent only on success.
+    /// The response is stored if the request is looked up and storing is allowed (RFC 9111, section
+    /// 3). A response without an error to an unsafe request removes what is stored for its targets:
+    /// its own, and those at the same origin in Location and Content-Location (RFC 9111, section
+    /// 4.4). If the shelf fails, nothing is stored, and Cache-Status says so. The token is spent
+    /// only on success.
     ///
     /// # Errors
     ///
-    /// `AllocError` if there is not enough memory. Then what is stored is as it was.
+    /// `AllocError` if there is not enough memory. What is stored is then as it was.
     pub fn accept(
         &mut self,
         alloc: Global,
@@ -487,7 +490,7 @@ impl<S: Shelf + Drop> Client<S> {
         Ok(answer)
     }
 
-    // The answer to a request that isn't looked up, or that is sent past what is stored.
+    // Answers a request that isn't looked up or bypasses the shelf.
     pub(crate) fn passed(
         &mut self,
         alloc: Global,
@@ -518,11 +521,11 @@ impl<S: Shelf + Drop> Client<S> {
         self.finish(alloc, Response::from_parts(head, body), &receipt, plan)
     }
 
-    /// Returns the stale response that answers a request for which the origin server gave no response,
-    /// if there is one and `stale_use` allows it (RFC 5861, section 4).
+    /// Returns the stale response to a request that got no response from the origin server, if
+    /// `stale_use` allows that (RFC 5861, section 4).
     ///
-    /// For a validation without a response, make its token one for the client's own request by
-    /// `into_forwarded`. The token is spent only on success.
+    /// For a validation, first call `into_forwarded` on its token. The token is spent only on
+    /// success.
     ///
     /// # Errors
     ///

@@ -1,6 +1,5 @@
-//! What a client hands out for a request that is sent, and takes back with the outcome.
-//!
-//! A token holds what `Cache-Status` says of the request so far. Only a client makes tokens.
+//! What a client returns for a request to send, and takes back with its outcome. A token holds what
+//! Cache-Status reports of the request so far.
 ghost use Rattle.std.specs.Prelude.{◌≡◌};
 
 use bytes::Bytes;
@@ -10,24 +9,24 @@ use http_cache_storage::ResponseId;
 use std::alloc::Global;
 use std::mem;
 
-/// The client's own request is to be sent, as it is. `accept` takes its response, and
-/// `without_response` that there is none.
+/// The client's own request, which is to be sent as it is. Pass its response to `accept`, or call
+/// `without_response` if there is none.
 #[derive(Debug, Drop)]
 pub struct Forwarded {
-    // The stored response that may be used if the origin fails; a new response replaces it.
+    // The stored response to use if the origin fails. A new response replaces it.
     pub(crate) id: Option<ResponseId>,
     pub(crate) why: Why,
-    // Whether the shelf failed, so that nothing is stored.
+    // Whether the shelf failed. The response is then not stored.
     pub(crate) is_past_shelf: bool,
 }
 
-/// A stored response is to be validated: send `request`. `receive` takes the response.
+/// The validation of a stored response. Send `request`, and pass the response to `receive`.
 #[derive(Debug, Drop)]
 pub struct Validation {
     // The stored response; None once the token is spent.
     pub(crate) id: Option<ResponseId>,
     pub(crate) why: Why,
-    // In a box, since a token is moved with what is done with other requests.
+    // It is boxed, since tokens are moved for other requests too.
     pub(crate) request: Box<request::Parts>,
 }
 
@@ -42,7 +41,7 @@ impl Forwarded {
 }
 
 impl Validation {
-    /// Returns the id of the stored response; `None` once the token is spent.
+    /// Returns the id of the stored response, or `None` once the token is spent.
     pub fn id(&self) -> Option<ResponseId> {
         self.id
     }
@@ -61,28 +60,28 @@ impl Validation {
         mem::replace(&mut *self.request, request::Parts::new(alloc))
     }
 
-    /// Returns the token for the client's own request, where no response was received for this one.
+    /// Returns the token for the client's own request, for a validation that got no response.
     pub fn into_forwarded(self) -> Forwarded {
         let Validation { id, why, .. } = self;
         Forwarded::of(id, why)
     }
 }
 
-/// What is done with a request.
+/// What to do with a request.
 #[derive(Drop)]
 pub enum Decision {
-    /// It is answered, and nothing is sent.
+    /// The answer. Nothing is to be sent.
     Answer(Response<Bytes>),
-    /// It is answered by a stale response, which is validated meanwhile (RFC 5861, section 3).
+    /// A stale response as the answer, which is to be validated meanwhile (RFC 5861, section 3).
     Stale {
         /// The answer.
         answer: Response<Bytes>,
-        /// The validation that is due.
+        /// The validation to send.
         due: Validation,
     },
-    /// A stored response answers it once the origin server has validated that response.
+    /// A validation to send. The stored response may answer only after it.
     Validate(Validation),
-    /// The client's own request is forwarded.
+    /// The client's own request to forward.
     Forward(Forwarded),
 }
 
@@ -91,6 +90,7 @@ pub enum Decision {
 pub enum Received {
     /// The answer to the client's request.
     Answer(Response<Body>),
-    /// The 304 isn't for the stored response, which is removed: send the client's own request.
+    /// The client's own request to send. The 304 didn't confirm the stored response, which is
+    /// removed.
     Again(Forwarded),
 }

@@ -1,4 +1,4 @@
--- A compact form that is written reads back.
+-- A written compact form reads back.
 use Rattle.std.proofs.Common.{◌≡◌, ℕ, ◌+◌, ◌-◌, ◌*◌, ◌/◌, ◌%◌, ◌<◌, ◌≤◌, ◌^◌, ◌==◌, ◌&&◌, suc, le-leb, lt-ltb, neg_ℤ, ◌+ℤ◌, ℤ, pos, negsuc, Bool, true, false, if◌then◌else◌, nat_le, nat_lt, List, [], ◌∷◌, ◌++◌, length, take, drop, Option, Some, refl, sym, ap, ◌∙◌, arith, append_assoc, append-nil}
 use Rattle.std.specs.List.{flat_map, AllByRecursion}
 use Rattle.std.specs.Int.{w64, cast_signed, cast_unsigned, int_div_euclid, int_rem_euclid}
@@ -11,12 +11,11 @@ use Rattle.std.proofs.lemmas.Int.{to_z-of_z}
 use Rattle.jiff_core.specs.Timestamp.{IsTimestampNanos}
 use Rattle.http_cache_rules.specs.Exchange.{Exchange}
 use Rattle.http_cache_rules.specs.Options.{Options}
-use Rattle.http_cache_stored.specs.Form.{given, ◌>>=◌, is_instant, instant_at}
-use Rattle.http_cache_stored.specs.Pairs.{Pair}
+use Rattle.http_cache_json.specs.Form.{given, ◌>>=◌, is_instant, instant_at}
+use Rattle.http_cache_json.specs.Pairs.{Pair}
 use Rattle.http_cache_compact.specs.Compact.{Texts, number_2, number_4, number_8, cut, field_of, fields_of, options_at, are_options, time_of, texts_of, has_numbers}
 use Rattle.http_cache_compact.specs.Written.{text_2, text_4, text_8, options_text, time_text, numbers_text, field_text, compact_text, IsWritableField, IsWritable}
 
--- so many bytes, and what follows them
 cut_back : (n : ℕ) (a b bytes : List ℕ) → n ≡ length a → bytes ≡ a ++ b → cut n bytes ≡ Some (a, b)
 unfolding cut
 cut_back n a b bytes is split =
@@ -25,11 +24,11 @@ cut_back n a b bytes is split =
     let rest : drop n bytes ≡ b = (λ i. drop (is i) (split i)) ∙ drop-append_seam a b in
     ap (λ t. given t (take n bytes, drop n bytes)) (le-leb n (length bytes) fits) ∙ (λ i. Some (front i, rest i))
 
--- what is given where the test holds goes on
+-- a step whose test holds continues
 starts : {A B : Type 0} (b : Bool) (x : A) (f : A → Option B) → b ≡ true → (given b x >>= f) ≡ f x
 starts b x f is = ap (λ c. given c x >>= f) is
 
--- a field line by its lengths
+-- a field line is read by its lengths
 field_by : (n v : ℕ) (lines name value rest : List ℕ) → n ≡ length name → v ≡ length value
     → lines ≡ name ++ (value ++ rest)
     → (cut n lines >>= (λ (a : List ℕ × List ℕ). cut v a.1 >>= (λ (b : List ℕ × List ℕ).
@@ -54,7 +53,7 @@ fields_back (p ∷ ps) rest all =
     ap (fields_of (suc (length ps))) (append_assoc (field_text p) (flat_map field_text ps) rest)
     ∙ rw (field_back p (flat_map field_text ps ++ rest) all.0) (rw (fields_back ps rest all.1) refl)
 
--- the texts by their lengths and counts
+-- the texts are read by their lengths and counts
 texts_by : (m n a b : ℕ) (lines : List ℕ) (t : Texts) → m ≡ length t.method → n ≡ length t.target
     → a ≡ length t.request → b ≡ length t.response
     → AllByRecursion IsWritableField t.request → AllByRecursion IsWritableField t.response

@@ -1,19 +1,18 @@
--- Field lines that are read one after another.
+-- Field lines are read one after another.
 use Rattle.std.proofs.Common.{◌≡◌, ℕ, ◌-◌, ◌<◌, zero, suc, List, [], ◌∷◌, ◌++◌, Option, Some, None, refl, sym, ap, ◌∙◌, subst, arith, append_assoc, append-nil}
 use Rattle.std.specs.Prelude.{IfSome}
 use Rattle.std.specs.List.{AllByRecursion}
 use Rattle.http_header.specs.FieldValue.{FieldValue}
 use Rattle.http_header.specs.HeaderMap.{Entries}
 use Rattle.http_cache_fields.specs.Headers.{Headers, headers_of}
-use Rattle.http_cache_stored.specs.Pairs.{Pair, Fits, with_pair, with_pairs}
-use Rattle.http_cache_stored.proofs.AppendLemmas.{with_pairs-after, fits_before}
-use Rattle.http_cache_stored.proofs.HeldLemmas.{Gathers, gathers_none, gathers_all, holds_gathered, fits_held}
+use Rattle.http_cache_json.specs.Pairs.{Pair, Fits, with_pair, with_pairs}
+use Rattle.http_cache_json.proofs.AppendLemmas.{with_pairs-after, fits_before}
+use Rattle.http_cache_json.proofs.HeldLemmas.{Gathers, gathers_none, gathers_all, holds_gathered, fits_held}
 use Rattle.http_cache_compact.specs.Compact.{field_of, fields_of, IsField, AreHeaders}
 
 less_one : (n : ℕ) → suc n - 1 ≡ n
 less_one n = omega arith
 
--- the first field line and then the others
 pub more_fields : (n : ℕ) (bytes : List ℕ) (p : Pair) (rest : List ℕ) (ps : List Pair) (end : List ℕ) → 0 < n
     → field_of bytes ≡ Some (p, rest) → fields_of (n - 1) rest ≡ Some (ps, end)
     → fields_of n bytes ≡ Some (p ∷ ps, end)
@@ -41,7 +40,7 @@ unfolding fields_of
 no_fields zero bytes is = refl
 no_fields (suc n) bytes is = absurd (omega arith)
 
--- what was read before the field lines that are left
+-- the lines in `done` were read before those that are left
 pub record IsReading (count : ℕ) (bytes : List ℕ) (left : ℕ) (rest : List ℕ) (done : List Pair) : Type 0 where
   pub all : (ps : List Pair) (end : List ℕ) → fields_of left rest ≡ Some (ps, end)
       → fields_of count bytes ≡ Some (done ++ ps, end)
@@ -66,7 +65,7 @@ reading_end count bytes left rest done is reading =
     subst (λ (qs : List Pair). fields_of count bytes ≡ Some (qs, rest)) (append-nil done)
     (reading.all [] rest (no_fields left rest is))
 
--- a map that has the field lines so far, all valid
+-- the map has exactly the lines in `done`, all valid
 pub record HasAdded (m : Entries FieldValue) (done : List Pair) : Type 0 where
   pub is : m ≡ with_pairs [] done
   pub fits : Fits m
@@ -96,7 +95,7 @@ added_headers m done added = record {
       added.fits;
 }
 
--- headers that hold more field lines than were added have room for the next one, which is valid
+-- if headers hold more lines than were added, there is room for the next one, and it is valid
 pub room_for_next : (m : Entries FieldValue) (done : List Pair) (p : Pair) (ps : List Pair) (h : Headers) → HasAdded m done
     → AreHeaders (done ++ p ∷ ps) h → IsField p × Fits (with_pair m p)
 room_for_next m done p ps h added are =
@@ -108,7 +107,7 @@ room_for_next m done p ps h added are =
       fits_before (with_pair m p) ps (subst Fits split fits),
     )
 
--- no headers hold field lines of which the next one can't be added
+-- if the next line can't be added, no headers hold all lines
 pub none_after : (count : ℕ) (bytes : List ℕ) (left : ℕ) (rest : List ℕ) (done : List Pair) (p : Pair) (next : List ℕ)
     (m : Entries FieldValue) → IsReading count bytes left rest done → 0 < left → field_of rest ≡ Some (p, next)
     → HasAdded m done → (IsField p → Fits (with_pair m p) → ⊥)
@@ -125,7 +124,6 @@ none_after count bytes left rest done p next m reading some first added refused 
         (sym (reading.all (p ∷ ps) end (more_fields left rest p next ps end some first is)))
         (λ h are. let room = room_for_next m done p ps h added are in refused room.0 room.1)
 
--- nothing is said of field lines that aren't there
 pub nothing_read : (count : ℕ) (bytes : List ℕ) (P : List Pair × List ℕ → Type 0) → fields_of count bytes ≡ None
     → IfSome (fields_of count bytes) P
 nothing_read count bytes P is = subst (λ o. IfSome o P) (sym is) tt

@@ -1,4 +1,4 @@
--- The lemmas about the compact form.
+-- Lemmas about the compact form.
 mod FieldLemmas
 mod ValueLemmas
 mod TextLemmas

@@ -10,11 +10,10 @@ use Rattle.http_header.specs.FieldValue.{FieldValue}
 use Rattle.http_header.specs.HeaderMap.{Entry, Entries, entry_at, get_all, IsUnique, IsHeaderMap}
 use Rattle.http_cache_fields.specs.Headers.{headers_of, bytes_of}
 use Rattle.http_cache_fields.proofs.HeadersLemmas.{get-headers_of, non_empty, len-headers_of, value_count-headers_of}
-use Rattle.http_cache_stored.specs.Pairs.{Pair, values_under, some_values}
+use Rattle.http_cache_json.specs.Pairs.{Pair, values_under, some_values}
 use Rattle.http_cache_compact.specs.Compact.{IsField, AreHeaders}
 use Rattle.http_cache_compact.specs.Written.{fields_in, field_text, IsWritableField}
 
--- the field lines of a name with values
 abbrev own : List ℕ → List FieldValue → List Pair
 own name [] = []
 own name (v ∷ vs) = (name, v.bytes) ∷ own name vs
@@ -45,11 +44,9 @@ under_other : (q name : List ℕ) (vs : List FieldValue) → bytes_eq (lowercase
 under_other q name [] f = refl
 under_other q name (v ∷ vs) f = rw f (under_other q name vs f)
 
--- names in lower case
 abbrev Lower : Entries FieldValue → Type 0
 Lower m = AllByRecursion (λ e. lowercase e.0 ≡ e.0) m
 
--- no entry has the name
 abbrev Lacks : List ℕ → Entries FieldValue → Type 0
 Lacks q m = AllByRecursion (λ e. bytes_eq e.0 q ≡ false) m
 
@@ -82,7 +79,7 @@ under_all q (e ∷ m) lower apart =
           split ∙ ap (λ ws. ws ++ values_under q (fields_in m)) here ∙ under_all q m lower.1 apart.1 ∙ rw f refl
     ]
 
--- by their indices
+-- a name is absent if no index has it
 lacks_from : (q : List ℕ) (m : Entries FieldValue) → ((i : ℕ) → i < length m → (entry_at m i).0 ≡ q → ⊥) → Lacks q m
 lacks_from q [] none = tt
 lacks_from q (e ∷ m) none = (
@@ -100,7 +97,7 @@ apart_from (e ∷ m) unique = (
   apart_from m (λ i j h k same. let next : suc i ≡ suc j = unique (suc i) (suc j) (omega arith) (omega arith) same in omega arith),
 )
 
--- the names of field lines that can be written are in lower case
+-- the names of writable field lines are in lower case
 own_lower : (name : List ℕ) (vs : List FieldValue) (ps : List Pair) → 0 < length vs
     → AllByRecursion IsWritableField (own name vs ++ ps) → lowercase name ≡ name
 own_lower name [] ps some all = absurd (omega arith)
@@ -128,7 +125,6 @@ valid_from : (ps : List Pair) → AllByRecursion IsWritableField ps → AllByRec
 valid_from [] all = tt
 valid_from (p ∷ ps) all = ((all.0.name.0, all.0.value), valid_from ps all.1)
 
--- headers hold the field lines of their map
 pub kept_headers : (m : Entries FieldValue) → IsHeaderMap m → AllByRecursion IsWritableField (fields_in m)
     → AreHeaders (fields_in m) (headers_of m)
 kept_headers m valid all =

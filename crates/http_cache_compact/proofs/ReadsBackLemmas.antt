@@ -1,11 +1,11 @@
--- What is written of a policy reads as the same policy, but for its target.
+-- The written form of a policy reads as that policy, except for its target.
 use Rattle.std.proofs.Common.{◌≡◌, ◌↔◌, ℕ, List, Result, Ok, Err, refl, sym, ap, ◌∙◌, subst}
 use Rattle.std.specs.Prelude.{IfOk, OnOk, slice_index}
 use Rattle.http_header.specs.HeaderMap.{IsHeaderMap}
 use Rattle.http_cache_rules.specs.Exchange.{Exchange}
-use Rattle.http_cache_stored.specs.ReadBack.{IsReadBack}
-use Rattle.http_cache_stored.proofs.HeldLemmas.{HoldsPairs-unique}
-use Rattle.http_cache_stored.proofs.SomeLemmas.{some_and, of_some, same_some}
+use Rattle.http_cache_json.specs.ReadBack.{IsReadBack}
+use Rattle.http_cache_json.proofs.HeldLemmas.{HoldsPairs-unique}
+use Rattle.http_cache_json.proofs.SomeLemmas.{some_and, of_some, same_some}
 use Rattle.http_cache_compact.specs.Compact.{Texts, texts_of, AreTextsOf, IsCompactOf}
 use Rattle.http_cache_compact.specs.Written.{numbers_text, compact_text, texts_kept, exchange_kept, IsWritable}
 use Rattle.http_cache_compact.specs.declared.write.Kept.{Kept}
@@ -79,7 +79,6 @@ written_back k bytes is w maps f =
     subst (λ (b : List ℕ). IsCompactOf b f ↔ IsReadBack (exchange_kept k) f) (sym is)
     (forth k w maps.0 maps.1 f, back k w maps.0 maps.1 f)
 
--- a compact form begins with the version
 pub version_first : (e : Exchange) (t : Texts) (bytes : List ℕ) → bytes ≡ compact_text e t → slice_index bytes 0 ≡ 1
 unfolding numbers_text
 version_first e t bytes is = ap (λ (b : List ℕ). slice_index b 0) is

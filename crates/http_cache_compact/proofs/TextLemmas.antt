@@ -2,11 +2,10 @@
 use Rattle.std.proofs.Common.{◌≡◌, ℕ, ◌==◌, suc, List, [], ◌∷◌, length, drop, Option, Some, None, refl, subst, false, arith}
 use Rattle.std.specs.Prelude.{IfNone}
 use Rattle.std.proofs.lemmas.Bool.{ne_eqb}
-use Rattle.http_cache_stored.specs.Form.{given}
-use Rattle.http_cache_stored.specs.Pairs.{Pair}
+use Rattle.http_cache_json.specs.Form.{given}
+use Rattle.http_cache_json.specs.Pairs.{Pair}
 use Rattle.http_cache_compact.specs.Compact.{number_4, cut, fields_of, texts_of, AreTextsIn}
 
--- what holds whatever there is holds if there is nothing
 pub none_holds : {A : Type 0} (o : Option A) (P : Type 0) → P → IfNone o P
 none_holds (Some x) P p = tt
 none_holds None P p = p
@@ -35,7 +34,6 @@ unfolding texts_of
 no_response bytes method rest target request asked response first second third none =
     rw first (rw second (rw third (rw none refl)))
 
--- a number after another isn't 0
 not_none : {A : Type 0} (x : A) (n : ℕ) → given (suc n == 0) x ≡ None
 not_none x n = rw (never n) refl
   where
@@ -68,7 +66,6 @@ all_texts bytes method rest target request asked response answered [] first seco
 }
 all_texts bytes method rest target request asked response answered (b ∷ end) first second third fourth none = absurd (omega arith)
 
--- the same bytes are cut, and the same field lines read
 pub same_cut : (n m : ℕ) (xs ys : List ℕ) (o : Option (List ℕ × List ℕ)) → n ≡ m → xs ≡ ys → cut n xs ≡ o → cut m ys ≡ o
 same_cut n m xs ys o ns is h = subst (λ k. cut k ys ≡ o) ns (subst (λ zs. cut n zs ≡ o) is h)
 

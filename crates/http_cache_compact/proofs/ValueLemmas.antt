@@ -1,4 +1,4 @@
--- The value of a field line, by what follows it.
+-- The value of a field line is found by what follows it.
 use Rattle.std.proofs.Common.{◌≡◌, ℕ, ◌+◌, ◌-◌, List, ◌++◌, length, take, drop, sym, ap, ◌∙◌, subst, arith, append_assoc}
 use Rattle.std.specs.Prelude.{slice_range}
 use Rattle.std.proofs.Math.Seq.{drop-append_seam, take-append_seam, take-length}
@@ -22,7 +22,6 @@ two_cuts bytes others value rest k n m first second third =
           ∙ ap (λ (xs : List ℕ). (take k bytes ++ take n (drop k bytes)) ++ xs) after,
     )
 
--- where the value ends
 value_end : (bytes front value rest : List ℕ) → bytes ≡ front ++ (value ++ rest)
     → length bytes - length rest ≡ length front + length value
 value_end bytes front value rest is =

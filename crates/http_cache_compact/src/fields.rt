@@ -4,7 +4,7 @@ ghost use Rattle.http_header.specs.FieldName.{IsFieldName};
 ghost use Rattle.http_header.specs.FieldValue.{IsFieldValue, plain_value};
 ghost use Rattle.http_header.specs.Token.{lowercase};
 ghost use Rattle.http_cache_fields.specs.Headers.{Headers, headers_of};
-ghost use Rattle.http_cache_stored.specs.Pairs.{Pair, Fits, with_pair};
+ghost use Rattle.http_cache_json.specs.Pairs.{Pair, Fits, with_pair};
 ghost use Rattle.http_cache_compact.specs.Compact.{cut, field_of, fields_of, IsField, AreHeaders};
 
 use crate::numbers::{number_2, number_4};
@@ -13,17 +13,17 @@ use http_cache_fields::CacheError;
 use http_header::{HeaderMap, HeaderMapError, HeaderName, HeaderNameError, HeaderValue};
 use std::alloc::Global;
 
-/// Room for more names than this is made as they are read.
+/// Room is reserved for at most this many names. More names get room as they are read.
 const MOST_RESERVED: usize = 64;
 
-/// So many bytes at the front, and what follows them.
+/// The first bytes, and the rest.
 #[derive(Clone, Copy)]
 pub(crate) struct Halves<'a> {
     pub(crate) front: &'a [u8],
     pub(crate) rest: &'a [u8],
 }
 
-/// Returns so many bytes at the front, if there are, and what follows them.
+/// Returns the first `length` bytes and the rest, if there are as many.
 #[tactic(auto, unfolding(crate::specs::Compact::cut))]
 pub(crate) fn cut(bytes: &[u8], length: u32) -> Option<Halves<'_>>
     ensures some { IfSome result (λ c. cut length bytes.now ≡ Some (c.front.now, c.rest.now)) }
@@ -33,7 +33,7 @@ pub(crate) fn cut(bytes: &[u8], length: u32) -> Option<Halves<'_>>
     Some(Halves { front, rest })
 }
 
-/// A field line, and what follows it.
+/// A field line, and the rest.
 #[derive(Clone, Copy)]
 pub(crate) struct Field<'a> {
     name: &'a [u8],
@@ -41,7 +41,6 @@ pub(crate) struct Field<'a> {
     rest: &'a [u8],
 }
 
-// The field line at the front.
 #[tactic(auto, unfolding(crate::specs::Compact::field_of, crate::specs::Compact::cut))]
 fn field_of(bytes: &[u8]) -> Option<Field<'_>>
     ensures some { IfSome result (λ f.
@@ -60,7 +59,7 @@ fn field_of(bytes: &[u8]) -> Option<Field<'_>>
     Some(Field { name, value, rest })
 }
 
-/// Returns what follows so many field lines at the front.
+/// Returns the rest after `count` field lines.
 pub(crate) fn after_fields(count: u32, bytes: &[u8]) -> Option<&[u8]>
     ensures some { IfSome result (λ rest. (fields : List Pair)
         × (fields_of count bytes.now ≡ Some (fields, rest.now))) }
@@ -122,7 +121,7 @@ fn add(alloc: Global, headers: &mut HeaderMap, name: &[u8], value: Bytes) -> Res
     }
 }
 
-/// Returns the headers of so many field lines at the front. Their values share one copy of the bytes.
+/// Returns the headers of the first `count` field lines. Their values share one copy of the bytes.
 pub(crate) fn headers_in(alloc: Global, count: u32, bytes: &[u8]) -> Result<HeaderMap, CacheError>
     ensures found { IfOk result (λ headers. IfSome (fields_of count bytes.now)
         (λ p. AreHeaders p.0 (headers_of headers))) }

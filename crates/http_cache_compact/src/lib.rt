@@ -1,8 +1,8 @@
-//! The compact form of what a policy keeps.
+//! The compact form of what a policy keeps. specs/Compact.antt defines where each number and text
+//! is.
 //!
-//! specs/Compact.antt says where each number and text is. A number is tested where it is read, and
-//! a text by the type that is made of it. It relies on the rules for what is kept, and on the JSON
-//! form for which headers field lines are.
+//! A number is checked where it is read, a text by the type that is made of it. The crate relies on
+//! the rules for what is kept, and on the JSON form for which headers field lines are.
 #![tactic(auto)]
 
 mod fields;

@@ -64,7 +64,7 @@ pub(crate) fn options_in(bytes: &[u8]) -> Option<CacheOptions>
     })
 }
 
-/// Returns the response time, if it is one.
+/// Returns the response time, if it is in range.
 #[tactic(auto, unfolding(crate::specs::Compact::time_of))]
 pub(crate) fn time_in(bytes: &[u8]) -> Option<Timestamp>
     requires { 52 ≤ length bytes.now }

@@ -1,4 +1,4 @@
-//! What a policy keeps, from its compact form.
+//! Reads what a policy keeps from its compact form.
 ghost use Rattle.std.specs.Prelude.{◌≡◌, ◌≢◌, ◌≤◌, ◌+◌, true, false, Err, Some, None, IfOk, OnOk, OnSome, IsSome, IfSome, IfNone, IsErrOf, length};
 ghost use Rattle.http.specs.StatusCode.{IsStatusCode};
 ghost use Rattle.http_header.specs.Token.{IsToken};
@@ -20,7 +20,8 @@ use http_uri::UriError;
 use jiff::Timestamp;
 use std::alloc::Global;
 
-/// Where the texts of a form begin. Those of field lines end with the form.
+/// The texts of a form, each from its beginning. The texts of field lines extend to the end of the
+/// form.
 #[derive(Clone, Copy)]
 pub(crate) struct Texts<'a> {
     method: &'a [u8],
@@ -29,7 +30,6 @@ pub(crate) struct Texts<'a> {
     response: &'a [u8],
 }
 
-// Where the texts are.
 fn texts_in(bytes: &[u8]) -> Option<Texts<'_>>
     requires { 52 ≤ length bytes.now }
     ensures some { IfSome result (λ t.
@@ -79,7 +79,6 @@ fn target_of(alloc: Global, bytes: &[u8]) -> Result<Uri, CacheError>
     }
 }
 
-// The numbers of a form as their types.
 #[derive(Clone, Copy)]
 struct Numbers {
     options: CacheOptions,
@@ -87,7 +86,7 @@ struct Numbers {
     status: StatusCode,
 }
 
-// The numbers of a form, if they are in range.
+// Returns the numbers of a form, if they are in range.
 #[tactic(auto, unfolding(crate::specs::Compact::has_numbers))]
 fn numbers_in(bytes: &[u8]) -> Option<Numbers>
     ensures valid { OnSome result (has_numbers bytes.now ≡ true) }
@@ -112,11 +111,11 @@ fn numbers_in(bytes: &[u8]) -> Option<Numbers>
     })
 }
 
-/// Returns what a policy keeps, of a compact form.
+/// Returns what a policy keeps, from a compact form.
 ///
 /// # Errors
 ///
-/// `Malformed` if the bytes are no compact form, and `Memory`.
+/// `Malformed` if the bytes are no compact form, and `Memory` if there is not enough memory.
 pub fn parts_from_compact(alloc: Global, bytes: &[u8]) -> Result<StoredParts, CacheError>
     ensures found { IfOk result (λ parts. IsCompactOf bytes.now (exchange_in parts)) }
     ensures malformed { IsErrOf result CacheError.Malformed

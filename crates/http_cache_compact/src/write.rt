@@ -1,17 +1,17 @@
-//! The compact form of what a policy keeps.
+//! Writes what a policy keeps in its compact form.
 ghost use Rattle.std.specs.Prelude.{◌≡◌, ◌↔◌, ◌++◌, ◌<◌, ◌^◌, ◌/◌, slice_index, length, flat_map, IfOk, OnOk};
 ghost use Rattle.http_cache_rules.specs.Options.{options_of};
 ghost use Rattle.http_cache_compact.specs.Written.{flags_of, text_2, text_4, text_8, options_text, time_text, numbers_text, compact_text, field_text, fields_in};
 ghost use Rattle.http_cache_compact.specs.Written.{IsWritableField, AreWritable, IsWritable, texts_kept, exchange_kept};
 ghost use Rattle.http_cache_compact.specs.Compact.{IsCompactOf};
 ghost use Rattle.http_cache_rules.specs.Exchange.{Exchange};
-ghost use Rattle.http_cache_stored.specs.ReadBack.{IsReadBack};
+ghost use Rattle.http_cache_json.specs.ReadBack.{IsReadBack};
 ghost use Rattle.http_uri.specs.Uri.{uri_text};
 ghost use Rattle.std.specs.List.{AllByRecursion};
 ghost use Rattle.http.specs.StatusCode.{IsStatusCode};
 ghost use Rattle.http_header.specs.HeaderMap.{IsHeaderMap};
 ghost use Rattle.jiff_core.specs.Timestamp.{IsTimestampNanos};
-ghost use Rattle.http_cache_stored.specs.FormData.{AreInRange};
+ghost use Rattle.http_cache_json.specs.FormData.{AreInRange};
 
 use crate::VERSION;
 use http::{HeaderMap, Method, StatusCode, Uri};
@@ -39,21 +39,19 @@ pub struct Kept<'a> {
     pub response_time: Timestamp,
 }
 
-// A length of 4 bytes. A text that has none is longer than 4 GB, and takes more memory than there is.
+// Returns a length of 4 bytes. A longer text than 4 GB counts as out of memory.
 fn length_4(bytes: &[u8]) -> Result<u32, AllocError>
     ensures { IfOk result (λ n. n ≡ length bytes.now) }
 {
     u32::try_from(bytes.len()).map_err(|_| AllocError)
 }
 
-// A length of 2 bytes.
 fn length_2(bytes: &[u8]) -> Result<u16, AllocError>
     ensures { IfOk result (λ n. n ≡ length bytes.now) }
 {
     u16::try_from(bytes.len()).map_err(|_| AllocError)
 }
 
-// How many field lines headers have.
 fn count_of(headers: &HeaderMap) -> Result<u32, AllocError>
     ensures count { IfOk result (λ n. n ≡ length (fields_in headers.now)) }
     ensures map { IsHeaderMap headers.now }
@@ -85,7 +83,6 @@ fn push_8(out: &mut Vec<u8>, number: u64) -> Result<(), AllocError>
     out.extend_from_slice(&number.to_be_bytes())
 }
 
-// The flags of options.
 fn flags_of(options: &CacheOptions) -> u8
     ensures { result ≡ flags_of (options_of options.now) }
 {
@@ -151,7 +148,6 @@ fn push_fields(out: &mut Vec<u8>, headers: &HeaderMap) -> Result<(), AllocError>
     Ok(())
 }
 
-// The numbers at the front.
 #[tactic(auto, unfolding(crate::specs::Written::numbers_text))]
 fn push_numbers(
     out: &mut Vec<u8>,
@@ -183,7 +179,7 @@ fn push_numbers(
     push_4(out, count_of(kept.response_headers)?)
 }
 
-// The compact form, and what holds of all that is in it.
+// Writes the compact form, and shows what holds of all its parts.
 fn write(alloc: Global, kept: &Kept<'_>) -> Result<Vec<u8>, AllocError>
     ensures text { IfOk result (λ out.
         out.items ≡ compact_text (exchange_kept kept.now) (texts_kept kept.now)) }
@@ -207,7 +203,7 @@ fn write(alloc: Global, kept: &Kept<'_>) -> Result<Vec<u8>, AllocError>
 ///
 /// # Errors
 ///
-/// Returns an error if there is not enough memory, or a text is longer than 4 GB.
+/// `AllocError` if there is not enough memory, or a text is longer than 4 GB.
 pub fn compact_of(alloc: Global, kept: &Kept<'_>) -> Result<Vec<u8>, AllocError>
     ensures reads_back { IfOk result (λ out. (e : Exchange)
         → IsCompactOf out.items e ↔ IsReadBack (exchange_kept kept.now) e) }

@@ -1,4 +1,4 @@
-//! Requests whose outcome the caller is to hand back.
+//! Requests whose outcome the caller has to report.
 ghost use Rattle.std.specs.Prelude.{◌≡◌, ◌≤◌, ◌+◌, ℕ, Some, None, option_map, IfOk, OnErr};
 ghost use Rattle.std.specs.BTreeMap.{get};
 ghost use Rattle.std.specs.Ordering.{nat_cmp};
@@ -18,22 +18,22 @@ pub enum Errand {
     Own(Forwarded),
     /// A validation.
     Check(Validation),
-    /// Either, which has failed.
+    /// A request that has failed.
     Failed(Forwarded),
 }
 
-/// A request whose outcome the caller is to hand back.
+/// A request whose outcome the caller has to report.
 #[derive(Debug, Drop)]
 pub struct UnderWay {
     /// The caller's id.
     pub id: u64,
     /// The client's own request.
     pub request: Request<Bytes>,
-    /// What was sent. It is there between two frames.
+    /// What was sent. It is `Some` between two frames.
     pub errand: Option<Errand>,
-    /// When it was sent, unless the caller says another time.
+    /// The time at which it was sent, unless the caller reports another one.
     pub sent: Timestamp,
-    /// Whether the body of the request is with the caller.
+    /// Whether the caller has the body of the request.
     pub is_body_with_caller: bool,
     /// Whether a stale response has answered the request.
     pub is_answered: bool,
@@ -44,14 +44,14 @@ pub struct UnderWay {
 pub struct UnderWays {
     /// The requests.
     pub by_token: BTreeMap<u64, UnderWay>,
-    /// The token that the next one is given.
+    /// The next token to assign.
     pub next_token: u64,
-    // Of a token that isn't given yet no request is under way.
+    // A token that isn't assigned yet has no request under way.
     ghost are_given: { (token : ℕ) → next_token ≤ token → get nat_cmp by_token token ≡ None },
 }
 
 impl UnderWays {
-    /// Returns no requests under way; the first token is 1.
+    /// Returns a collection without requests. The first token will be 1.
     pub fn new(alloc: Global) -> UnderWays
         ensures next { result.next_token ≡ 1 }
         ensures none { (token : ℕ) → id_at result.by_token token ≡ None }
@@ -62,12 +62,12 @@ impl UnderWays {
         }
     }
 
-    /// Returns how many there are.
+    /// Returns the number of requests.
     pub fn len(&self) -> usize {
         self.by_token.len()
     }
 
-    /// Adds a request, and returns its token, which none had before.
+    /// Adds a request, and returns its token, which no request had before.
     pub fn add(&mut self, under_way: UnderWay) -> Result<u64, AllocError>
         ensures given { IfOk result (λ token. (token ≡ self.old.next_token)
             × (self.new.next_token ≡ token + 1)) }

@@ -1,5 +1,5 @@
-//! The errands of a cache process: requests that its caller is to send to the origin server, by token. The
-//! caller hands their outcome back. Nothing here reads a frame.
+//! The requests that a cache process asks its caller to send to the origin server, by token. The
+//! caller reports their outcome. Nothing here reads a frame.
 #![tactic(auto)]
 
 mod errands;

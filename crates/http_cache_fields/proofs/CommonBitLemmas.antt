@@ -21,17 +21,13 @@ all_under-at test (suc n) b e h =
       | inr apart ↦ let other = eqb-false b n apart in all_under-at test n b parts.1 (omega arith)
     ]
 
--- a byte lacks the bit, or lower case leaves it
 abbrev keeps : ℕ → Bool
 keeps b = eqb (bit_and 32 b) 0 || (eqb (bit_and 32 b) 32 && eqb (to_ascii_lowercase b) b)
 
--- the bit is there where each byte has it, and then lower case leaves them all
+-- each byte has the bit, so lower case changes none
 pub record HasCommonBit (bs : List ℕ) (common : ℕ) : Type 0 where
   pub bit : (common ≡ 0) ⊎ (common ≡ 32)
   pub lower : common ≡ 32 → lowercase bs ≡ bs
-
-pub HasCommonBit-none : HasCommonBit [] 32
-HasCommonBit-none = record { bit = inr refl; lower = λ e. refl }
 
 pub HasCommonBit-push : (bs : List ℕ) (common b : ℕ) → b < 256 → HasCommonBit bs common
     → HasCommonBit (bs ++ b ∷ []) (bit_and common b)

@@ -13,7 +13,6 @@ use Rattle.http_cache_fields.specs.Directives.{has_conflict, value_under, set_di
 use Rattle.http_cache_fields.specs.Directives.{must_revalidate, with_conflict, directives}
 use Rattle.http_cache_fields.proofs.ReadLemmas.{HasRead, HasRead-none, HasRead-new, HasRead-again, has_name_of}
 
--- the pieces say the directives at first positions
 abbrev pub Says : List (List ℕ) → Type 0
 Says ps = HasRead ps (first_directives ps) (has_conflict ps)
 
@@ -35,7 +34,6 @@ Says-all done [] h = subst Says (sym (append-nil done)) h
 Says-all done (p ∷ ps) h =
     subst Says (append_assoc done (p ∷ []) ps) (Says-all (done ++ p ∷ []) ps (Says-push done p h))
 
--- a directive that is set leaves the other names
 pub value_under-set_other : (ds : List Directive) (d : Directive) (n : List ℕ) → bytes_eq n d.0 ≡ false
     → value_under (set_directive ds d) n ≡ value_under ds n
 value_under-set_other [] d n apart = ap (λ b. cond b (Some d.1) None) apart
@@ -50,7 +48,6 @@ value_under-set_other (c ∷ ds) d n apart =
         rw other refl
     by false e h = ap (cond (bytes_eq n c.0) (Some c.1)) h
 
--- and stands under its own
 pub value_under-set_same : (ds : List Directive) (d : Directive)
     → value_under (set_directive ds d) d.0 ≡ Some d.1
 value_under-set_same [] d = ap (λ b. cond b (Some d.1) None) ((bytes_eq-Decides d.0 d.0).1 refl)
@@ -72,7 +69,6 @@ nameless [] m named empty = absurd (grind (arith, nat_tests))
 nameless (b ∷ n) [] named empty = refl
 nameless (b ∷ n) (c ∷ m) named empty = absurd (grind (arith, nat_tests))
 
--- a piece without a name is no piece of a name with a byte
 find-named : (n : List ℕ) (ps : List (List ℕ)) → nat_lt 0 (length n) ≡ true
     → find (has_name_of n) (filter has_name ps) ≡ find (has_name_of n) ps
 find-named n [] named = refl
@@ -84,7 +80,7 @@ find-named n (p ∷ ps) named = by (has_name p) refl (find-named n ps named)
     by true e h = ap (cond (has_name_of n p) (Some p)) h
     by false e h = h ∙ sym (ap (λ b. cond b (Some p) (find (has_name_of n) ps)) (nameless n (name_of p) named e))
 
--- what stands under a name that a conflict doesn't set is what the first piece of the name says
+-- a name that a conflict doesn't set has the value of its first piece
 pub value_under-first_piece : (ps : List (List ℕ)) (n : List ℕ) → nat_lt 0 (length n) ≡ true
     → bytes_eq n (codes "must-revalidate") ≡ false
     → value_under (directives ps) n ≡ option_map unquoted_value_of (find (λ p. bytes_eq n (name_of p)) ps)
@@ -94,7 +90,7 @@ value_under-first_piece ps n named apart =
     ∙ (Says-all [] kept HasRead-none).firsts n
     ∙ ap (option_map unquoted_value_of) (find-named n ps named)
 
--- a name is there where a piece has it
+-- a name is present if a piece has it
 pub named-by_directive : (ps : List (List ℕ)) (n : List ℕ) → nat_lt 0 (length n) ≡ true
     → bytes_eq n (codes "must-revalidate") ≡ false
     → list_any (λ p. bytes_eq n (name_of p)) ps ≡ has (directives ps) n

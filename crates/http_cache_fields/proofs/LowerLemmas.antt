@@ -8,7 +8,6 @@ use Rattle.http_cache_fields.specs.Text.{is_blank, trim, trim_front, trim_back, 
 use Rattle.http_cache_fields.specs.Readable.{is_name_byte}
 use Rattle.http_cache_fields.proofs.TrimLemmas.{and-left, and-right, and-both}
 
--- lower case stays
 pub lowercase-again : (bs : List ℕ) → lowercase (lowercase bs) ≡ lowercase bs
 lowercase-again [] = refl
 lowercase-again (b ∷ bs) = λ i. again b i ∷ lowercase-again bs i
@@ -16,7 +15,7 @@ lowercase-again (b ∷ bs) = λ i. again b i ∷ lowercase-again bs i
     again : (b : ℕ) → to_ascii_lowercase (to_ascii_lowercase b) ≡ to_ascii_lowercase b
     again b = grind (arith, nat_tests)
 
--- ---- tests that the case doesn't change
+-- ---- tests that ignore case
 
 blank-lower : (b : ℕ) → is_blank (to_ascii_lowercase b) ≡ is_blank b
 blank-lower b = grind (arith, nat_tests)
@@ -59,7 +58,6 @@ trim_back-lowercase (b ∷ bs) =
     onto [] = ap (λ t. cond t [] (to_ascii_lowercase b ∷ [])) (blank-lower b) ∙ by (is_blank b)
     onto (c ∷ cs) = refl
 
--- a text is trimmed in either case
 pub trim-lowercase : (bs : List ℕ) → trim (lowercase bs) ≡ lowercase (trim bs)
 trim-lowercase bs =
     ap (trim_back is_blank) (trim_front-lowercase bs) ∙ trim_back-lowercase (trim_front is_blank bs)

@@ -1,4 +1,4 @@
--- One piece more is read as one directive more.
+-- One more piece is read as one more directive.
 use Rattle.std.proofs.Common.{◌≡◌, ℕ, Bool, true, false, cond, List, [], ◌∷◌, ◌++◌, Option, Some, None}
 use Rattle.std.proofs.Common.{refl, sym, ap, ◌∙◌}
 use Rattle.std.proofs.lemmas.List.{append-nil}
@@ -8,7 +8,6 @@ use Rattle.http_cache_fields.specs.ReadMore.{read_of, read_beside, read_more}
 use Rattle.http_cache_fields.proofs.ReadLemmas.{HasRead-none, HasRead-new, HasRead-again, set_directive-new}
 use Rattle.http_cache_fields.proofs.FirstPieceLemmas.{Says, Says-all}
 
--- a piece with a name
 pub read_of-push : (ps : List (List ℕ)) (p : List ℕ) → read_of (ps ++ p ∷ [])
     ≡ read_beside (read_of ps) (name_of p) (raw_value_of p) (value_under (first_directives ps) (name_of p))
 read_of-push ps p = by (value_under (first_directives ps) (name_of p)) refl
@@ -26,7 +25,6 @@ read_of-push ps p = by (value_under (first_directives ps) (name_of p)) refl
         let more = HasRead-again ps (first_directives ps) (has_conflict ps) p v so_far e in
         λ i. record { first = sym more.listed i; conflict = sym more.clash i }
 
--- any piece
 pub read_of-more : (ps : List (List ℕ)) (p : List ℕ) → read_of (ps ++ cond (has_name p) (p ∷ []) [])
     ≡ read_more (read_of ps) (name_of p) (raw_value_of p)
 read_of-more ps p = by (has_name p)

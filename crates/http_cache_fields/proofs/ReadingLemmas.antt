@@ -1,4 +1,4 @@
--- Directives that are found by an ordered map.
+-- Directives that are found with an ordered map.
 use Rattle.std.proofs.Common.{◌≡◌, ℕ, suc, zero, ◌<◌, ◌≤◌, Bool, true, false, cond}
 use Rattle.std.proofs.Common.{List, [], ◌∷◌, ◌++◌, length, take, drop, Option, Some}
 use Rattle.std.proofs.Common.{None, refl, sym, ap, ◌∙◌, subst, arith, bytes_eq, Bor}
@@ -13,7 +13,7 @@ use Rattle.http_cache_fields.specs.declared.names.Name.{Name}
 use Rattle.http_cache_fields.proofs.ReadLemmas.{value_under-push}
 use Rattle.http_cache_fields.proofs.ReadableLemmas.{other_way}
 
--- a value stands among the first directives, or else behind them
+-- a value is among the first directives, or after them
 pub value_under-parts : (count : ℕ) (ds : List Directive) (n : List ℕ)
     → value_under ds n ≡ option_or (value_under (take count ds) n) (value_under (drop count ds) n)
 value_under-parts zero ds n = refl
@@ -27,14 +27,12 @@ value_under-parts (suc count) (d ∷ ds) n = by (bytes_eq n d.0) (value_under-pa
     by true h = refl
     by false h = h
 
--- what stands among the first directives stands there
 pub value_among_first : (count : ℕ) (ds : List Directive) (n : List ℕ) (v : Option (List ℕ))
     → value_under (take count ds) n ≡ Some v → value_under (take count ds) n ≡ value_under ds n
 value_among_first count ds n v found =
     sym (value_under-parts count ds n
     ∙ ap (λ o. option_or o (value_under (drop count ds) n)) found ∙ sym found)
 
--- a name that is new is new behind the first directives too
 later_new : (count : ℕ) (ds : List Directive) (n : List ℕ) → value_under ds n ≡ None
     → value_under (drop count ds) n ≡ None
 later_new count ds n new =
@@ -45,7 +43,7 @@ later_new count ds n new =
     by None h = h
     by (Some v) h = absurd (cc)
 
--- among no more directives than are looked through there is nothing to keep
+-- while few directives are read, the map needs nothing
 pub HasLater-few : (ds : List Directive) (d : Directive) (later : ByName) → length ds < 16
     → HasLater ds later → HasLater (ds ++ d ∷ []) later
 HasLater-few ds d later few h name =
@@ -62,7 +60,7 @@ HasLater-few ds d later few h name =
     short : (es : List Directive) → length es < 16 → length (es ++ d ∷ []) ≤ 16
     short es few = omega (arith, length_push es d)
 
--- behind them a directive of a new name stands in the map too
+-- after the first 16, a directive of a new name is in the map too
 pub HasLater-more : (ds : List Directive) (key : Name) (v : Option (Bor (List ℕ))) (later more : ByName)
     → 16 ≤ length ds → value_under ds (lower_name key) ≡ None → Updates name_cmp later more key (Some v)
     → HasLater ds later → HasLater (ds ++ (lower_name key, option_copied v) ∷ []) more

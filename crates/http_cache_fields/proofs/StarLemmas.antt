@@ -1,4 +1,4 @@
--- A response whose Vary has no `*` among its pieces has none that is `*` alone.
+-- A response whose Vary has no `*` among its pieces has no Vary that is only `*`.
 use Rattle.std.proofs.Common.{◌≡◌, ℕ, ◌-◌, Bool, true, false, cond, not, ◌||◌, List, []}
 use Rattle.std.proofs.Common.{◌∷◌, ◌++◌, length, map, drop, codes, bytes_eq, slice_get}
 use Rattle.std.proofs.Common.{Some, None, option_map, option_and_then, unwrap_or}
@@ -13,8 +13,6 @@ use Rattle.http_cache_fields.specs.Headers.{last_only}
 use Rattle.http_cache_fields.specs.Pieces.{text_lines, pieces_of_line, pieces, pieces_of_values}
 use Rattle.http_cache_fields.proofs.TrimLemmas.{and-left, and-right, and-both}
 use Rattle.http_cache_fields.proofs.MarkLemmas.{slice_split-none}
-
--- ---- a line that trims to a text without commas has none
 
 module _ (p q : ℕ → Bool) (weaker : (b : ℕ) → p b ≡ true → q b ≡ true) where
   front_by : (b : ℕ) (bs : List ℕ) (t : Bool) → p b ≡ t → (list_all q (trim_front p bs) ≡ true → list_all q bs ≡ true)
@@ -47,7 +45,6 @@ not_comma-blank b e = grind (arith, nat_tests)
 abbrev has_no_comma : ℕ → Bool
 has_no_comma b = not (is_comma b)
 
--- its one piece is that text
 star-alone : (line : List ℕ) → trim line ≡ codes "*" → pieces_of_line line ≡ codes "*" ∷ []
 star-alone line e =
     let front : list_all has_no_comma (trim_front is_blank line) ≡ true =
@@ -57,12 +54,9 @@ star-alone line e =
     before-trim_front is_blank has_no_comma not_comma-blank line front in
     ap (map trim) (slice_split-none is_comma line whole) ∙ ap (λ (t : List ℕ). t ∷ []) e
 
--- ---- the last of several values
-
 abbrev pub is_star : List ℕ → Bool
 is_star = bytes_eq (codes "*")
 
--- the first of these values is text that trims to `*`
 abbrev pub begins_with_star : List (List ℕ) → Bool
 begins_with_star vs =
     unwrap_or (option_map (λ text. bytes_eq (trim text) (codes "*"))
@@ -76,7 +70,6 @@ pub or-right : (a b : Bool) → (a || b) ≡ false → b ≡ false
 or-right true b e = absurd (true≢false e)
 or-right false b e = e
 
--- what isn't among the pieces of a value and others isn't among those of the others
 star-tail : (v : List ℕ) (vs : List (List ℕ)) → list_any is_star (pieces_of_values (v ∷ vs)) ≡ false
     → list_any is_star (pieces_of_values vs) ≡ false
 star-tail v vs e = by (is_text v) e

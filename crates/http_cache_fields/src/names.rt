@@ -1,4 +1,4 @@
-//! Names of directives, which have no case (RFC 7234, section 5.2).
+//! Names of directives, which ignore case (RFC 7234, section 5.2).
 ghost use Rattle.std.specs.Prelude.{◌≡◌, true, bytes_eq, IfOk, IfSome};
 ghost use Rattle.std.specs.Cow.{cow_str_bytes};
 ghost use Rattle.std.specs.Ordering.{nat_cmp, on, as_partial_cmp};
@@ -12,8 +12,7 @@ use std::alloc::{AllocError, Global};
 use std::borrow::CowStr;
 use std::cmp::Ordering;
 
-// The standard names of directives, the most common ones first (RFC 7234, section 5.2, RFC 5861
-// and RFC 8246).
+// The most common names first (RFC 7234, section 5.2, RFC 5861 and RFC 8246).
 const STANDARD: [&'static str; 15] = [
     "max-age",
     "public",
@@ -32,14 +31,14 @@ const STANDARD: [&'static str; 15] = [
     "only-if-cached",
 ];
 
-/// Whether two names are the same, but for the case of their ASCII letters.
+/// Returns whether two names are equal, ignoring ASCII case.
 pub fn is_same_name(a: &str, b: &str) -> bool
     ensures { result ≡ bytes_eq (lowercase a.now) (lowercase b.now) }
 {
     a.eq_ignore_ascii_case(b)
 }
 
-// Whether each byte has the bit that capital letters lack, so that lower case changes none.
+// Each byte has the bit that capital letters lack, so lower case changes none.
 fn is_lower(name: &str) -> bool
     ensures { result ≡ true → lowercase name.now ≡ name.now }
 {
@@ -50,14 +49,14 @@ fn is_lower(name: &str) -> bool
     common != 0
 }
 
-// The standard name of the same text, which needs no copy.
+// A standard name needs no copy.
 fn standard(name: &str) -> Option<&'static str>
     ensures { IfSome result (λ text. text.now ≡ name.now) }
 {
     STANDARD.iter().copied().find(|text| *text == name)
 }
 
-/// A name in lower case: a standard one as it stands here, a copy of another.
+/// Returns a name in lower case, borrowed if it is a standard one.
 pub(crate) fn lower_name(alloc: Global, name: &str) -> Result<CowStr<'static, Global>, AllocError>
     ensures { IfOk result (λ lower. cow_str_bytes lower ≡ lowercase name.now) }
 {
@@ -70,7 +69,6 @@ pub(crate) fn lower_name(alloc: Global, name: &str) -> Result<CowStr<'static, Gl
     }
 }
 
-// The order of two names in lower case.
 fn compare(first: &[u8], second: &[u8]) -> Ordering
     ensures { result ≡ slice_cmp nat_cmp (lowercase first.now) (lowercase second.now) }
 {
@@ -88,7 +86,7 @@ fn compare(first: &[u8], second: &[u8]) -> Ordering
     }
 }
 
-/// A name as it was sent, which is compared without case.
+/// A name as received, compared without case.
 #[derive(Clone, Copy)]
 pub struct Name<'a>(pub &'a str);
 

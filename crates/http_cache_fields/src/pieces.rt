@@ -1,4 +1,4 @@
-//! The pieces between the commas of header lines.
+//! Splits field lines at their commas.
 ghost use Rattle.std.specs.Prelude.{◌≡◌, [], ◌∷◌, MatchOption};
 ghost use Rattle.std.specs.Iterator.{YieldsFirstRef, item_count};
 ghost use Rattle.http_cache_fields.specs.Headers.{headers_of, bytes_of};
@@ -10,11 +10,11 @@ use http_header::{AsHeaderName, GetAll, HeaderMap, HeaderValue, ValueIter};
 use std::iter::FusedIterator;
 use std::marker::Model;
 
-/// The pieces between the commas of a header's lines, which `get_all_comma` gives.
+/// An iterator over the pieces between the commas of field lines, from `get_all_comma`.
 #[derive(Debug, Drop)]
 pub struct Commas<'a> {
     values: ValueIter<'a, HeaderValue>,
-    // What is not yet cut of the line that the last piece came from.
+    // The unread rest of the current line.
     rest: Option<&'a str>,
 }
 
@@ -27,7 +27,7 @@ impl<'a> Model for Commas<'a> {
     ghost view = { λ c. pieces_left c.rest c.values };
 }
 
-/// The pieces of each value that is text: what stands between its commas, trimmed.
+/// Returns the trimmed pieces between the commas of each value that is text.
 pub fn get_all_comma<'a>(all: GetAll<'a, HeaderValue>) -> Commas<'a>
     ensures { result ≡ pieces_of_values (bytes_of all.entry) }
 {
@@ -37,14 +37,13 @@ pub fn get_all_comma<'a>(all: GetAll<'a, HeaderValue>) -> Commas<'a>
     }
 }
 
-/// The pieces of the values under a name.
+/// Returns the pieces of the values under a name.
 pub fn pieces_under<'a, K: AsHeaderName>(headers: &'a HeaderMap, name: K) -> Commas<'a>
     ensures { result ≡ pieces_under (headers_of headers.now) (K.name name) }
 {
     get_all_comma(headers.get_all(name))
 }
 
-// The next value that is text.
 fn next_line<'a>(values: &mut ValueIter<'a, HeaderValue>) -> Option<&'a str>
     ensures { MatchOption result
         ((text_lines (bytes_of values.old) ≡ []) × (text_lines (bytes_of values.new) ≡ []))
@@ -58,7 +57,6 @@ fn next_line<'a>(values: &mut ValueIter<'a, HeaderValue>) -> Option<&'a str>
     None
 }
 
-// The first piece of a line, and what stands behind its comma.
 fn cut_line(line: &str) -> (&str, Option<&str>)
     ensures { pieces_of_line line.now ≡ result.0.now ∷ pieces_of_rest result.1 }
 {

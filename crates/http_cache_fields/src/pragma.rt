@@ -1,4 +1,4 @@
-//! Pragma, which stands in for Cache-Control in old messages (RFC 7234, section 5.4).
+//! Reads Pragma, which replaces a missing Cache-Control (RFC 7234, section 5.4).
 ghost use Rattle.std.specs.Prelude.{◌≡◌};
 ghost use Rattle.http_cache_fields.specs.Headers.{headers_of};
 ghost use Rattle.http_cache_fields.specs.Pragma.{pragma_forbids, pragma_stands_in};
@@ -6,7 +6,7 @@ ghost use Rattle.http_cache_fields.specs.Pragma.{pragma_forbids, pragma_stands_i
 use crate::headers::{contains_key, first_text};
 use http_header::{CACHE_CONTROL, HeaderMap, PRAGMA};
 
-/// Whether the first Pragma asks for validation.
+/// Returns whether the first Pragma asks for validation (RFC 7234, section 5.4).
 pub fn pragma_forbids(headers: &HeaderMap) -> bool
     ensures { result ≡ pragma_forbids (headers_of headers.now) }
 {
@@ -16,7 +16,8 @@ pub fn pragma_forbids(headers: &HeaderMap) -> bool
     }
 }
 
-/// Whether there is no Cache-Control at all, and Pragma asks for validation in its place.
+/// Returns whether there is no Cache-Control, and Pragma asks for validation instead (RFC 7234,
+/// section 5.4).
 pub fn pragma_stands_in(res: &HeaderMap) -> bool
     ensures { result ≡ pragma_stands_in (headers_of res.now) }
 {

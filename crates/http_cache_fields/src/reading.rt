@@ -1,4 +1,4 @@
-//! Reading the directives of a header.
+//! Reads directives without copying them.
 ghost use Rattle.std.specs.Prelude.{◌≡◌, ◌<◌, ◌∷◌, ◌++◌, [], None, false, length, map, codes, bytes_eq, option_copied};
 ghost use Rattle.std.specs.Prelude.{option_map, IfOk};
 ghost use Rattle.http_header.specs.Token.{lowercase};
@@ -17,12 +17,13 @@ use std::alloc::{AllocError, Global};
 use std::collections::BTreeMap;
 use std::marker::Model;
 
-// How many directives are looked through. Few headers have more.
+// Few headers have more.
 const LOOKED_THROUGH: usize = 16;
 
-/// The first directive of each name, borrowed from the lines of a header as it was sent. Names have
-/// no case (RFC 7234, section 5.2). Those behind the first 16 are found by an ordered map, so that
-/// reading takes n log n steps, whichever names a sender chooses.
+/// The first directive of each name, borrowed from field lines as received (RFC 7234, section 5.2).
+///
+/// An ordered map finds those after the first 16. Reading takes n log n steps, whichever names a
+/// sender chooses.
 #[derive(Drop)]
 pub struct FirstDirectives<'a> {
     list: Vec<(&'a str, Option<&'a str>)>,
@@ -52,7 +53,7 @@ impl<'a> FirstDirectives<'a> {
         }
     }
 
-    /// The directives in order.
+    /// Returns the directives in order.
     pub(crate) fn entries(&self) -> &[(&'a str, Option<&'a str>)]
         ensures shown { map sent_entry result.now ≡ self.now }
         ensures valid { AreDirectives self.now }
@@ -60,7 +61,7 @@ impl<'a> FirstDirectives<'a> {
         &self.list
     }
 
-    /// The value of the directive with the name in any case, if it is there.
+    /// Returns the value of the directive of the name, in any case.
     fn get(&self, name: &'a str) -> Option<Option<&'a str>>
         ensures { option_map option_copied result ≡ value_under self.now (lowercase name.now) }
     {
@@ -71,7 +72,6 @@ impl<'a> FirstDirectives<'a> {
         }
     }
 
-    // The same with a directive of a new name behind them.
     fn with(self, name: &'a str, value: Option<&'a str>) -> Result<FirstDirectives<'a>, AllocError>
         requires form { IsDirective (lowercase name.now, option_copied value) }
         requires new { value_under self (lowercase name.now) ≡ None }
@@ -90,54 +90,60 @@ impl<'a> FirstDirectives<'a> {
     }
 }
 
-/// The directives of a header, as they are read.
+/// The directives of field lines, as read.
 #[derive(Drop)]
-pub struct Reading<'a> {
+pub struct ReadDirectives<'a> {
     /// The first directive of each name.
     pub first: FirstDirectives<'a>,
-    /// Whether a name came again with another value.
+    /// Whether a name was repeated with another value.
     pub conflict: bool,
 }
 
-impl<'a> Reading<'a> {
+impl<'a> ReadDirectives<'a> {
     ghost use Rattle.http_cache_fields.specs.ReadMore.{nothing_read, read_more, IsDirectiveIfNamed};
 
-    /// No directives.
-    pub fn new(alloc: Global) -> Reading<'a>
+    /// Returns no directives.
+    pub fn new(alloc: Global) -> ReadDirectives<'a>
         ensures { result ≡ nothing_read }
     {
-        Reading {
+        ReadDirectives {
             first: FirstDirectives::new(alloc),
             conflict: false,
         }
     }
 
-    /// The same with one more directive behind them, by its name and its value as they were sent.
-    /// One without a name doesn't count.
-    pub fn with(self, name: &'a str, value: Option<&'a str>) -> Result<Reading<'a>, AllocError>
+    /// Adds a directive by its name and value as received. One without a name doesn't count.
+    pub fn with(
+        self,
+        name: &'a str,
+        value: Option<&'a str>,
+    ) -> Result<ReadDirectives<'a>, AllocError>
         requires { IsDirectiveIfNamed (lowercase name.now) (option_copied value) }
         ensures { IfOk result (λ more. more
             ≡ read_more self.entry (lowercase name.now) (option_copied value.entry)) }
     {
-        let Reading { first, conflict } = self;
+        let ReadDirectives { first, conflict } = self;
         if name.is_empty() {
-            return Ok(Reading { first, conflict });
+            return Ok(ReadDirectives { first, conflict });
         }
         if let Some(earlier) = first.get(name) {
             let conflict = conflict || earlier != value;
-            return Ok(Reading { first, conflict });
+            return Ok(ReadDirectives { first, conflict });
         }
         let first = first.with(name, value.map(unquote))?;
-        Ok(Reading { first, conflict })
+        Ok(ReadDirectives { first, conflict })
     }
 }
 
-/// Reads the directives of a header.
-pub fn read<'a>(alloc: Global, all: GetAll<'a, HeaderValue>) -> Result<Reading<'a>, AllocError>
+/// Returns the directives of pieces.
+pub fn read<'a>(
+    alloc: Global,
+    all: GetAll<'a, HeaderValue>,
+) -> Result<ReadDirectives<'a>, AllocError>
     ensures { IfOk result (λ read. with_conflict read.conflict read.first
         ≡ directives (pieces_of_values (bytes_of all.entry))) }
 {
-    let mut read = Reading::new(alloc);
+    let mut read = ReadDirectives::new(alloc);
     for piece in get_all_comma(all) {
         let (name, value) = split_piece(piece);
         read = read.with(name, value)?;
@@ -145,16 +151,20 @@ pub fn read<'a>(alloc: Global, all: GetAll<'a, HeaderValue>) -> Result<Reading<'
     Ok(read)
 }
 
-/// Reads the Cache-Control lines of a map.
-pub fn read_cache_control(alloc: Global, headers: &HeaderMap) -> Result<Reading<'_>, AllocError>
+/// Returns the directives of the Cache-Control lines of a map.
+pub fn read_cache_control(
+    alloc: Global,
+    headers: &HeaderMap,
+) -> Result<ReadDirectives<'_>, AllocError>
     ensures { IfOk result (λ read. with_conflict read.conflict read.first
         ≡ cache_control (headers_of headers.now)) }
 {
     read(alloc, headers.get_all(CACHE_CONTROL))
 }
 
-/// Whether a directive of the Cache-Control lines of a map has the name in any case. The name isn't
-/// must-revalidate, which directives in conflict set.
+/// Returns whether Cache-Control has the directive, in any case.
+///
+/// The name isn't must-revalidate, which a conflict sets too.
 #[inline(always)]
 pub fn says(headers: &HeaderMap, name: &str) -> bool
     requires named { 0 < length name.now }

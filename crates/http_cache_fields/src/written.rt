@@ -1,4 +1,4 @@
-//! The line that directives are written as.
+//! Writes directives as a field line.
 ghost use Rattle.std.specs.Prelude.{◌≡◌, [], ◌∷◌, ◌++◌, option_copied, string_bytes, IsTrue, IfOk, OnOk, IsOkUnless};
 ghost use Rattle.http_cache_fields.specs.Text.{is_text};
 ghost use Rattle.http_cache_fields.specs.Pieces.{pieces};
@@ -9,14 +9,12 @@ use crate::directives::CacheControl;
 use crate::error::CacheError;
 use std::alloc::{AllocError, Global};
 
-// Whether a value needs no quotes.
 fn is_bare(value: &str) -> bool
     ensures { result ≡ is_bare value.now }
 {
     !value.is_empty() && value.as_bytes().iter().all(|b| b.is_ascii_alphanumeric())
 }
 
-// Writes `=` and the value, if there is one.
 fn push_value(line: &mut String, value: Option<&str>) -> Result<(), AllocError>
     ensures { OnOk result (string_bytes line.new
         ≡ string_bytes line.old ++ written_rest (option_copied value.entry)) }
@@ -35,7 +33,7 @@ fn push_value(line: &mut String, value: Option<&str>) -> Result<(), AllocError>
     Ok(())
 }
 
-/// The line that directives are written as.
+/// Returns the line that the directives are written as.
 pub(crate) fn written_line(alloc: Global, control: &CacheControl) -> Result<String, AllocError>
     ensures value { IfOk result (λ line. string_bytes line ≡ written_line control.now) }
     ensures reads_back { IfOk result (λ line.
@@ -54,9 +52,10 @@ pub(crate) fn written_line(alloc: Global, control: &CacheControl) -> Result<Stri
     Ok(line)
 }
 
-/// Writes directives in order as one line, a value between quotes where it is empty or has other
-/// bytes than ASCII letters and digits. The line reads back as the same directives. It is refused
-/// for want of memory alone.
+/// Returns the directives in order, as one line that reads back as the same directives.
+///
+/// A value is quoted if it is empty or has other bytes than ASCII letters and digits. The only
+/// error is `Memory`.
 pub fn format_cache_control(alloc: Global, control: &CacheControl) -> Result<String, CacheError>
     ensures value { IfOk result (λ line. string_bytes line ≡ written_line control.now) }
     ensures reads_back { IfOk result (λ line.

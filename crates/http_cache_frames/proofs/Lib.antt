@@ -1,3 +1,3 @@
-mod PlaceLemmas
+mod LineEndLemmas
 mod ServedLemmas
 mod TurnLemmas

@@ -6,7 +6,7 @@ use Rattle.std.proofs.Math.Seq.{take-append-add, drop-append_seam}
 use Rattle.std.proofs.KnownBytes.{Appends-nil, Appends-trans, Consumes-nil, Consumes-trans, Consumes-kept}
 use Rattle.std.specs.Io.KnownBytes.{Appends, Consumes, Keeps}
 use Rattle.http_cache_frames.specs.Served.{HasTaken, Takes, TakesNothing, TakesContent, TakesFrame, HasContent, HasWritten, IsCut, PutsNothing, EndsWith, FailsToPut, KeepsText}
-use Rattle.http_cache_frames.proofs.PlaceLemmas.{line_in_front, line_there}
+use Rattle.http_cache_frames.proofs.LineEndLemmas.{line_in_front, line_there}
 use Rattle.http_cache_frames.specs.Front.{IsLine}
 use Rattle.http_cache_frames.specs.declared.front.Announced.{Announced}
 use Rattle.http_cache_frames.specs.declared.input.Next.{Next}
@@ -14,15 +14,12 @@ use Rattle.http_cache_frames.specs.declared.input.Next.TheVariants as next
 use Rattle.http_cache_frames.specs.declared.ended.Ended.{Ended}
 use Rattle.http_cache_frames.specs.declared.ended.Ended.TheVariants.{NotWritten, NoMemory}
 
--- at first nothing was taken
 pub nothing_taken : (base : Option (List ℕ)) → HasTaken base base [] []
 nothing_taken base = record { read = []; consumed = Consumes-nil base; split = refl }
 
--- at first nothing was to be written
 pub nothing_written : (base : Option (List ℕ)) → HasWritten base base [] []
 nothing_written base = record { written = []; appended = Appends-nil base; split = refl }
 
--- what was waiting is written
 pub written_out : (base held held_then : Option (List ℕ)) (waiting text : List ℕ) → HasWritten base held waiting text
     → Appends held held_then waiting → HasWritten base held_then [] text
 written_out base held held_then waiting text before went = record {
@@ -31,7 +28,6 @@ written_out base held held_then waiting text before went = record {
   split = before.split ∙ sym (append-nil (before.written ++ waiting));
 }
 
--- of what was waiting a beginning is written
 pub cut_out : (base held held_then : Option (List ℕ)) (waiting text : List ℕ) → HasWritten base held waiting text
     → IsCut held held_then waiting → IsCut base held_then text
 cut_out base held held_then waiting text before cut = record {
@@ -47,7 +43,6 @@ cut_out base held held_then waiting text before cut = record {
       (Appends-trans base held held_then before.written (take cut.count waiting) before.appended cut.appended);
 }
 
--- more is waiting
 pub more_waiting : (base held : Option (List ℕ)) (waiting text bytes : List ℕ) → HasWritten base held waiting text
     → HasWritten base held (waiting ++ bytes) (text ++ bytes)
 more_waiting base held waiting text bytes before = record {
@@ -56,7 +51,7 @@ more_waiting base held waiting text bytes before = record {
   split = ap (λ l. l ++ bytes) before.split ∙ append_assoc before.written waiting bytes;
 }
 
--- a beginning of a text is one of a longer text
+-- a beginning of a text is a beginning of a longer one
 pub cut_longer : (base held : Option (List ℕ)) (text bytes : List ℕ) → IsCut base held text → IsCut base held (text ++ bytes)
 cut_longer base held text bytes cut = record {
   count = cut.count;
@@ -64,19 +59,19 @@ cut_longer base held text bytes cut = record {
   appended = subst (Appends base held) (sym (take-append-le cut.count text bytes cut.within)) cut.appended;
 }
 
--- nothing is waiting, and more is written
+-- nothing was waiting, and more is written
 pub written_past : (base held held_then : Option (List ℕ)) (text bytes : List ℕ) → HasWritten base held [] text
     → Appends held held_then bytes → HasWritten base held_then [] (text ++ bytes)
 written_past base held held_then text bytes before went =
     written_out base held held_then bytes (text ++ bytes) (more_waiting base held [] text bytes before) went
 
--- nothing is waiting, and of more a beginning is written
+-- nothing was waiting, and a beginning of more is written
 pub cut_past : (base held held_then : Option (List ℕ)) (text bytes : List ℕ) → HasWritten base held [] text
     → IsCut held held_then bytes → IsCut base held_then (text ++ bytes)
 cut_past base held held_then text bytes before cut =
     cut_out base held held_then bytes (text ++ bytes) (more_waiting base held [] text bytes before) cut
 
--- what ends without memory or by a failed write
+-- a call fails without memory or by a failed write
 pub failed_by : (ended : Ended) (held : Option (List ℕ)) (waiting : List ℕ) (held_then : Option (List ℕ)) (waiting_then bytes : List ℕ)
     → ended ≡ NotWritten
     → ((base : Option (List ℕ)) → (text : List ℕ) → HasWritten base held waiting text → IsCut base held_then (text ++ bytes))
@@ -84,15 +79,6 @@ pub failed_by : (ended : Ended) (held : Option (List ℕ)) (waiting : List ℕ) 
 failed_by ended held waiting held_then waiting_then bytes is cut =
     subst (λ e. FailsToPut e held waiting held_then waiting_then bytes) (sym is) cut
 
--- a call that ends without memory has put nothing
-pub keeps_without_memory : {T : Type 0} (r : Result T Ended) (held : Option (List ℕ)) (waiting : List ℕ) (held_then : Option (List ℕ)) (waiting_then : List ℕ)
-    → PutsNothing held waiting held_then waiting_then → IfErr r (λ ended. ended ≡ NoMemory)
-    → KeepsText r held waiting held_then waiting_then
-keeps_without_memory (Ok x) held waiting held_then waiting_then kept none = kept
-keeps_without_memory (Err e) held waiting held_then waiting_then kept none =
-    subst (λ ended. EndsWith ended held waiting held_then waiting_then) (sym none) kept
-
--- more is read, and is ahead
 pub read_more : (base left left_then : Option (List ℕ)) (ahead taken bytes : List ℕ) → HasTaken base left ahead taken
     → Consumes left left_then bytes → HasTaken base left_then (ahead ++ bytes) taken
 read_more base left left_then ahead taken bytes before more = record {
@@ -101,16 +87,6 @@ read_more base left left_then ahead taken bytes before more = record {
   split = ap (λ l. l ++ bytes) before.split ∙ append_assoc taken ahead bytes;
 }
 
--- nothing is read
-pub read_nothing : (base left left_then : Option (List ℕ)) (ahead taken : List ℕ) → HasTaken base left ahead taken
-    → Keeps left left_then → HasTaken base left_then ahead taken
-read_nothing base left left_then ahead taken before kept = record {
-  read = before.read;
-  consumed = Consumes-kept base left left_then before.read before.consumed kept;
-  split = before.split;
-}
-
--- a front of what is ahead is taken
 pub take_front : (left : Option (List ℕ)) (ahead ahead_then bytes : List ℕ) → ahead ≡ bytes ++ ahead_then
     → Takes left ahead left ahead_then bytes
 take_front left ahead ahead_then bytes front base taken before = record {
@@ -119,7 +95,6 @@ take_front left ahead ahead_then bytes front base taken before = record {
   split = before.split ∙ ap (λ l. taken ++ l) front ∙ sym (append_assoc taken bytes ahead_then);
 }
 
--- one part is taken after another
 pub take_twice : (left : Option (List ℕ)) (ahead : List ℕ) (left_now : Option (List ℕ)) (ahead_now : List ℕ)
     (left_then : Option (List ℕ)) (ahead_then bytes more : List ℕ)
     → Takes left ahead left_now ahead_now bytes → Takes left_now ahead_now left_then ahead_then more
@@ -128,7 +103,6 @@ take_twice left ahead left_now ahead_now left_then ahead_then bytes more first s
     subst (HasTaken base left_then ahead_then) (append_assoc taken bytes more)
     (second base (taken ++ bytes) (first base taken before))
 
--- a line is taken, and what follows it
 pub frame_taken : (it : Next) (a : Announced) (left : Option (List ℕ)) (ahead : List ℕ) (left_now : Option (List ℕ)) (ahead_now : List ℕ)
     (left_then : Option (List ℕ)) (ahead_then : List ℕ)
     → TakesNothing left ahead left_now ahead_now → IsLine ahead_now a

@@ -1,4 +1,4 @@
--- Replies to frames, one after another, and their text.
+-- The replies to a sequence of frames, and their text.
 use Rattle.std.proofs.Common.{◌≡◌, ℕ, List, [], ◌∷◌, ◌++◌, Option, Some, None, ◌⊎◌, inl, inr}
 use Rattle.std.proofs.Common.{refl, sym, ap, subst, ◌∙◌, append_assoc, append-nil}
 use Rattle.http_cache_frames.specs.Reply.{reply_text}
@@ -10,7 +10,6 @@ use Rattle.http_cache_frames.specs.declared.front.NoFrame.{NoFrame}
 use Rattle.http_cache_frames.specs.declared.frame.Frame.{Frame}
 use Rattle.http_cache_frames.specs.declared.reply.Reply.{Reply}
 
--- one frame more, with its reply
 pub one_more : {S : Type 0} (Step : S → Frame → Reply → S → Type 0) (s m n : S) (frames : List Frame) (replies : List Reply) (f : Frame) (r : Reply)
     → AreReplies Step s frames replies m → Step m f r n → AreReplies Step s (frames ++ f ∷ []) (replies ++ r ∷ []) n
 one_more Step s m n [] [] f r each step = (n, subst (λ state. Step state f r n) each step, refl)
@@ -24,11 +23,10 @@ text_of_one_more [] r = append-nil (reply_text r)
 text_of_one_more (x ∷ replies) r =
     ap (λ l. reply_text x ++ l) (text_of_one_more replies r) ∙ sym (append_assoc (reply_text x) (replies_text replies) (reply_text r))
 
--- the text is the same without further replies
 no_further : (replies : List Reply) → replies_text (greeting ∷ replies) ≡ replies_text (greeting ∷ (replies ++ []))
 no_further replies = ap (λ l. replies_text (greeting ∷ l)) (sym (append-nil replies))
 
--- the frames that were taken are at the front of what the reader had
+-- the taken frames are at the front of what the reader had
 taken_of : (base left : Option (List ℕ)) (ahead taken : List ℕ) → HasTaken base left ahead taken → IsTakenOf base taken
 taken_of None left ahead taken before = tt
 taken_of (Some bytes) None ahead taken before = elim before.consumed [ ]
@@ -43,7 +41,6 @@ begins_with base left ahead taken frames texts before = record {
   front = taken_of base left ahead taken before;
 }
 
--- at first there are none
 nothing_taken : (base : Option (List ℕ)) → IsTakenOf base []
 nothing_taken None = tt
 nothing_taken (Some bytes) = (bytes, refl)
@@ -51,7 +48,6 @@ nothing_taken (Some bytes) = (bytes, refl)
 pub begins_with_none : (base : Option (List ℕ)) → BeginsWith base []
 begins_with_none base = record { taken = []; texts = refl; front = nothing_taken base }
 
--- one frame more
 pub one_text_more : (frames : List Frame) (taken text : List ℕ) (f : Frame) → AreFrameTexts frames taken → IsFrameText f text
     → AreFrameTexts (frames ++ f ∷ []) (taken ++ text)
 one_text_more [] taken text f texts is = (text, [], ap (λ l. l ++ text) texts ∙ sym (append-nil text), is, refl)
@@ -120,7 +116,6 @@ ends_cut Step s m left base held waiting frames replies each input cut = record 
   written = subst (IsCut base held) (no_further replies) cut;
 }
 
--- reading failed
 pub ends_reading : {S : Type 0} (Step : S → Frame → Reply → S → Type 0) (s m : S) (left base held : Option (List ℕ)) (waiting : List ℕ)
     (held_then : Option (List ℕ)) (waiting_then : List ℕ) (frames : List Frame) (replies : List Reply) (ended : Ended)
     → AreReplies Step s frames replies m → BeginsWith left frames → HasWritten base held waiting (replies_text (greeting ∷ replies))
@@ -137,7 +132,6 @@ ends_reading {S = S} Step s m left base held waiting held_then waiting_then fram
 ends_reading {S = S} Step s m left base held waiting held_then waiting_then frames replies (Broken _) each input written ends =
     elim (ends base (replies_text (greeting ∷ replies)) written) [ ]
 
--- a reply can't be put
 pub ends_putting : {S : Type 0} (Step : S → Frame → Reply → S → Type 0) (s m n : S) (left base held : Option (List ℕ)) (waiting : List ℕ)
     (held_then : Option (List ℕ)) (waiting_then : List ℕ) (frames : List Frame) (replies : List Reply) (f : Frame) (r : Reply) (ended : Ended)
     → AreReplies Step s frames replies m → BeginsWith left frames → HasWritten base held waiting (replies_text (greeting ∷ replies))
@@ -157,7 +151,6 @@ ends_putting {S = S} Step s m n left base held waiting held_then waiting_then fr
 ends_putting {S = S} Step s m n left base held waiting held_then waiting_then frames replies f r NotReadable each input written step more fails =
     elim fails [ ]
 
--- the greeting can't be put
 pub ends_greeting : {S : Type 0} (Step : S → Frame → Reply → S → Type 0) (s : S) (left base held : Option (List ℕ)) (waiting : List ℕ)
     (held_then : Option (List ℕ)) (waiting_then : List ℕ) (ended : Ended)
     → HasWritten base held waiting []
@@ -180,7 +173,6 @@ ends_greeting {S = S} Step s left base held waiting held_then waiting_then Well 
 ends_greeting {S = S} Step s left base held waiting held_then waiting_then (Broken _) written fails = elim fails [ ]
 ends_greeting {S = S} Step s left base held waiting held_then waiting_then NotReadable written fails = elim fails [ ]
 
--- the input is broken
 pub ends_broken : {S : Type 0} (Step : S → Frame → Reply → S → Type 0) (s m : S) (left base held : Option (List ℕ)) (waiting : List ℕ)
     (held_then : Option (List ℕ)) (waiting_then : List ℕ) (frames : List Frame) (replies : List Reply) (cause : NoFrame) (ended : Ended)
     → AreReplies Step s frames replies m → BeginsWith left frames → HasWritten base held waiting (replies_text (greeting ∷ replies))
@@ -232,7 +224,7 @@ nothing_served Step s left base = record {
   written = inr (nothing_written base, refl);
 }
 
--- what is further at an end, where writing failed after it
+-- a further reply of an end is one of an end by a failed write
 further_cut : (ended : Ended) (further : List Reply) → IsFurther ended further → IsFurther NotWritten further
 further_cut Well further after = inl after
 further_cut (Broken cause) further after = inr (cause, after)
@@ -240,7 +232,6 @@ further_cut NotReadable further after = inl after
 further_cut NoMemory further after = inl after
 further_cut NotWritten further after = after
 
--- what was waiting can't be written
 pub cut_at : (ended : Ended) (base held : Option (List ℕ)) (waiting : List ℕ) (held_then : Option (List ℕ)) (replies : List Reply) (text : List ℕ)
     → ¬ (ended ≡ NotWritten) → Cuts held waiting held_then → IsWrittenAt ended base held waiting replies text
     → IsCut base held_then text
@@ -253,7 +244,7 @@ cut_at NoMemory base held waiting held_then replies text other cuts written = el
   | inr (nothing, none) ↦ cut_longer base held_then [] text (cuts base [] nothing)
 ]
 
--- the same frames were served, to another end
+-- an end by a failed write served the frames that another end served
 pub served_to : {S : Type 0} (Step : S → Frame → Reply → S → Type 0) (s : S) (left base held : Option (List ℕ)) (waiting : List ℕ)
     (held_then : Option (List ℕ)) (ended ended_then : Ended)
     → AreServed Step s left base held waiting ended

@@ -11,28 +11,26 @@ use Rattle.http_cache_frames.specs.declared.front.Front.{Front}
 use Rattle.http_cache_frames.specs.declared.front.Front.TheVariants.{Line, Partial, Broken}
 use Rattle.http_cache_frames.specs.declared.front.NoFrame.TheVariants.{LongLine, NoObject, NoLength, Cut}
 
--- the longest line in bytes, without its line feed
+-- the greatest length of a line in bytes, without its line feed
 abbrev pub longest_line : ℕ
 longest_line = 4096
 
--- the bytes among which the line feed has to be
+-- the bytes that have to contain the line feed
 abbrev pub within_line : List ℕ → List ℕ
 within_line bytes = take (longest_line + 1) bytes
 
--- the first line feed follows so many bytes, of which a line has no more
+-- the number of bytes before the first line feed, if a line may have as many
 abbrev pub EndsAt : List ℕ → Option ℕ → Type 0
-EndsAt bytes place = IsFirstByte (is_byte 10) (within_line bytes) place
+EndsAt bytes position = IsFirstByte (is_byte 10) (within_line bytes) position
 
--- the bytes are JSON in UTF-8
 pub record IsJson (bytes : List ℕ) (d : Data) : Type 0 where
   pub utf8 : IsUtf8 bytes
   pub is_read : read bytes ≡ Some d
 
--- the data is an object
 abbrev pub IsObject : Data → Type 0
 IsObject d = is_some (as_object d) ≡ true
 
--- the line of so many bytes says these lengths
+-- the line of `count` bytes has these lengths
 pub record IsAnnounced (d : Data) (count : ℕ) (a : Announced) : Type 0 where
   pub object : IsObject d
   pub line : view a.line ≡ d
@@ -40,11 +38,10 @@ pub record IsAnnounced (d : Data) (count : ℕ) (a : Announced) : Type 0 where
   pub head : length_under (codes "head") d ≡ Some a.head
   pub body : length_under (codes "body") d ≡ Some a.body
 
--- a length isn't one
 abbrev pub LacksLength : Data → Type 0
 LacksLength d = (length_under (codes "head") d ≡ None) ⊎ (length_under (codes "body") d ≡ None)
 
--- what a line of so many bytes that is JSON announces
+-- what a JSON line of `count` bytes announces
 abbrev pub IsFrontOfLine : Data → ℕ → Front → Type 0
 IsFrontOfLine d count (Line a) = IsAnnounced d count a
 IsFrontOfLine d count Partial = ⊥
@@ -53,7 +50,6 @@ IsFrontOfLine d count (Broken NoObject) = ¬ (IsObject d)
 IsFrontOfLine d count (Broken NoLength) = IsObject d × LacksLength d
 IsFrontOfLine d count (Broken Cut) = ⊥
 
--- the bytes begin with this line
 pub record IsLine (bytes : List ℕ) (a : Announced) : Type 0 where
   pub count : ℕ
   pub said : Data
@@ -61,13 +57,13 @@ pub record IsLine (bytes : List ℕ) (a : Announced) : Type 0 where
   pub json : IsJson (take count bytes) said
   pub announced : IsAnnounced said count a
 
--- the bytes begin with a line that is no object of JSON
+-- the bytes begin with a line that is no JSON object
 pub record IsNoObject (bytes : List ℕ) : Type 0 where
   pub count : ℕ
   pub ends : EndsAt bytes (Some count)
   pub no_object : (d : Data) → IsJson (take count bytes) d → ¬ (IsObject d)
 
--- the bytes begin with a line in which a length isn't one
+-- the bytes begin with a line that has an invalid length
 pub record HasNoLength (bytes : List ℕ) : Type 0 where
   pub count : ℕ
   pub said : Data
@@ -76,7 +72,6 @@ pub record HasNoLength (bytes : List ℕ) : Type 0 where
   pub object : IsObject said
   pub lacks : LacksLength said
 
--- what the bytes begin with
 abbrev pub IsFront : List ℕ → Front → Type 0
 IsFront bytes (Line a) = IsLine bytes a
 IsFront bytes Partial = EndsAt bytes None × (length bytes ≤ longest_line)

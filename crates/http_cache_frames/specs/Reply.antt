@@ -11,7 +11,6 @@ use Rattle.http_cache_frames.specs.declared.reply.Word.TheVariants as word
 use Rattle.http_cache_frames.specs.declared.reply.Reply.{Reply}
 use Rattle.http_cache_frames.specs.declared.reply.Reply.TheVariants as reply
 
--- the text of a reason
 unfoldable pub reason_text : Reason → List ℕ
 reason_text LongLine = codes "a line is longer than 4096 bytes"
 reason_text NoObject = codes "a line isn't an object of JSON"
@@ -31,7 +30,7 @@ reason_text TooMany = codes "too many requests under way"
 reason_text StoreFailed = codes "the store failed"
 reason_text Memory = codes "out of memory"
 
--- the name of a member, with what leads to it
+-- the name of a member, with the text before it
 unfoldable pub word_text : Word → List ℕ
 word_text word.Answer = codes "{\"answer\":"
 word_text word.Done = codes "{\"done\":"
@@ -57,20 +56,16 @@ word_text word.Token = codes ",\"token\":"
 word_text word.UnderWay = codes ",\"under_way\":"
 word_text word.Validations = codes ",\"validations\":"
 
--- the name of a member and its number
 abbrev pub member_text : Word → ℕ → List ℕ
 member_text name number = word_text name ++ decimal number
 
--- the same, if there is a number
 abbrev pub optional_text : Word → Option ℕ → List ℕ
 optional_text name None = []
 optional_text name (Some number) = member_text name number
 
--- the end of a line
 abbrev pub end_text : List ℕ
 end_text = codes "}\n"
 
--- two members
 unfoldable pub pair_text : Word → ℕ → Word → ℕ → List ℕ
 pair_text name number other second = member_text name number ++ member_text other second
 
@@ -86,13 +81,13 @@ done_text c =
     pair_text word.Hits c.hits word.Validations c.validations
     ++ pair_text word.Misses c.misses word.Errors c.errors
 
--- the whole line of an error
 unfoldable pub error_text : Reason → Option ℕ → Option ℕ → List ℕ
 error_text reason id token =
     codes "{\"error\":\"" ++ reason_text reason ++ codes "\"" ++ optional_text word.Id id
     ++ optional_text word.Token token ++ end_text
 
--- the end of a line with the lengths of a message, and the message; without a body, the caller has it
+-- the lengths of a message, the end of the line, and the message; without a body here, the caller
+-- has it
 unfoldable pub message_text : List ℕ → Option (List ℕ) → List ℕ
 message_text head (Some body) =
     member_text word.Head (length head) ++ member_text word.Body (length body) ++ end_text
@@ -100,18 +95,17 @@ message_text head (Some body) =
 message_text head None =
     member_text word.Head (length head) ++ codes ",\"body\":0,\"rest\":true}\n" ++ head
 
--- the end of a line with the lengths of a response and of a request's head
+-- the lengths of a response and of a request's head, and the end of the line
 unfoldable pub lengths_text : ℕ → ℕ → ℕ → List ℕ
 lengths_text head body request =
     member_text word.Head head ++ member_text word.Body body
     ++ member_text word.Request request ++ end_text
 
--- a response, and the head of a request that is to be sent meanwhile
+-- a response, and the head of a request to send meanwhile
 unfoldable pub stale_text : List ℕ → List ℕ → List ℕ → List ℕ
 stale_text head body request =
     lengths_text (length head) (length body) (length request) ++ head ++ body ++ request
 
--- the text of a frame without a head and a body
 unfoldable pub notice_text : Notice → List ℕ
 notice_text Protocol = member_text word.Protocol 1 ++ end_text
 notice_text (Done id) = member_text word.Done id ++ end_text
@@ -126,7 +120,6 @@ notice_text (Stats id counts) =
 notice_text (Quit id) = member_text word.Quit id ++ end_text
 notice_text (Error reason id token) = error_text reason id token
 
--- the text of a frame
 unfoldable pub reply_text : Reply → List ℕ
 reply_text (reply.Notice notice) = notice_text notice
 reply_text (reply.Answer id head body) =

@@ -19,7 +19,7 @@ use Rattle.http_cache_frames.specs.declared.reply.Reason.TheVariants as reason
 use Rattle.http_cache_frames.specs.declared.reply.Reply.{Reply}
 use Rattle.http_cache_frames.specs.declared.reply.Reply.TheVariants as reply
 
--- what follows a line: the head and the body of the frame, or as many bytes where one is too long
+-- what follows a line: the head and the body, or as many bytes if one of them is too long
 abbrev pub HasContent : Bool → Frame → ℕ → ℕ → List ℕ → Type 0
 HasContent true f head body after = length after ≡ head + body
 HasContent false f head body after = (after ≡ f.head ++ f.body) × (length f.head ≡ head) × (length f.body ≡ body)
@@ -31,18 +31,16 @@ pub record IsFrameText (f : Frame) (bytes : List ℕ) : Type 0 where
   pub same : f.line ≡ announced.line
   pub content : HasContent f.is_too_long f announced.head announced.body (drop announced.length bytes)
 
--- the bytes of frames, one after another
 abbrev pub AreFrameTexts : List Frame → List ℕ → Type 0
 AreFrameTexts [] bytes = bytes ≡ []
 AreFrameTexts (f ∷ frames) bytes =
     (text : List ℕ) × (rest : List ℕ) × (bytes ≡ text ++ rest) × IsFrameText f text × AreFrameTexts frames rest
 
--- the texts of replies, one after another
 abbrev pub replies_text : List Reply → List ℕ
 replies_text [] = []
 replies_text (r ∷ replies) = reply_text r ++ replies_text replies
 
--- each frame has one reply, in order, each by the state that the one before it left
+-- each frame has one reply, in order, in the state after the reply before it
 abbrev pub AreReplies : {S : Type 0} → (S → Frame → Reply → S → Type 0) → S → List Frame → List Reply → S → Type 0
 AreReplies Step state [] [] last = last ≡ state
 AreReplies Step state [] (r ∷ replies) last = ⊥
@@ -50,7 +48,7 @@ AreReplies Step state (f ∷ frames) [] last = ⊥
 AreReplies {S} Step state (f ∷ frames) (r ∷ replies) last =
     (next : S) × Step state f r next × AreReplies Step next frames replies last
 
--- since a reader had `base` left, these bytes were taken of it, and those ahead were read
+-- since a reader had `base` left, the bytes `taken` and then `ahead` were read
 pub record HasTaken (base left : Option (List ℕ)) (ahead taken : List ℕ) : Type 0 where
   pub read : List ℕ
   pub consumed : Consumes base left read
@@ -62,30 +60,27 @@ Takes left ahead left_then ahead_then bytes =
     (base : Option (List ℕ)) → (taken : List ℕ) → HasTaken base left ahead taken
     → HasTaken base left_then ahead_then (taken ++ bytes)
 
--- a call takes nothing of it
 abbrev pub TakesNothing : Option (List ℕ) → List ℕ → Option (List ℕ) → List ℕ → Type 0
 TakesNothing left ahead left_then ahead_then =
     (base : Option (List ℕ)) → (taken : List ℕ) → HasTaken base left ahead taken
     → HasTaken base left_then ahead_then taken
 
--- one read gives so many bytes of a buffer, or is interrupted
+-- one read puts `count` bytes into the buffer, or is interrupted
 abbrev pub IsRead : Option (List ℕ) → Option (List ℕ) → Option ℕ → List ℕ → Type 0
 IsRead left left_then None buffer = Keeps left left_then
 IsRead left left_then (Some count) buffer = Consumes left left_then (take count buffer)
 
--- a line is the front of what is ahead
 abbrev pub IsAhead : Front → List ℕ → Type 0
 IsAhead (front.Line a) ahead = IsLine ahead a
 IsAhead front.Partial ahead = ⊤
 IsAhead (front.Broken cause) ahead = ⊤
 
--- so many bytes are taken
 pub record TakesBytes (count : ℕ) (left : Option (List ℕ)) (ahead : List ℕ) (left_then : Option (List ℕ)) (ahead_then : List ℕ) : Type 0 where
   pub bytes : List ℕ
   pub long : length bytes ≡ count
   pub takes : Takes left ahead left_then ahead_then bytes
 
--- what follows a line is taken, where a frame is read
+-- if a frame is read, what follows its line is taken
 abbrev pub TakesContent : Next → Announced → Option (List ℕ) → List ℕ → Option (List ℕ) → List ℕ → Type 0
 TakesContent (next.Frame f) a left ahead left_then ahead_then =
     (after : List ℕ) × HasContent f.is_too_long f a.head a.body after × (f.line ≡ a.line)
@@ -93,14 +88,13 @@ TakesContent (next.Frame f) a left ahead left_then ahead_then =
 TakesContent next.End a left ahead left_then ahead_then = ⊤
 TakesContent (next.Broken cause) a left ahead left_then ahead_then = ⊤
 
--- a frame is taken, where one is read
 abbrev pub TakesFrame : Next → Option (List ℕ) → List ℕ → Option (List ℕ) → List ℕ → Type 0
 TakesFrame (next.Frame f) left ahead left_then ahead_then =
     (text : List ℕ) × IsFrameText f text × Takes left ahead left_then ahead_then text
 TakesFrame next.End left ahead left_then ahead_then = ⊤
 TakesFrame (next.Broken cause) left ahead left_then ahead_then = ⊤
 
--- since a writer held `base`, the text was to be written, and all of it is but for what is waiting
+-- since a writer held `base`, the whole text but `waiting` was written
 pub record HasWritten (base held : Option (List ℕ)) (waiting text : List ℕ) : Type 0 where
   pub written : List ℕ
   pub appended : Appends base held written
@@ -112,24 +106,23 @@ pub record IsCut (base held : Option (List ℕ)) (text : List ℕ) : Type 0 wher
   pub within : count ≤ length text
   pub appended : Appends base held (take count text)
 
--- a call adds these bytes to what is to be written
+-- a call adds these bytes to the text to write
 abbrev pub Puts : Option (List ℕ) → List ℕ → Option (List ℕ) → List ℕ → List ℕ → Type 0
 Puts held waiting held_then waiting_then bytes =
     (base : Option (List ℕ)) → (text : List ℕ) → HasWritten base held waiting text
     → HasWritten base held_then waiting_then (text ++ bytes)
 
--- a call adds nothing to it
 abbrev pub PutsNothing : Option (List ℕ) → List ℕ → Option (List ℕ) → List ℕ → Type 0
 PutsNothing held waiting held_then waiting_then =
     (base : Option (List ℕ)) → (text : List ℕ) → HasWritten base held waiting text
     → HasWritten base held_then waiting_then text
 
--- a call adds nothing, and only a beginning of what is to be written is written
+-- a call adds nothing, and only a beginning of the text is written
 abbrev pub Cuts : Option (List ℕ) → List ℕ → Option (List ℕ) → Type 0
 Cuts held waiting held_then =
     (base : Option (List ℕ)) → (text : List ℕ) → HasWritten base held waiting text → IsCut base held_then text
 
--- what a failure leaves of what is to be written
+-- what each failure leaves of the text to write
 abbrev pub IsLeftAt : Ended → Option (List ℕ) → Option (List ℕ) → List ℕ → List ℕ → Type 0
 IsLeftAt NotWritten base held waiting text = IsCut base held text
 IsLeftAt NotReadable base held waiting text = HasWritten base held waiting text
@@ -137,13 +130,14 @@ IsLeftAt NoMemory base held waiting text = HasWritten base held waiting text
 IsLeftAt Well base held waiting text = ⊥
 IsLeftAt (Broken cause) base held waiting text = ⊥
 
--- a call that adds nothing fails so
+-- a call that adds nothing fails
 abbrev pub EndsWith : Ended → Option (List ℕ) → List ℕ → Option (List ℕ) → List ℕ → Type 0
 EndsWith ended held waiting held_then waiting_then =
     (base : Option (List ℕ)) → (text : List ℕ) → HasWritten base held waiting text
     → IsLeftAt ended base held_then waiting_then text
 
--- a call that was to add these bytes ends so: it adds nothing, or only a beginning of all is written
+-- a call that should add these bytes fails: it adds nothing, or only a beginning of the whole text
+-- is written
 abbrev pub FailsToPut : Ended → Option (List ℕ) → List ℕ → Option (List ℕ) → List ℕ → List ℕ → Type 0
 FailsToPut NotWritten held waiting held_then waiting_then bytes =
     (base : Option (List ℕ)) → (text : List ℕ) → HasWritten base held waiting text
@@ -153,28 +147,25 @@ FailsToPut Well held waiting held_then waiting_then bytes = ⊥
 FailsToPut (Broken cause) held waiting held_then waiting_then bytes = ⊥
 FailsToPut NotReadable held waiting held_then waiting_then bytes = ⊥
 
--- a call adds nothing to what is to be written, or ends so
+-- a call adds nothing to the text to write, or fails
 abbrev pub KeepsText : {T : Type 0} → Result T Ended → Option (List ℕ) → List ℕ → Option (List ℕ) → List ℕ → Type 0
 KeepsText result held waiting held_then waiting_then =
     MatchResult result (λ _. PutsNothing held waiting held_then waiting_then)
     (λ ended. EndsWith ended held waiting held_then waiting_then)
 
--- what is written first
 abbrev pub greeting : Reply
 greeting = reply.Notice notice.Protocol
 
--- the reason that a cause is reported as
 abbrev pub reason_of : NoFrame → Reason
 reason_of no_frame.LongLine = reason.LongLine
 reason_of no_frame.NoObject = reason.NoObject
 reason_of no_frame.NoLength = reason.NoLength
 reason_of no_frame.Cut = reason.Cut
 
--- what is written last where the input is broken
 abbrev pub broken_reply : Reason → Reply
 broken_reply reason = reply.Notice (notice.Error reason None None)
 
--- an end by broken input: the last reply says so, or it can't be put
+-- broken input is the end: the last reply says so, or it can't be put
 abbrev pub IsReported : NoFrame → Ended → Option (List ℕ) → List ℕ → Option (List ℕ) → List ℕ → Type 0
 IsReported cause (Broken other) held waiting held_then waiting_then =
     (other ≡ cause) × Puts held waiting held_then waiting_then (reply_text (broken_reply (reason_of cause)))
@@ -192,11 +183,11 @@ IsFurther NotReadable further = further ≡ []
 IsFurther NoMemory further = further ≡ []
 IsFurther NotWritten further = (further ≡ []) ⊎ ((cause : NoFrame) × (further ≡ broken_reply (reason_of cause) ∷ []))
 
--- nothing is written, since there was no memory for the greeting, and so no frame was answered
+-- there was no memory for the greeting, so nothing was written and no frame answered
 abbrev pub IsSilent : Option (List ℕ) → Option (List ℕ) → List ℕ → List Reply → Type 0
 IsSilent base held waiting replies = HasWritten base held waiting [] × (replies ≡ [])
 
--- at an end all of the text is written or waiting, or a beginning of it is written
+-- at the end the whole text is written or waiting, or a beginning of it is written
 abbrev pub IsWrittenAt : Ended → Option (List ℕ) → Option (List ℕ) → List ℕ → List Reply → List ℕ → Type 0
 IsWrittenAt NotWritten base held waiting replies text = IsCut base held text
 IsWrittenAt Well base held waiting replies text = HasWritten base held waiting text
@@ -205,19 +196,19 @@ IsWrittenAt NotReadable base held waiting replies text = HasWritten base held wa
 IsWrittenAt NoMemory base held waiting replies text =
     HasWritten base held waiting text ⊎ IsSilent base held waiting replies
 
--- what a reader has left begins with these bytes, where it is known
+-- what a reader has left begins with these bytes, if it is known
 abbrev pub IsTakenOf : Option (List ℕ) → List ℕ → Type 0
 IsTakenOf None taken = ⊤
 IsTakenOf (Some bytes) taken = (rest : List ℕ) × (bytes ≡ taken ++ rest)
 
--- what a reader has left begins with these frames, one after another
+-- what a reader has left begins with these frames
 pub record BeginsWith (left : Option (List ℕ)) (frames : List Frame) : Type 0 where
   pub taken : List ℕ
   pub texts : AreFrameTexts frames taken
   pub front : IsTakenOf left taken
 
--- the frames that a reader begins with were answered one by one from a state, and the greeting, their replies and what is
--- further were written
+-- the frames that the reader begins with were answered one by one; the greeting, their replies and
+-- any further reply were written
 pub record AreServed {S : Type 0} (Step : S → Frame → Reply → S → Type 0) (state : S) (left base held : Option (List ℕ)) (waiting : List ℕ) (ended : Ended) : Type 0 where
   pub frames : List Frame
   pub replies : List Reply

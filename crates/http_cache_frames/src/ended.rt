@@ -1,22 +1,22 @@
-//! How serving frames ends.
+//! The ways in which serving frames ends.
 ghost use Rattle.std.specs.Prelude.{◌≡◌};
 ghost use Rattle.http_cache_frames.specs.declared.ended.Ended.TheVariants.{NoMemory};
 
 use crate::front::NoFrame;
 use std::alloc::AllocError;
 
-/// How serving frames ended.
+/// The way in which serving frames ended.
 #[derive(Clone, Copy, Debug, PartialEq, Eq)]
 pub enum Ended {
     /// By `quit`, or by the end of the input after a whole frame.
     Well,
     /// By input that is no frame.
     Broken(NoFrame),
-    /// The input can't be read.
+    /// By input that can't be read.
     NotReadable,
-    /// The output can't be written.
+    /// By output that can't be written.
     NotWritten,
-    /// There is no memory for a frame, or for a reply after a change.
+    /// By a lack of memory for a frame, or for a reply after a change.
     NoMemory,
 }
 

@@ -1,8 +1,8 @@
-//! A frame that was read.
+//! A received frame.
 use bytes::Bytes;
 use serde_json::Value;
 
-/// A frame that was read.
+/// A received frame.
 #[derive(Debug, Drop)]
 pub struct Frame {
     /// Its line.
@@ -11,7 +11,7 @@ pub struct Frame {
     pub head: Bytes,
     /// The body after the head.
     pub body: Bytes,
-    /// Whether the head or the body was longer than the limit. Then both are empty, and their bytes were
-    /// passed over.
+    /// Whether the head or the body exceeded the limit. Both are then empty, and their bytes were
+    /// skipped.
     pub is_too_long: bool,
 }

@@ -1,4 +1,4 @@
-//! What the bytes of the input begin with.
+//! Recognizes what the bytes of the input begin with.
 ghost use Rattle.std.specs.Prelude.{◌≡◌, ◌≤◌, ◌<◌, length, IfOk, IfSome};
 ghost use Rattle.serde_json.specs.View.{view};
 ghost use Rattle.http_cache_frames.specs.Front.{longest_line, EndsAt, IsFront, IsFrontOfLine};
@@ -8,15 +8,15 @@ use memchr::memchr;
 use serde_json::Value;
 use std::alloc::{AllocError, Global};
 
-// The longest line in bytes, without its line feed.
+// The greatest length of a line in bytes, without its line feed.
 const LONGEST_LINE: usize = 4096;
 
-/// Why bytes aren't a frame. The next frame can't be found then.
+/// The reason why bytes aren't a frame. The next frame can't be found then.
 #[derive(Clone, Copy, Debug, PartialEq, Eq)]
 pub enum NoFrame {
     /// A line is longer than 4,096 bytes.
     LongLine,
-    /// A line isn't an object of JSON in UTF-8.
+    /// A line isn't a JSON object in UTF-8.
     NoObject,
     /// `head` or `body` isn't a length.
     NoLength,
@@ -24,16 +24,16 @@ pub enum NoFrame {
     Cut,
 }
 
-/// The line of a frame, and what follows it.
+/// The line of a frame, with the lengths of what follows it.
 #[derive(Debug, Drop)]
 pub struct Announced {
     /// The object.
     pub line: Value,
-    /// How many bytes the line takes, its line feed among them.
+    /// The length of the line in bytes, including its line feed.
     pub length: usize,
-    /// How many bytes the head takes, which follows the line.
+    /// The length in bytes of the head, which follows the line.
     pub head: u64,
-    /// How many bytes the body takes, which follows the head.
+    /// The length in bytes of the body, which follows the head.
     pub body: u64,
 }
 
@@ -48,7 +48,7 @@ pub enum Front {
     Broken(NoFrame),
 }
 
-// What a line of so many bytes announces, without its line feed.
+// Returns what a line announces. `count` is its length without the line feed.
 fn front_of_line(line: Value, count: usize) -> Front
     requires { count ≤ longest_line }
     ensures { IsFrontOfLine (view line) count result }
@@ -67,9 +67,9 @@ fn front_of_line(line: Value, count: usize) -> Front
     }
 }
 
-// How many bytes come before the first line feed, if it isn't too far.
+// Returns the number of bytes before the first line feed, if that is near enough.
 fn line_length(bytes: &[u8]) -> Option<usize>
-    ensures place { EndsAt bytes.now result }
+    ensures position { EndsAt bytes.now result }
     ensures short { IfSome result (λ count. count ≤ longest_line) }
     ensures within { IfSome result (λ count. count < length bytes.now) }
 {
@@ -80,12 +80,12 @@ fn line_length(bytes: &[u8]) -> Option<usize>
     }
 }
 
-/// Returns what bytes begin with: a line of at most 4,096 bytes that is an object of JSON, a part of
-/// one, or no frame. It never returns `Cut`, since more bytes may follow.
+/// Returns what bytes begin with: a JSON object as a line of at most 4,096 bytes, a part of one, or
+/// no frame. It never returns `Cut`, since more bytes may follow.
 ///
 /// # Errors
 ///
-/// Returns `AllocError` when out of memory.
+/// `AllocError` if there is not enough memory.
 pub fn front_of(alloc: Global, bytes: &[u8]) -> Result<Front, AllocError>
     ensures { IfOk result (IsFront bytes.now) }
 {

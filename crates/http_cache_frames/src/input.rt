@@ -1,4 +1,4 @@
-//! Reads frames. Before each read that may wait, all replies are written.
+//! Reads frames. All replies are written before each read that may block.
 ghost use Rattle.std.specs.Prelude.{◌≡◌, ◌++◌, [], length, true, IfOk, IfErr, IfSome, OnOk};
 ghost use Rattle.http_cache_frames.specs.Served.{KeepsText, IsAhead, IsRead, TakesNothing, TakesBytes, TakesContent, TakesFrame};
 ghost use Rattle.http_cache_frames.specs.declared.ended.Ended.TheVariants.{NotReadable};
@@ -11,41 +11,37 @@ use bytes::{Buf, Bytes, BytesMut};
 use std::alloc::{AllocError, Global};
 use std::io::{ErrorKind, Read, Write};
 
-// How much is read at once.
+// The number of bytes to read at once.
 const PIECE: usize = 65_536;
 
-/// The longest head and body that a frame may have, in bytes.
+/// The greatest lengths of a frame's head and body, in bytes.
 #[derive(Clone, Copy, Debug)]
 pub struct Longest {
-    /// A head.
+    /// The greatest length of a head.
     pub head: u64,
-    /// A body.
+    /// The greatest length of a body.
     pub body: u64,
 }
 
-/// What is next in the input.
 #[derive(Drop)]
 pub(crate) enum Next {
-    /// A frame.
     Frame(Frame),
     /// The end, after a whole frame.
     End,
-    /// No frame.
     Broken(NoFrame),
 }
 
-/// A reader of frames.
 #[derive(Drop)]
 pub(crate) struct Input<R: Drop> {
     alloc: Global,
     from: R,
     longest: Longest,
     piece: Vec<u8>,
-    // What was read and is in no frame yet.
+    // The bytes that were read and belong to no frame yet.
     ahead: BytesMut,
 }
 
-// Reads once, which may wait, so no reply may be waiting. None if it is interrupted.
+// Reads once, which may block, so no reply may be waiting. Returns None if it is interrupted.
 fn read_some<R: Read, W: Write + Drop>(
     from: &mut R,
     into: &mut [u8],
@@ -64,7 +60,6 @@ fn read_some<R: Read, W: Write + Drop>(
 }
 
 impl<R: Read + Drop> Input<R> {
-    /// Returns a reader of the frames of `from`.
     pub(crate) fn new(alloc: Global, from: R, longest: Longest) -> Result<Input<R>, AllocError>
         ensures from { IfOk result (λ input. input.from ≡ from) }
         ensures ahead { IfOk result (λ input. input.ahead.items ≡ []) }
@@ -96,7 +91,7 @@ impl<R: Read + Drop> Input<R> {
         Ok(count > 0)
     }
 
-    // Reads until so many bytes are ahead, and returns whether there were as many.
+    // Reads until `length` bytes are ahead, and returns whether there are as many.
     fn has_ahead<W: Write + Drop>(
         &mut self,
         length: u64,
@@ -118,7 +113,7 @@ impl<R: Read + Drop> Input<R> {
         Ok(false)
     }
 
-    // Passes over bytes, and returns whether there were as many.
+    // Skips bytes, and returns whether there were as many.
     fn skip<W: Write + Drop>(&mut self, length: u64, out: &mut Output<W>) -> Result<bool, Ended>
         ensures text { KeepsText result (W.contents out.old.to) out.old.waiting.items
             (W.contents out.new.to) out.new.waiting.items }
@@ -142,8 +137,8 @@ impl<R: Read + Drop> Input<R> {
         Ok(false)
     }
 
-    // Returns the next bytes, in memory of their own, so that a stored response keeps nothing else. None if
-    // there aren't as many ahead.
+    // Returns the next bytes in separate memory, so that a stored response keeps no others. Returns
+    // None if fewer are ahead.
     fn take(&mut self, count: u64) -> Result<Option<Bytes>, AllocError>
         ensures from { self.new.from ≡ self.old.from }
         ensures long { IfOk result (λ taken. IfSome taken (λ bytes. length bytes ≡ count)) }
@@ -201,7 +196,7 @@ impl<R: Read + Drop> Input<R> {
         }
     }
 
-    // Returns the next line, or what is there in its place.
+    // Returns the next line, or what the input has instead.
     fn line<W: Write + Drop>(&mut self, out: &mut Output<W>) -> Result<Front, Ended>
         ensures text { KeepsText result (W.contents out.old.to) out.old.waiting.items
             (W.contents out.new.to) out.new.waiting.items }
@@ -224,7 +219,6 @@ impl<R: Read + Drop> Input<R> {
         Err(Ended::NotReadable)
     }
 
-    /// Reads the next frame.
     pub(crate) fn next<W: Write + Drop>(&mut self, out: &mut Output<W>) -> Result<Next, Ended>
         ensures text { KeepsText result (W.contents out.old.to) out.old.waiting.items
             (W.contents out.new.to) out.new.waiting.items }

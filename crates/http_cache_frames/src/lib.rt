@@ -1,8 +1,8 @@
-//! Frames of the cache process: what bytes begin with, what a line says, the text of a reply, and the loop
-//! that reads frames and writes replies. `docs/PROTOCOL.md` says what each means.
+//! Frames of the cache process, as `docs/PROTOCOL.md` defines them: what bytes begin with, the
+//! members of a line, the text of a reply, and the loop that reads frames and writes replies.
 //!
-//! It relies on the kit's JSON, and knows nothing of HTTP or of caching: what answers a frame is handed to
-//! the loop.
+//! It relies on the kit's JSON, and knows nothing of HTTP or caching: the loop's caller answers the
+//! frames.
 #![tactic(auto)]
 
 mod ended;

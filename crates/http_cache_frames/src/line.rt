@@ -1,4 +1,4 @@
-//! What a line says under a name. Of a name that occurs twice the last member counts.
+//! Reads members of a line. If a name occurs twice, the last member counts.
 ghost use Rattle.std.specs.Prelude.{◌≡◌, codes, is_some, option_map, string_bytes};
 ghost use Rattle.serde_json.specs.View.{view};
 ghost use Rattle.serde_json.specs.Find.{get};
@@ -9,7 +9,7 @@ use serde_json::Value;
 // The largest integer that every reader of JSON keeps exact: 2^53 - 1.
 const LARGEST: u64 = 9_007_199_254_740_991;
 
-/// Returns whether a line has a member of a name.
+/// Returns whether a line has a member with a name.
 pub fn has_member(line: &Value, name: &str) -> bool
     ensures { result ≡ is_some (get name.now (view line.now)) }
 {
@@ -28,8 +28,7 @@ pub fn number_under(line: &Value, name: &str) -> Option<u64>
     }
 }
 
-/// Returns the length under a name: 0 if the line has no such member, and `None` if the member is no
-/// number.
+/// Returns the length under a name: 0 if there is no such member, and `None` if it is no number.
 pub fn length_under(line: &Value, name: &str) -> Option<u64>
     ensures { result ≡ length_under name.now (view line.now) }
 {
@@ -47,7 +46,7 @@ pub fn text_under<'a>(line: &'a Value, name: &str) -> Option<&'a str>
     line.get(name)?.as_str()
 }
 
-/// Returns whether `true` is under a name.
+/// Returns whether the member under a name is `true`.
 pub fn is_true_under(line: &Value, name: &str) -> bool
     ensures { result ≡ is_true_under name.now (view line.now) }
 {

@@ -1,4 +1,4 @@
-//! Writes replies. They are collected, and written whole.
+//! Collects replies, and writes them whole.
 ghost use Rattle.std.specs.Prelude.{◌≡◌, ◌≤◌, [], length, take, IfOk, IfErr, OnOk};
 ghost use Rattle.std.specs.Io.KnownBytes.{Appends};
 ghost use Rattle.http_cache_frames.specs.Reply.{reply_text};
@@ -10,20 +10,19 @@ use crate::reply::Reply;
 use std::alloc::Global;
 use std::io::{ErrorKind, Write};
 
-// What is collected is written when it has this size.
+// The size from which the collected replies are written.
 pub(crate) const PIECE: usize = 65_536;
 
-/// A writer of replies.
 #[derive(Drop)]
 pub(crate) struct Output<W: Drop> {
     pub(crate) to: W,
-    /// Whole replies that aren't written yet.
+    /// The whole replies that aren't written yet.
     pub(crate) waiting: Vec<u8>,
     // The text of the last reply.
     text: Vec<u8>,
 }
 
-// Writes some of the bytes, none if it is interrupted.
+// Writes some of the bytes, or none if it is interrupted.
 fn write_some<W: Write>(to: &mut W, bytes: &[u8]) -> Result<usize, Ended>
     ensures bound { IfOk result (λ count. count ≤ length bytes.now) }
     ensures ok { IfOk result (λ count. Appends (W.contents to.old) (W.contents to.new)
@@ -39,7 +38,6 @@ fn write_some<W: Write>(to: &mut W, bytes: &[u8]) -> Result<usize, Ended>
     }
 }
 
-// Writes all of the bytes.
 fn write_all<W: Write>(to: &mut W, bytes: &[u8]) -> Result<(), Ended>
     ensures ok { OnOk result (Appends (W.contents to.old) (W.contents to.new) bytes.now) }
     ensures cut { IfErr result (λ ended. (ended ≡ NotWritten)
@@ -57,7 +55,6 @@ fn write_all<W: Write>(to: &mut W, bytes: &[u8]) -> Result<(), Ended>
 }
 
 impl<W: Write + Drop> Output<W> {
-    /// Returns a writer of replies to `to`, which collects them in an empty buffer.
     pub(crate) fn new(alloc: Global, to: W, waiting: Vec<u8>) -> Output<W>
         ensures to { result.to ≡ to }
         ensures waiting { result.waiting.items ≡ waiting.items }
@@ -69,7 +66,6 @@ impl<W: Write + Drop> Output<W> {
         }
     }
 
-    /// Returns what is written to.
     pub(crate) fn into_writer(self) -> W
         ensures { result ≡ self.to }
     {
@@ -77,7 +73,7 @@ impl<W: Write + Drop> Output<W> {
         to
     }
 
-    /// Writes what is collected.
+    /// Writes the collected replies.
     pub(crate) fn flush(&mut self) -> Result<(), Ended>
         ensures nothing { OnOk result (self.new.waiting.items ≡ []) }
         ensures text { self.new.text.items ≡ self.old.text.items }
@@ -91,8 +87,8 @@ impl<W: Write + Drop> Output<W> {
         Ok(())
     }
 
-    /// Collects a reply, or writes it if there is much. If there is no memory for it, no part of it is
-    /// written.
+    /// Collects a reply, or writes it with the collected ones if they get long. Without memory for
+    /// the reply, no part of it is written.
     pub(crate) fn put(&mut self, reply: &Reply) -> Result<(), Ended>
         ensures ok { OnOk result (Puts (W.contents self.old.to) self.old.waiting.items
             (W.contents self.new.to) self.new.waiting.items (reply_text reply.now)) }

@@ -1,4 +1,4 @@
-//! What the process writes: a frame for each frame that it reads.
+//! The replies of the process: one frame for each frame that it reads.
 ghost use Rattle.std.specs.Prelude.{◌≡◌, ◌++◌, option_map, OnOk};
 ghost use Rattle.http_cache_frames.specs.Reply.{word_text, end_text, member_text, optional_text, reason_text, stored_text, done_text};
 ghost use Rattle.http_cache_frames.specs.Reply.{error_text, pair_text, message_text, lengths_text, stale_text};
@@ -8,45 +8,45 @@ use bytes::Bytes;
 use itoa::Buffer;
 use std::alloc::AllocError;
 
-/// What the process stores and does.
+/// The numbers of what the process stores and does.
 #[derive(Clone, Copy, Debug, Default, PartialEq, Eq)]
 pub struct Counts {
-    /// Stored responses.
+    /// The number of stored responses.
     pub responses: u64,
-    /// Bytes of their fields and bodies.
+    /// The bytes of their fields and bodies.
     pub bytes: u64,
-    /// Requests under way.
+    /// The number of requests under way.
     pub under_way: u64,
-    /// Frames that were read.
+    /// The number of frames that were read.
     pub frames: u64,
-    /// Requests that were answered from the store without validation.
+    /// The number of requests that a stored response answered without validation.
     pub hits: u64,
-    /// Requests for which a stored response was to be validated.
+    /// The number of requests for which a stored response had to be validated.
     pub validations: u64,
-    /// Requests that were forwarded as they are.
+    /// The number of requests that were forwarded as they are.
     pub misses: u64,
-    /// Frames that were refused.
+    /// The number of frames that were refused.
     pub errors: u64,
 }
 
-/// Why a frame is refused.
+/// The reason why a frame is refused.
 #[derive(Clone, Copy, Debug, PartialEq, Eq)]
 pub enum Reason {
     /// A line is longer than 4,096 bytes.
     LongLine,
-    /// A line isn't an object of JSON.
+    /// A line isn't a JSON object.
     NoObject,
     /// A length isn't a number of bytes.
     NoLength,
     /// The input ends within a frame.
     Cut,
-    /// The head or the body is longer than the limit.
+    /// The head or the body exceeds the limit.
     TooLong,
-    /// No known member, or no id.
+    /// There is no known member, or no id.
     NoSuchFrame,
     /// `received` or `failed` isn't a token.
     NoToken,
-    /// No time, or one that is none.
+    /// The time is missing or invalid.
     NoTime,
     /// The token isn't under way.
     UnknownToken,
@@ -56,7 +56,7 @@ pub enum Reason {
     FullHead,
     /// The status is from 100 to 199.
     NotFinal,
-    /// `rest` beside a body, or neither a length nor `true`.
+    /// `rest` is combined with a body, or is neither a length nor `true`.
     NoRest,
     /// `target` isn't an absolute URI.
     NoTarget,
@@ -64,7 +64,7 @@ pub enum Reason {
     TooMany,
     /// The store failed.
     StoreFailed,
-    /// Out of memory.
+    /// There is not enough memory.
     Memory,
 }
 
@@ -101,51 +101,51 @@ impl Reason {
 pub enum Notice {
     /// The version of the protocol, before any other frame.
     Protocol,
-    /// A validation after its answer is over.
+    /// The end of a validation after its answer.
     Done {
         /// The caller's id of the request.
         id: u64,
     },
-    /// A sweep is done.
+    /// The end of a sweep.
     Swept {
         /// The caller's id.
         id: u64,
-        /// How many responses it removed.
+        /// The number of removed responses.
         removed: u64,
     },
-    /// What was stored for a target is removed.
+    /// The removal of what was stored for a target.
     Removed {
         /// The caller's id.
         id: u64,
-        /// How many responses that were.
+        /// The number of removed responses.
         responses: u64,
     },
-    /// What the process stores and does.
+    /// The numbers of what the process stores and does.
     Stats {
         /// The caller's id.
         id: u64,
         /// The numbers.
         counts: Counts,
     },
-    /// The process ends.
+    /// The end of the process.
     Quit {
         /// The caller's id.
         id: u64,
     },
-    /// There is no response, and nothing stored may be used in its place. The request is over.
+    /// There is no response, and no stored response may be used instead. The request is over.
     NoResponse {
         /// The caller's id of the request.
         id: u64,
         /// The token of the request.
         token: u64,
     },
-    /// A frame is refused.
+    /// The refusal of a frame.
     Error {
-        /// Why.
+        /// The reason.
         reason: Reason,
-        /// The id of the refused frame, as far as it has one.
+        /// The id of the refused frame, if it has one.
         id: Option<u64>,
-        /// The token of the refused frame, as far as it has one.
+        /// The token of the refused frame, if it has one.
         token: Option<u64>,
     },
 }
@@ -155,7 +155,7 @@ pub enum Notice {
 pub enum Reply {
     /// A frame without a head and a body.
     Notice(Notice),
-    /// A response that answers a request. Without a body, the caller has it.
+    /// A response that answers a request. Without a body here, the caller has it.
     Answer {
         /// The caller's id of the request.
         id: u64,
@@ -164,7 +164,7 @@ pub enum Reply {
         /// The body.
         body: Option<Bytes>,
     },
-    /// A stale response that answers a request, and the validation that is to be sent meanwhile.
+    /// A stale response that answers a request, and the validation to send meanwhile.
     Stale {
         /// The caller's id of the request.
         id: u64,
@@ -174,14 +174,14 @@ pub enum Reply {
         head: Vec<u8>,
         /// The body.
         body: Bytes,
-        /// The head of the validation's request, which has no body.
+        /// The head of the validation request, which has no body.
         request: Vec<u8>,
     },
-    /// A request that is to be sent. Without a body, the caller has it.
+    /// A request to send. Without a body here, the caller has it.
     Send {
         /// The caller's id of the request.
         id: u64,
-        /// The token that its outcome is handed back with.
+        /// The token with which the caller reports the outcome.
         token: u64,
         /// The head.
         head: Vec<u8>,
@@ -190,7 +190,7 @@ pub enum Reply {
     },
 }
 
-// The name of a member, with what leads to it.
+// The name of a member, with the text before it.
 #[derive(Clone, Copy)]
 enum Word {
     Answer,
@@ -288,7 +288,7 @@ fn push_end(out: &mut Vec<u8>) -> Result<(), AllocError>
     out.extend_from_slice(b"}\n")
 }
 
-// The end of a line with the lengths of a message, and the message.
+// Appends the lengths of a message, the end of the line, and the message.
 #[tactic(auto, unfolding(crate::specs::Reply::message_text))]
 fn push_message(out: &mut Vec<u8>, head: &[u8], body: Option<&Bytes>) -> Result<(), AllocError>
     ensures { OnOk result (out.new.items ≡ out.old.items ++ message_text head.now
@@ -309,7 +309,7 @@ fn push_message(out: &mut Vec<u8>, head: &[u8], body: Option<&Bytes>) -> Result<
     }
 }
 
-// The end of a line with the lengths of a response and of a request's head.
+// Appends the lengths of a response and of a request's head, and the end of the line.
 #[tactic(auto, unfolding(crate::specs::Reply::lengths_text))]
 fn push_lengths(out: &mut Vec<u8>, head: u64, body: u64, request: u64) -> Result<(), AllocError>
     ensures { OnOk result (out.new.items ≡ out.old.items ++ lengths_text head body request) }
@@ -320,7 +320,7 @@ fn push_lengths(out: &mut Vec<u8>, head: u64, body: u64, request: u64) -> Result
     push_end(out)
 }
 
-// A response, and the head of a request that is to be sent meanwhile.
+// Appends a response, and the head of a request to send meanwhile.
 #[tactic(auto, unfolding(crate::specs::Reply::stale_text))]
 fn push_stale(
     out: &mut Vec<u8>,
@@ -402,7 +402,7 @@ fn push_line(out: &mut Vec<u8>, word: Word, id: u64) -> Result<(), AllocError>
     push_end(out)
 }
 
-// A line with an id and one more number.
+// Appends a line with an id and one more number.
 fn push_counted(
     out: &mut Vec<u8>,
     word: Word,
@@ -451,7 +451,7 @@ impl Reply {
     ///
     /// # Errors
     ///
-    /// Returns `AllocError` when out of memory. Then a part of the text may have been appended.
+    /// `AllocError` if there is not enough memory. A part of the text may then have been appended.
     #[tactic(auto, unfolding(crate::specs::Reply::reply_text))]
     pub fn push(&self, out: &mut Vec<u8>) -> Result<(), AllocError>
         ensures { OnOk result (out.new.items ≡ out.old.items ++ reply_text self.now) }

@@ -19,30 +19,30 @@ use std::io::{Read, Write};
 pub struct Turn {
     /// The reply.
     pub reply: Reply,
-    /// Whether no frame is answered after it.
+    /// Whether it is the last reply.
     pub is_last: bool,
 }
 
-/// There is no memory for a reply after something was changed, so no reply can say what was done.
+/// There is no memory for a reply after a change, so no reply can report the change.
 #[derive(Clone, Copy, Debug, PartialEq, Eq)]
 pub struct Lost;
 
-/// What answers frames.
+/// A handler that answers frames.
 pub trait Answers {
-    // A reply to a frame, by the states before and after it.
+    // The reply to a frame, by the states before and after it.
     ghost is_reply: { Self → Frame → Reply → Self → Type 0 } = { λ _ _ _ _. ⊤ };
 
     /// Returns the reply to a frame.
     ///
     /// # Errors
     ///
-    /// Returns `Lost` if something was changed and there is no memory for a reply that says so.
+    /// `Lost` if something was changed and there is no memory for a reply that reports it.
     fn answer(&mut self, alloc: Global, frame: Frame) -> Result<Turn, Lost>
         ensures is_reply { IfOk result (λ turn. is_reply self.old frame turn.reply self.new) };
 }
 
 impl NoFrame {
-    /// Returns the reason that is reported.
+    /// Returns the reason that the reply reports.
     pub fn reason(self) -> Reason
         ensures { result ≡ reason_of self }
     {
@@ -55,7 +55,7 @@ impl NoFrame {
     }
 }
 
-// Writes that no frame follows, and returns the end.
+// Writes the reply to input that is no frame, and returns the end.
 fn report<W: Write + Drop>(cause: NoFrame, out: &mut Output<W>) -> Ended
     ensures { IsReported cause result (W.contents out.old.to) out.old.waiting.items
         (W.contents out.new.to) out.new.waiting.items }
@@ -71,7 +71,7 @@ fn report<W: Write + Drop>(cause: NoFrame, out: &mut Output<W>) -> Ended
     }
 }
 
-// Reads frames to the end of the input or to the last one that is answered, and writes the reply to each.
+// Reads frames to the end of the input or to the last one to answer, and writes the reply to each.
 fn turns<A: Answers, R: Read + Drop, W: Write + Drop>(
     alloc: Global,
     answers: &mut A,
@@ -107,7 +107,7 @@ fn turns<A: Answers, R: Read + Drop, W: Write + Drop>(
     Ended::Well
 }
 
-// Writes what is waiting, unless writing has failed, and returns the end.
+// Writes the collected replies, unless writing has failed, and returns the end.
 fn finish<W: Write + Drop>(ended: Ended, out: &mut Output<W>) -> Ended
     ensures end { (result ≡ ended) ⊎ (result ≡ NotWritten) }
     ensures written { (base : Option (List ℕ)) → (replies : List Reply) → (text : List ℕ)
@@ -123,19 +123,20 @@ fn finish<W: Write + Drop>(ended: Ended, out: &mut Output<W>) -> Ended
     }
 }
 
-/// How serving ended, and the writer.
+/// The end of serving, and the writer.
 #[derive(Drop)]
 pub struct Served<W: Drop> {
-    /// How it ended.
+    /// The way in which it ended.
     pub ended: Ended,
     /// The writer.
     pub to: W,
 }
 
-/// Reads frames to the end of the input, to `quit` or to what is no frame, and writes the reply to each.
+/// Reads frames and writes the reply to each, up to the end of the input, `quit` or input that is
+/// no frame.
 ///
-/// Before each read, and however it ends, the replies to all frames that were answered are written, unless
-/// writing failed: then a beginning of them is written.
+/// The replies to all answered frames are written before each read and at the end. If writing
+/// fails, a beginning of them is written.
 pub fn serve<A: Answers, R: Read + Drop, W: Write + Drop>(
     alloc: Global,
     answers: &mut A,

@@ -1,4 +1,4 @@
--- What changes of one name do to the lines of each.
+-- A change of one name changes the lines of no other name.
 use Rattle.std.proofs.Common.{◌≡◌, ℕ, List, [], ◌∷◌, refl, ap, ◌∙◌, unwrap_or}
 use Rattle.std.specs.Cmp.Lexicographic.{nat_list_cmp_total}
 use Rattle.std.specs.FinMap as fin
@@ -23,6 +23,3 @@ lines-remove h name new e = record {
   others = λ other apart. ap (λ (n : Headers). values n other) e
       ∙ ap (λ o. unwrap_or o []) (get-remove_other h name other apart);
 }
-
-pub lines-kept : (h : Headers) (name : List ℕ) → HasLines name (values h name) h h
-lines-kept h name = record { is = refl; others = λ other apart. refl }

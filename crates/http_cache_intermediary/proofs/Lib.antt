@@ -1,2 +1,2 @@
--- The lemmas about what an intermediary sends.
+-- Lemmas about what an intermediary sends.
 pub mod FieldLemmas

@@ -7,7 +7,6 @@ use Rattle.http_cache_rules.specs.Dates.{IsHttpDate, IsPrintable}
 use Rattle.http_cache_reasons.specs.Member.{MemberSeen, member_text}
 use Rattle.http_cache_reasons.specs.declared.member.CacheOutcome.TheVariants.{Generated}
 
--- what the intermediary of a name says of it: a detail
 abbrev pub member_with : List ℕ → List ℕ → MemberSeen
 member_with name detail = record {
   cache = name;
@@ -18,25 +17,25 @@ member_with name detail = record {
   detail = Some detail;
 }
 
--- the value is the date of a time, or there is none before 1900
+-- the value is the date of the time; there is none only before 1900
 abbrev pub IsDateValue : ℤ → Option FieldValue → Type 0
 IsDateValue time None = IsPrintable time → ⊥
 IsDateValue time (Some value) = IsHttpDate time value.bytes
 
--- the lines of Date that a time gives
+-- the lines of Date for a time
 abbrev pub AreDateLines : Option ℤ → List (List ℕ) → Type 0
 AreDateLines None lines = lines ≡ []
 AreDateLines (Some time) lines =
     ((value : FieldValue) × IsHttpDate time value.bytes × (lines ≡ value.bytes ∷ []))
     ⊎ ((IsPrintable time → ⊥) × (lines ≡ []))
 
--- headers with the lines of Date that a time gives, where they had none
+-- the lines of Date are set for a time, and no other name changes
 pub record IsDated (time : Option ℤ) (old new : Headers) : Type 0 where
   pub dates : AreDateLines time (values new (codes "date"))
   pub others : (other : List ℕ) → bytes_eq (codes "date") other ≡ false
       → values new other ≡ values old other
 
--- a head of a status, with a Cache-Status, the Date that a time gives, and nothing else
+-- a head with the status, Cache-Status and the Date for the time, and with nothing else
 pub record IsGenerated (name : List ℕ) (status : ℕ) (detail : List ℕ) (time : Option ℤ) (head : Parts)
     : Type 0 where
   pub status_is : head.status ≡ status

@@ -12,36 +12,33 @@ use Rattle.http_cache_intermediary.specs.declared.length.Content.TheVariants.{Kn
 use Rattle.http_cache_intermediary.specs.declared.length.SaidLength.{SaidLength}
 use Rattle.http_cache_intermediary.specs.declared.length.SaidLength.TheVariants.{Absent, One, Unclear}
 
--- the number of bytes that a text says: digits without a sign
+-- digits without a sign, as a number of bytes
 abbrev pub length_number : List ℕ → Option ℕ
 length_number text = if begins_with (codes "+") text then None else number text
 
--- the text says the length
 abbrev pub says_length : ℕ → List ℕ → Bool
 says_length length text = unwrap_or (option_map (λ n. n == length) (length_number text)) false
 
--- the number of bytes that the first piece says
 abbrev pub first_length : List (List ℕ) → Option ℕ
 first_length pieces = option_and_then length_number (slice_get pieces 0)
 
--- what pieces say of which the first is a number, or isn't: that number, if all say it
+-- the first number, if all pieces state it
 abbrev pub said_by : Option ℕ → List (List ℕ) → SaidLength
 said_by None pieces = Unclear
 said_by (Some n) pieces = if list_all (says_length n) pieces then One n else Unclear
 
--- what Content-Length says, on all its lines together
+-- what all lines of Content-Length together state
 abbrev pub said_length : Headers → SaidLength
 said_length h =
     let pieces = pieces_under h (codes "content-length") in
     if contains_key h (codes "content-length") then said_by (first_length pieces) pieces else Absent
 
--- the number, if it is clear
 abbrev pub clear_length : SaidLength → Option ℕ
 clear_length Absent = None
 clear_length (One n) = Some n
 clear_length Unclear = None
 
--- a response to a request of a method may have a body (RFC 9110, sections 6.4.1 and 15.3.6)
+-- a response to the method may have a body (RFC 9110, sections 6.4.1 and 15.3.6)
 abbrev pub has_content : List ℕ → ℕ → Bool
 has_content method status =
     not (bytes_eq method (codes "HEAD"))
@@ -50,28 +47,24 @@ has_content method status =
     && not (status == 205)
     && not (status == 304)
 
--- the lines of Content-Length for a length
 abbrev pub length_lines : Option ℕ → List (List ℕ)
 length_lines None = []
 length_lines (Some n) = decimal n ∷ []
 
--- the length of a body, if it is known
 abbrev pub length_of : Content → Option ℕ
 length_of (Known n) = Some n
 length_of Unknown = None
 
--- there is a field of a body
 abbrev pub has_length_field : Headers → Bool
 has_length_field h =
     contains_key h (codes "content-length") || contains_key h (codes "transfer-encoding")
 
--- a request is sent with its body's own length; without a body and without fields of one it has none
+-- the body's own length; none without a body and without fields of one
 abbrev pub request_length : Headers → Content → Option ℕ
 request_length h (Known n) = if n == 0 && not (has_length_field h) then None else Some n
 request_length h Unknown = None
 
--- a response is sent with its body's own length; to HEAD and with a 304, which have no body, with the
--- received one
+-- the body's own length; to HEAD and with a 304, which have no body, the received one
 abbrev pub response_length : List ℕ → ℕ → Headers → Content → Option ℕ
 response_length method status h content =
     if nat_lt status 200 || status == 204 then None

@@ -1,4 +1,4 @@
--- What HTTP asks of an intermediary.
+-- What HTTP demands of an intermediary.
 pub mod Field
 pub mod Via
 pub mod Length

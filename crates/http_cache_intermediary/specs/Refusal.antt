@@ -20,7 +20,6 @@ use Rattle.http_cache_intermediary.specs.declared.refusal.Refusal.{Refusal}
 use Rattle.http_cache_intermediary.specs.declared.refusal.Refusal.TheVariants.{Connect, Fragment, Userinfo, Host}
 use Rattle.http_cache_intermediary.specs.declared.refusal.Refusal.TheVariants.{Length, Loop, LastHop}
 
--- the status of the answer
 abbrev pub status_of : Refusal → ℕ
 status_of Connect = 501
 status_of Fragment = 400
@@ -30,7 +29,6 @@ status_of Length = 400
 status_of Loop = 508
 status_of LastHop = 200
 
--- the detail of Cache-Status in the answer
 abbrev pub detail_of : Refusal → List ℕ
 detail_of Connect = codes "connect"
 detail_of Fragment = codes "fragment"
@@ -44,7 +42,6 @@ detail_of LastHop = codes "max-forwards"
 abbrev pub has_userinfo : Target → Bool
 has_userinfo target = option_map_or (list_any (λ b. b == 64)) (uri_authority target) false
 
--- the version is HTTP/1.1
 abbrev pub is_http_11 : Http → Bool
 is_http_11 Http11 = true
 is_http_11 _ = false
@@ -55,7 +52,7 @@ has_wrong_host version h =
     let count = length (values h (codes "host")) in
     if count == 0 then is_http_11 version.0 else nat_lt 1 count
 
--- a length is wrong beside a coding, or where it isn't clear
+-- Content-Length is combined with Transfer-Encoding, or isn't one number
 abbrev pub is_wrong_length : Bool → SaidLength → Bool
 is_wrong_length is_coded Absent = false
 is_wrong_length is_coded (One n) = is_coded
@@ -69,16 +66,15 @@ has_wrong_length h = is_wrong_length (contains_key h (codes "transfer-encoding")
 abbrev pub forwards_left : Headers → Option ℕ
 forwards_left h = option_and_then number (first_text h (codes "max-forwards"))
 
--- Max-Forwards counts for the method
 abbrev pub counts_forwards : List ℕ → Bool
 counts_forwards method = bytes_eq method (codes "OPTIONS") || bytes_eq method (codes "TRACE")
 
--- the request may not be sent on
+-- Max-Forwards forbids to forward the request
 abbrev pub is_last_hop : List ℕ → Headers → Bool
 is_last_hop method h =
     counts_forwards method && unwrap_or (option_map (λ n. n == 0) (forwards_left h)) false
 
--- why a request is answered by the intermediary of a name itself: the first cause of these
+-- the first of these reasons why the intermediary answers a request itself
 abbrev pub refusal_of : List ℕ → Request (List ℕ) → Bool → Option Refusal
 refusal_of name request has_fragment =
     let head = head_of request in

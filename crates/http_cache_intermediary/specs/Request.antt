@@ -1,4 +1,4 @@
--- A request as it is sent on (RFC 9110, section 7.6; RFC 9112, section 3.2).
+-- A request as it is forwarded (RFC 9110, section 7.6; RFC 9112, section 3.2).
 use Rattle.std.specs.Prelude.{◌≡◌, ℕ, ◌-◌, Bool, false, List, [], ◌∷◌, codes, bytes_eq, decimal}
 use Rattle.std.specs.Prelude.{Option, Some, None, unwrap_or, if◌then◌else◌}
 use Rattle.std.specs.List.{list_any}
@@ -14,17 +14,16 @@ use Rattle.http_cache_intermediary.specs.Refusal.{counts_forwards, forwards_left
 use Rattle.http_cache_intermediary.specs.Via.{via_line}
 use Rattle.http_cache_intermediary.specs.declared.length.Content.{Content}
 
--- the fields that a request was received with
 abbrev pub received : Request (List ℕ) → Headers
 received request = headers_of (head_of request).headers
 
--- the host of a target if it has one, else the received one, else none
+-- the host of the target, else the received Host, else nothing
 abbrev pub host_of : Request (List ℕ) → List ℕ
 host_of request =
     unwrap_or (uri_authority (head_of request).uri)
     (unwrap_or (first (received request) (codes "host")) [])
 
--- one forward less, or the lines as they are where there is no number
+-- the number lowered by one, or the unchanged lines if there is none
 abbrev pub counted_down : Option ℕ → List (List ℕ) → List (List ℕ)
 counted_down (Some n) lines = decimal (n - 1) ∷ []
 counted_down None lines = lines
@@ -36,7 +35,6 @@ forwards_lines request before =
     if counts_forwards (head_of request).method
     then counted_down (forwards_left (received request)) lines else lines
 
--- the fields that an intermediary writes itself
 abbrev pub own_fields : List (List ℕ)
 own_fields =
     codes "host"
@@ -49,7 +47,7 @@ own_fields =
 abbrev pub is_own_field : List ℕ → Bool
 is_own_field name = list_any (λ own. bytes_eq own name) own_fields
 
--- a request as the intermediary of a name sends it on, with a body of a length
+-- a request as the intermediary forwards it
 pub record IsForwarded (name : List ℕ) (request : Request (List ℕ)) (content : Content) (out : Parts) : Type 0 where
   pub method : out.method ≡ (head_of request).method
   pub target : out.uri ≡ (head_of request).uri

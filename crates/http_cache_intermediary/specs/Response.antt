@@ -1,4 +1,4 @@
--- A response as it is sent on (RFC 9110, sections 6.6 and 7.6).
+-- A response as it is sent to the client (RFC 9110, sections 6.6 and 7.6).
 use Rattle.std.specs.Prelude.{◌≡◌, ℕ, Bool, false, List, [], ◌∷◌, codes, bytes_eq}
 use Rattle.std.specs.List.{list_any}
 use Rattle.std.specs.Option.{option_map_or}
@@ -11,18 +11,17 @@ use Rattle.http_cache_intermediary.specs.Length.{length_lines, response_length}
 use Rattle.http_cache_intermediary.specs.Via.{via_line}
 use Rattle.http_cache_intermediary.specs.declared.length.Content.{Content}
 
--- a value that is text, without blanks at its ends; any other as it is
+-- the value without blanks at its ends, if it is text
 abbrev pub trimmed_value : List ℕ → List ℕ
 trimmed_value value = option_map_or trim (text_of value) value
 
--- the fields that an intermediary writes itself
 abbrev pub own_fields : List (List ℕ)
 own_fields = codes "content-length" ∷ codes "via" ∷ []
 
 abbrev pub is_own_field : List ℕ → Bool
 is_own_field name = list_any (λ own. bytes_eq own name) own_fields
 
--- a response as the intermediary of a name sends it on to a request of a method, with a body of a length
+-- a response as the intermediary sends it for a request with the method
 pub record IsSent (name method : List ℕ) (head : Parts) (content : Content) (out : Parts) : Type 0 where
   pub status : out.status ≡ head.status
   pub version : out.version ≡ HTTP_11

@@ -10,15 +10,13 @@ use Rattle.http_cache_fields.specs.Headers.{Headers}
 use Rattle.http_cache_fields.specs.Pieces.{pieces_under, join}
 use Rattle.http_cache_fields.specs.Text.{trim}
 
--- a byte that a token may have, or `-` in its place
+-- the byte, or `-` if a token can't have it
 abbrev pub via_byte : ℕ → ℕ
 via_byte b = if nat_lt b 128 && is_token_byte b then b else 45
 
--- the name of an intermediary as a token
 abbrev pub via_name : List ℕ → List ℕ
 via_name name = if length name == 0 then codes "-" else map via_byte name
 
--- the version is HTTP/1.0
 abbrev pub is_http_10 : Http → Bool
 is_http_10 Http10 = true
 is_http_10 _ = false
@@ -27,7 +25,6 @@ is_http_10 _ = false
 abbrev pub protocol : Version → List ℕ
 protocol version = if is_http_10 version.0 then codes "1.0 " else codes "1.1 "
 
--- the member of an intermediary of a name
 abbrev pub member_of : Version → List ℕ → List ℕ
 member_of version name = protocol version ++ name
 
@@ -40,11 +37,11 @@ via_line name version h =
 abbrev pub is_space : ℕ → Bool
 is_space b = b == 32
 
--- whose member it is: what follows the protocol, up to a comment
+-- the name in a member: the text after the protocol, up to a comment
 abbrev pub received_by : List ℕ → List ℕ
 received_by member = before_first is_space (trim (after_first is_space member))
 
--- the message has passed the intermediary of a name before
+-- the message has passed the intermediary before
 abbrev pub has_passed : List ℕ → Headers → Bool
 has_passed name h =
     list_any (λ member. bytes_eq (received_by member) (via_name name)) (pieces_under h (codes "via"))

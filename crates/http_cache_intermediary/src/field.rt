@@ -7,7 +7,7 @@ use http::{HeaderMap, HeaderName, HeaderValue};
 use http_cache_fields::{CacheError, headers};
 use http_header::HeaderValueError;
 
-// Puts one line in place of those of a name.
+// Replaces all lines of a name by one.
 pub(crate) fn set(
     map: &mut HeaderMap,
     name: HeaderName,
@@ -19,14 +19,12 @@ pub(crate) fn set(
     headers::insert(map, name, value)
 }
 
-// Removes a name with all its lines.
 pub(crate) fn clear(map: &mut HeaderMap, name: HeaderName)
     ensures { HasLines name [] (headers_of map.old) (headers_of map.new) }
 {
     headers::remove(map, name);
 }
 
-// A line as a value.
 pub(crate) fn value_of(line: String) -> Result<HeaderValue, CacheError>
     ensures { IfOk result (λ value. value.bytes ≡ string_bytes line) }
 {

@@ -13,7 +13,7 @@ use http_cache_rules::dates::http_date;
 use jiff::Timestamp;
 use std::alloc::Global;
 
-// A time as the value of Date, or None before 1900.
+// Writes a time as a date. Returns None before 1900.
 fn date_of(alloc: Global, time: Timestamp) -> Result<Option<HeaderValue>, CacheError>
     ensures { IfOk result (IsDateValue time.nanosecond) }
 {
@@ -26,7 +26,6 @@ fn date_of(alloc: Global, time: Timestamp) -> Result<Option<HeaderValue>, CacheE
     }
 }
 
-// Adds a time as Date to a head without one.
 fn add_date(
     alloc: Global,
     headers: &mut HeaderMap,
@@ -46,13 +45,14 @@ fn add_date(
 }
 
 impl Intermediary {
-    /// Returns the head of a response that the intermediary makes itself. Its only fields are
-    /// Cache-Status, with a detail (RFC 9211, section 2.8), and the time as Date, if that is given and not
-    /// before 1900. `sent` adds its length and Via.
+    /// Returns the head of a response that the intermediary makes itself.
+    ///
+    /// Its only fields are Cache-Status, with a detail (RFC 9211, section 2.8), and `time` as Date,
+    /// unless that is `None` or before 1900. `sent` adds its length and Via.
     ///
     /// # Errors
     ///
-    /// Returns `Memory` when out of memory.
+    /// `Memory` if there is not enough memory.
     pub fn generated(
         &self,
         alloc: Global,

@@ -14,11 +14,11 @@ use http_cache_fields::pieces::pieces_under;
 use std::alloc::{AllocError, Global};
 use std::marker::Model;
 
-/// An intermediary of HTTP, such as a proxy, by the name that it has in Cache-Status. A clause sees that
-/// name.
+/// An intermediary of HTTP, such as a proxy, with its name in Cache-Status. Contracts see it as
+/// that name.
 ///
-/// In Via it has the same name, in which each byte that a token can't have is `-` (RFC 9110, section
-/// 7.6.3). Two intermediaries that a message may pass one after the other need different names.
+/// Its name in Via has `-` for each byte that a token can't have (RFC 9110, section 7.6.3). Two
+/// intermediaries on one path need different names.
 #[derive(Debug, Drop)]
 pub struct Intermediary {
     name: String,
@@ -38,11 +38,11 @@ impl Model for Intermediary {
 }
 
 impl Intermediary {
-    /// Returns the intermediary of a name.
+    /// Returns the intermediary with a name.
     ///
     /// # Errors
     ///
-    /// Returns `AllocError` when out of memory.
+    /// `AllocError` if there is not enough memory.
     pub fn new(alloc: Global, name: &str) -> Result<Intermediary, AllocError>
         ensures { IfOk result (λ intermediary. intermediary ≡ name.now) }
     {
@@ -59,14 +59,13 @@ impl Intermediary {
         self.name.as_str()
     }
 
-    // Whether a member of Via is the intermediary's.
     fn is_own(&self, member: &str) -> bool
         ensures { result ≡ bytes_eq (received_by member.now) (via_name self.now) }
     {
         received_by(member) == self.pseudonym.as_str()
     }
 
-    /// Returns whether a message has passed the intermediary before: whether its Via has the name (RFC
+    /// Returns whether a message has passed the intermediary before: its Via has the name (RFC
     /// 9110, section 7.6.3).
     pub fn has_passed(&self, headers: &HeaderMap) -> bool
         ensures { result ≡ has_passed self.now (headers_of headers.now) }
@@ -74,7 +73,7 @@ impl Intermediary {
         pieces_under(headers, VIA).any(|member| self.is_own(member))
     }
 
-    // Puts the members of a received Via and the intermediary's own in place of those of a head.
+    // Replaces Via by the received members and the intermediary's own.
     pub(crate) fn add_via(
         &self,
         alloc: Global,

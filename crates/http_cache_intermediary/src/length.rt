@@ -1,4 +1,4 @@
-//! How long a body is, by its fields and in fact (RFC 9110, section 8.6; RFC 9112, section 6).
+//! The length of a body, by its fields and in fact (RFC 9110, section 8.6; RFC 9112, section 6).
 ghost use Rattle.std.specs.Prelude.{◌≡◌, codes, OnOk};
 ghost use Rattle.std.specs.List.{list_all};
 ghost use Rattle.http_cache_fields.specs.Pieces.{pieces_under};
@@ -16,27 +16,27 @@ use http_cache_fields::pieces::pieces_under;
 use http_cache_fields::text::number;
 use std::alloc::Global;
 
-/// The body that goes with a head.
+/// The body of a message.
 #[derive(Clone, Copy, Debug, PartialEq, Eq)]
 pub enum Content {
-    /// It has so many bytes.
+    /// A body of this many bytes.
     Known(u64),
-    /// Its length isn't known yet, so it is sent in chunks.
+    /// A body of unknown length, which is sent in chunks.
     Unknown,
 }
 
-/// What Content-Length says.
+/// The length that Content-Length states.
 #[derive(Clone, Copy, Debug, PartialEq, Eq)]
 pub enum SaidLength {
-    /// There is no such field.
+    /// There is no Content-Length.
     Absent,
-    /// A number of bytes, as often as it is there.
+    /// One number of bytes, on all its lines.
     One(u64),
-    /// Several numbers, or what is no number.
+    /// Different numbers, or something that is no number.
     Unclear,
 }
 
-// The number of bytes that a text says: digits without a sign.
+// Reads a number of bytes: digits without a sign.
 fn length_number(text: &str) -> Option<u64>
     ensures { result ≡ length_number text.now }
 {
@@ -47,21 +47,18 @@ fn length_number(text: &str) -> Option<u64>
     }
 }
 
-// Whether a text says a number of bytes.
 fn says_length(length: u64, text: &str) -> bool
     ensures { result ≡ says_length length text.now }
 {
     length_number(text) == Some(length)
 }
 
-// The number of bytes that the first Content-Length says.
 fn first_length(headers: &HeaderMap) -> Option<u64>
     ensures { result ≡ first_length (pieces_under (headers_of headers.now) (codes "content-length")) }
 {
     length_number(pieces_under(headers, CONTENT_LENGTH).next()?)
 }
 
-// Whether each Content-Length says a number of bytes.
 fn all_say_length(headers: &HeaderMap, length: u64) -> bool
     ensures { result ≡ list_all (says_length length)
         (pieces_under (headers_of headers.now) (codes "content-length")) }
@@ -69,7 +66,7 @@ fn all_say_length(headers: &HeaderMap, length: u64) -> bool
     pieces_under(headers, CONTENT_LENGTH).all(|piece| says_length(length, piece))
 }
 
-/// Returns what Content-Length says, on all its lines together (RFC 9112, section 6.3).
+/// Returns what all lines of Content-Length together state (RFC 9112, section 6.3).
 pub fn said_length(headers: &HeaderMap) -> SaidLength
     ensures { result ≡ said_length (headers_of headers.now) }
 {
@@ -82,8 +79,8 @@ pub fn said_length(headers: &HeaderMap) -> SaidLength
     }
 }
 
-/// Returns whether a response to a request of a method may have a body: not to HEAD, and not with a
-/// status of 100 to 199, 204, 205 or 304 (RFC 9110, sections 6.4.1 and 15.3.6).
+/// Returns whether a response may have a body. None has one to HEAD, or with a status of 100 to
+/// 199, 204, 205 or 304 (RFC 9110, sections 6.4.1 and 15.3.6).
 pub fn has_content(method: &Method, status: StatusCode) -> bool
     ensures { result ≡ has_content method.now status }
 {
@@ -94,7 +91,7 @@ pub fn has_content(method: &Method, status: StatusCode) -> bool
         && status != StatusCode::NOT_MODIFIED
 }
 
-// Puts a length in place of the lines of Content-Length, or removes them.
+// Replaces all lines of Content-Length by one, or removes them.
 fn put_length(alloc: Global, headers: &mut HeaderMap, length: Option<u64>) -> Result<(), CacheError>
     ensures { OnOk result (HasLines (codes "content-length") (length_lines length)
         (headers_of headers.old) (headers_of headers.new)) }
@@ -112,8 +109,7 @@ fn put_length(alloc: Global, headers: &mut HeaderMap, length: Option<u64>) -> Re
     }
 }
 
-// The length that a request is sent with: its body's own. A request without a body and without fields
-// of one has none.
+// Returns the body's own length. A request without a body and without fields of one has none.
 fn request_length(received: &HeaderMap, content: Content) -> Option<u64>
     ensures { result ≡ request_length (headers_of received.now) content }
 {
@@ -126,8 +122,8 @@ fn request_length(received: &HeaderMap, content: Content) -> Option<u64>
     }
 }
 
-// The length that a response is sent with: its body's own. Where it is of a body that isn't sent, to HEAD
-// and with a 304, it is the received one.
+// Returns the body's own length. To HEAD and with a 304, no body is sent, so the received length
+// stays.
 fn response_length(
     method: &Method,
     status: StatusCode,
@@ -154,7 +150,6 @@ fn response_length(
     }
 }
 
-// Gives a request one Content-Length, its body's own, or none.
 pub(crate) fn set_request_length(
     alloc: Global,
     headers: &mut HeaderMap,
@@ -168,7 +163,6 @@ pub(crate) fn set_request_length(
     put_length(alloc, headers, request_length(received, content))
 }
 
-// Gives a response one Content-Length, or none.
 pub(crate) fn set_response_length(
     alloc: Global,
     headers: &mut HeaderMap,

@@ -1,8 +1,9 @@
-//! What HTTP asks of an intermediary, over the heads of messages: which requests it answers itself, and
-//! how a request and a response are sent on (RFC 9110, sections 7.2 to 7.6; RFC 9112, section 6).
+//! What HTTP demands of an intermediary, for the heads of messages: which requests it answers
+//! itself, and how it forwards requests and responses (RFC 9110, sections 7.2 to 7.6; RFC 9112,
+//! section 6).
 //!
-//! It knows no store and no connection, and of a body only its length. A change of what is sent on in
-//! one direction touches `request` or `response` alone.
+//! It knows no store and no connection, and of a body only the length. `request` decides what is
+//! forwarded to the origin server, and `response` what is sent to the client.
 #![tactic(auto)]
 
 mod field;

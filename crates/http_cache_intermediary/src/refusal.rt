@@ -1,4 +1,4 @@
-//! Which requests an intermediary answers itself.
+//! Decides which requests an intermediary answers itself.
 ghost use Rattle.std.specs.Prelude.{◌≡◌, ◌&&◌, ◌==◌, length, bytes_eq, codes};
 ghost use Rattle.http.specs.Request.{head_of};
 ghost use Rattle.http_cache_fields.specs.Headers.{headers_of, values};
@@ -13,7 +13,7 @@ use http::{HeaderMap, Method, Request, StatusCode, Uri, Version};
 use http_cache_fields::headers::{contains_key, first_text};
 use http_cache_fields::text::number;
 
-/// Why an intermediary answers a request itself and doesn't send it on.
+/// The reason why an intermediary answers a request itself and doesn't forward it.
 #[derive(Clone, Copy, Debug, PartialEq, Eq)]
 pub enum Refusal {
     /// The method is CONNECT: 501 (RFC 9110, section 9.3.6).
@@ -24,7 +24,8 @@ pub enum Refusal {
     Userinfo,
     /// There are several Host fields, or none in HTTP/1.1: 400 (RFC 9112, section 3.2).
     Host,
-    /// Content-Length isn't one number, or stands beside Transfer-Encoding: 400 (RFC 9112, section 6.3).
+    /// Content-Length isn't one number, or is combined with Transfer-Encoding: 400 (RFC 9112,
+    /// section 6.3).
     Length,
     /// Via has the intermediary's own name: 508 (RFC 9110, section 7.6.3).
     Loop,
@@ -63,7 +64,6 @@ impl Refusal {
     }
 }
 
-// Whether a target in absolute form has a user.
 fn has_userinfo(target: &Uri) -> bool
     ensures { result ≡ has_userinfo target.now }
 {
@@ -79,7 +79,6 @@ fn host_count(headers: &HeaderMap) -> usize
     headers.get_all(HOST).iter().count()
 }
 
-// Whether there isn't one Host, or none in a version without it.
 fn has_wrong_host(headers: &HeaderMap, version: Version) -> bool
     ensures { result ≡ has_wrong_host version (headers_of headers.now) }
 {
@@ -89,7 +88,6 @@ fn has_wrong_host(headers: &HeaderMap, version: Version) -> bool
     }
 }
 
-// Whether the length of a request isn't clear.
 fn has_wrong_length(headers: &HeaderMap) -> bool
     ensures { result ≡ has_wrong_length (headers_of headers.now) }
 {
@@ -100,21 +98,20 @@ fn has_wrong_length(headers: &HeaderMap) -> bool
     }
 }
 
-// The number in Max-Forwards, if it is one.
+// Reads the number in Max-Forwards.
 pub(crate) fn forwards_left(headers: &HeaderMap) -> Option<u64>
     ensures { result ≡ forwards_left (headers_of headers.now) }
 {
     number(first_text(headers, MAX_FORWARDS)?)
 }
 
-// Whether Max-Forwards counts for a method.
 pub(crate) fn counts_forwards(method: &Method) -> bool
     ensures { result ≡ counts_forwards method.now }
 {
     *method == Method::OPTIONS || *method == Method::TRACE
 }
 
-// Whether a request may not be sent on.
+// Returns whether Max-Forwards forbids to forward the request (RFC 9110, section 7.6.2).
 fn is_last_hop(request: &Request<Bytes>) -> bool
     ensures { result ≡ is_last_hop (head_of request.now).method (headers_of (head_of request.now).headers) }
 {
@@ -122,9 +119,9 @@ fn is_last_hop(request: &Request<Bytes>) -> bool
 }
 
 impl Intermediary {
-    /// Returns why a request is answered by the intermediary itself, or `None` if it is sent on.
+    /// Returns why the intermediary answers a request itself, or `None` if it forwards it.
     ///
-    /// `has_fragment` is whether the target had a fragment, which a `Uri` doesn't keep.
+    /// `has_fragment` says whether the target had a fragment, which a `Uri` doesn't keep.
     pub fn refusal(&self, request: &Request<Bytes>, has_fragment: bool) -> Option<Refusal>
         ensures { result ≡ refusal_of self.now request.now has_fragment }
     {

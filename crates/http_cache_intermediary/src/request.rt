@@ -1,4 +1,4 @@
-//! A request as it is sent on.
+//! The head of a request as it is forwarded.
 ghost use Rattle.std.specs.Prelude.{◌≡◌, [], codes, unwrap_or, IfOk, OnOk};
 ghost use Rattle.http.specs.Request.{head_of};
 ghost use Rattle.http_cache_fields.specs.Headers.{headers_of, first};
@@ -23,7 +23,6 @@ fn copy_of_target(target: &Uri) -> Result<Uri, AllocError>
     target.clone()
 }
 
-// The received Host, or none.
 fn received_host(headers: &HeaderMap) -> Result<HeaderValue, AllocError>
     ensures { IfOk result (λ host. host.bytes
         ≡ unwrap_or (first (headers_of headers.now) (codes "host")) []) }
@@ -34,7 +33,7 @@ fn received_host(headers: &HeaderMap) -> Result<HeaderValue, AllocError>
     }
 }
 
-// The Host of a request: that of its target if it has one, else the received one.
+// Returns the Host to send: the host of the target if it has one, else the received Host.
 fn host_of(alloc: Global, request: &Request<Bytes>) -> Result<HeaderValue, CacheError>
     ensures { IfOk result (λ host. host.bytes ≡ host_of request.now) }
 {
@@ -48,7 +47,7 @@ fn host_of(alloc: Global, request: &Request<Bytes>) -> Result<HeaderValue, Cache
     }
 }
 
-// Counts Max-Forwards down where it counts, else leaves it as it is.
+// Lowers Max-Forwards by one if the method makes it count (RFC 9110, section 7.6.2).
 fn count_forwards(
     alloc: Global,
     headers: &mut HeaderMap,
@@ -72,18 +71,20 @@ fn count_forwards(
 }
 
 impl Intermediary {
-    /// Returns the head of a request as it is sent on (RFC 9110, section 7.6; RFC 9112, section 3.2).
+    /// Returns the head of a request as it is forwarded (RFC 9110, section 7.6; RFC 9112, section
+    /// 3.2).
     ///
-    /// It has no field of one connection and none that Connection names, but Host, Via and
-    /// Max-Forwards stay. Host is that of the target, if the target has one. Via has the intermediary's
-    /// member after those received, on one line. Content-Length is the body's own, also where the body
-    /// was received in chunks. Max-Forwards of OPTIONS and TRACE is one less. Expect is removed, and
-    /// the version is HTTP/1.1.
+    /// - Connection-specific fields and those that Connection names are removed, but Host, Via and
+    ///   Max-Forwards stay. Expect is removed. The version is HTTP/1.1.
+    /// - Host is the target's host, if it has one. Via has the intermediary's member last, on one
+    ///   line.
+    /// - Content-Length is the body's own, even if the body was received in chunks.
+    /// - Max-Forwards of OPTIONS and TRACE is lowered by one.
     ///
     /// # Errors
     ///
-    /// Returns `Memory` when out of memory, `HeaderMapFull` if there is no room for these fields, and
-    /// `Malformed` if the host of the target can't be a field value.
+    /// `Memory` if there is not enough memory, `HeaderMapFull` if there is no room for these
+    /// fields, and `Malformed` if the host of the target can't be a field value.
     pub fn forwarded(
         &self,
         alloc: Global,

@@ -1,4 +1,4 @@
-//! A response as it is sent on.
+//! The head of a response as it is sent to the client.
 ghost use Rattle.std.specs.Prelude.{◌≡◌, option_copied, IfOk};
 ghost use Rattle.http_cache_fields.specs.Text.{text_of};
 ghost use Rattle.http_cache_intermediary.specs.Response.{IsSent, trimmed_value};
@@ -12,16 +12,16 @@ use http_cache_rules::forwarding::forwarded_headers;
 use std::alloc::{AllocError, Global};
 
 impl Intermediary {
-    /// Returns the head of a response as it is sent on, to a request of a method (RFC 9110, sections 6.6
-    /// and 7.6).
+    /// Returns the head of a response as it is sent to the client (RFC 9110, sections 6.6 and 7.6).
     ///
-    /// It has every line of every field, but no field of one connection and none that Connection names.
-    /// Via has the intermediary's member after those received, on one line. Content-Length is the body's
-    /// own; to HEAD and in a 304 it is the received one.
+    /// It keeps all field lines except connection-specific fields and those that Connection names.
+    /// Via has the intermediary's member last, on one line. Content-Length is the body's own; to
+    /// HEAD and in a 304 it is the received one.
     ///
     /// # Errors
     ///
-    /// Returns `Memory` when out of memory, and `HeaderMapFull` if there is no room for these fields.
+    /// `Memory` if there is not enough memory, and `HeaderMapFull` if there is no room for these
+    /// fields.
     pub fn sent(
         &self,
         alloc: Global,
@@ -42,19 +42,18 @@ impl Intermediary {
     }
 }
 
-// A value as text, if it is text.
 fn text_of(value: &HeaderValue) -> Option<&str>
     ensures { option_copied result ≡ text_of value.now.bytes }
 {
     value.to_str().ok()
 }
 
-/// Returns a value without blanks at its ends, as it may be sent (RFC 9110, section 5.5). A value with
-/// bytes beyond ASCII stays as it is.
+/// Returns a value without blanks at its ends (RFC 9110, section 5.5). A value with bytes beyond
+/// ASCII stays as it is.
 ///
 /// # Errors
 ///
-/// Returns `AllocError` when out of memory.
+/// `AllocError` if there is not enough memory.
 pub fn trimmed(alloc: Global, value: &HeaderValue) -> Result<HeaderValue, AllocError>
     ensures { IfOk result (λ sent. sent.bytes ≡ trimmed_value value.now.bytes) }
 {

@@ -7,7 +7,7 @@ use http_cache_fields::text::trim;
 use http_header::is_token_char;
 use std::alloc::{AllocError, Global};
 
-// Writes a byte of a token as it is, and `-` for any other.
+// Writes a byte, or `-` if a token can't have it.
 fn push_byte(text: &mut String, byte: u8) -> Result<(), AllocError>
     ensures { OnOk result
         (string_bytes text.new ≡ string_bytes text.old ++ via_byte byte ∷ []) }
@@ -42,7 +42,7 @@ fn protocol(version: Version) -> &'static str
     }
 }
 
-// The member of an intermediary that received a message of a version.
+// Returns the member for a message that was received with a version.
 pub(crate) fn member_of(alloc: Global, version: Version, name: &str) -> Result<String, AllocError>
     ensures { IfOk result (λ text. string_bytes text ≡ member_of version name.now) }
 {
@@ -53,7 +53,7 @@ pub(crate) fn member_of(alloc: Global, version: Version, name: &str) -> Result<S
     Ok(text)
 }
 
-// Whose member it is: what follows the protocol, up to a comment.
+// Returns the name in a member: the text after the protocol, up to a comment.
 pub(crate) fn received_by(member: &str) -> &str
     ensures { result.now ≡ received_by member.now }
 {

@@ -1,4 +1,4 @@
--- What a validation leaves off is absent from it.
+-- The removed fields are absent from a validation request.
 use Rattle.std.proofs.Common.{◌≡◌, ℕ, true, false, not, List, [], ◌∷◌, cond, bytes_eq, codes, option_map, option_copied}
 use Rattle.std.proofs.Common.{Option, Some, None, refl, sym, ap, ◌∙◌}
 use Rattle.std.specs.Cmp.Lexicographic.{nat_list_cmp_total}
@@ -7,20 +7,19 @@ use Rattle.std.specs.FinMap as fin
 use Rattle.http_header.specs.FieldValue.{FieldValue}
 use Rattle.http_cache_fields.specs.Headers.{Headers, first, set}
 use Rattle.http_cache_fields.proofs.HeadersLemmas.{ties}
-use Rattle.http_cache_rules.specs.Filter.{is_spelled}
+use Rattle.http_cache_rules.specs.Filter.{is_listed}
 use Rattle.http_cache_rules.specs.Forwarding.{without_named, forwarded_headers}
 use Rattle.http_cache_messages.specs.Outgoing.{removed_fields, set_if_some, validating, IsClean}
 
--- what a reference shows
 pub bytes-copied : (o : Option (Bor FieldValue))
     → option_map (λ v. v.now.bytes) o ≡ option_map (λ v. v.bytes) (option_copied o)
 bytes-copied None = refl
 bytes-copied (Some v) = refl
 
 get-without_named : (texts : List (List ℕ)) (h : Headers) (name : List ℕ)
-    → fin.get (without_named texts h) name ≡ cond (not (is_spelled texts name)) (fin.get h name) None
+    → fin.get (without_named texts h) name ≡ cond (not (is_listed texts name)) (fin.get h name) None
 get-without_named texts h name =
-    let keep = λ (n : List ℕ). not (is_spelled texts n) in
+    let keep = λ (n : List ℕ). not (is_listed texts n) in
     fin.get-retain_keys h keep name
     (λ x t. ap keep (sym (fin.slice_cmp-IsAntisymmetric fin.nat_cmp-IsAntisymmetric name x t)))
 
@@ -43,26 +42,26 @@ get-set_if_some_same h name None other e absent = absent
 get-set_if_some_same h name (Some v) other e absent =
     get-set h name v other ∙ ap (λ b. cond b (Some (v ∷ [])) (fin.get h other)) e
 
--- a name that is taken off, under none of the two conditions
-off : (stored asked : Headers) (name : List ℕ) → is_spelled removed_fields name ≡ true
+-- a removed name is absent if it is none of the two conditions
+off : (stored asked : Headers) (name : List ℕ) → is_listed removed_fields name ≡ true
     → bytes_eq (codes "if-none-match") name ≡ false → bytes_eq (codes "if-modified-since") name ≡ false
     → fin.get (validating stored asked) name ≡ None
 unfolding validating
-off stored asked name spelled tag date =
+off stored asked name listed tag date =
     let rest = without_named removed_fields (forwarded_headers asked) in
     get-set_if_some_other (set_if_some rest (codes "if-none-match") (first stored (codes "etag")))
     (codes "if-modified-since") (first stored (codes "last-modified")) name date
     ∙ get-set_if_some_other rest (codes "if-none-match") (first stored (codes "etag")) name tag
     ∙ get-without_named removed_fields (forwarded_headers asked) name
-    ∙ ap (λ b. cond (not b) (fin.get (forwarded_headers asked) name) None) spelled
+    ∙ ap (λ b. cond (not b) (fin.get (forwarded_headers asked) name) None) listed
 
 pub IsClean-validating : (stored asked : Headers) → IsClean stored (validating stored asked)
 unfolding validating
 IsClean-validating stored asked =
     let f = forwarded_headers asked in
     let rest = without_named removed_fields f in
-    let gone = λ (name : List ℕ) (spelled : is_spelled removed_fields name ≡ true).
-    get-without_named removed_fields f name ∙ ap (λ b. cond (not b) (fin.get f name) None) spelled in
+    let gone = λ (name : List ℕ) (listed : is_listed removed_fields name ≡ true).
+    get-without_named removed_fields f name ∙ ap (λ b. cond (not b) (fin.get f name) None) listed in
     let tagged = set_if_some rest (codes "if-none-match") (first stored (codes "etag")) in
     record {
       content_encoding = off stored asked (codes "content-encoding") refl refl refl;

@@ -1,4 +1,4 @@
--- A request as stored responses are asked by it.
+-- A request in the form in which it is compared with stored responses.
 use Rattle.std.specs.Prelude.{ℕ, Bool, ◌&&◌, ◌||◌, ◌==◌, List, length, codes, bytes_eq}
 use Rattle.std.specs.Option.{option_map_or}
 use Rattle.http.specs.Request.{head_of, body_of}
@@ -8,7 +8,6 @@ use Rattle.http_cache_fields.specs.Headers.{Headers, headers_of}
 use Rattle.http_cache_rules.specs.Messages.{RequestSeen}
 use Rattle.http_cache_messages.specs.declared.asking.Incoming.{Incoming}
 
--- the method is GET or HEAD
 abbrev pub is_get_or_head : List ℕ → Bool
 is_get_or_head method = bytes_eq method (codes "GET") || bytes_eq method (codes "HEAD")
 
@@ -16,11 +15,11 @@ is_get_or_head method = bytes_eq method (codes "GET") || bytes_eq method (codes 
 abbrev pub is_looked_up : Request (List ℕ) → Bool
 is_looked_up request = is_get_or_head (head_of request).method && length (body_of request) == 0
 
--- the fields with the lines of each joined, if a field has several, else as received
+-- the fields with joined lines, if a field has several, else as received
 abbrev pub headers_seen : Incoming → Headers
 headers_seen i = option_map_or headers_of i.joined (headers_of (head_of i.request.now).headers)
 
--- the request, by some method
+-- the request with another method
 abbrev pub asking_seen : Incoming → List ℕ → RequestSeen
 asking_seen i method = record {
   target = (head_of i.request.now).uri;

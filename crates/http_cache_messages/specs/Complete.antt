@@ -5,17 +5,15 @@ use Rattle.http_cache_fields.specs.Headers.{Headers, contains_key}
 use Rattle.http_cache_fields.specs.Number.{number}
 use Rattle.http_cache_fields.specs.Pieces.{pieces_under}
 
--- the text is the number of a length
 abbrev pub is_length : ℕ → List ℕ → Bool
 is_length length text = unwrap_or (option_map (λ n. n == length) (number text)) false
 
--- each Content-Length is the number of a length
 abbrev pub has_length : ℕ → Headers → Bool
 has_length length headers =
     list_all (is_length length) (pieces_under headers (codes "content-length"))
 
--- each Content-Length is the length of the body, where it speaks of this body: not in a response to
--- HEAD, of status 204 or 304, or with Transfer-Encoding
+-- each Content-Length is the length of the body, or isn't about this body: in a response to HEAD,
+-- with status 204 or 304, or with Transfer-Encoding
 abbrev pub is_complete : List ℕ → ℕ → Headers → ℕ → Bool
 is_complete method status headers length =
     bytes_eq method (codes "HEAD")

@@ -4,7 +4,7 @@ use Rattle.std.specs.FinMap as fin
 use Rattle.http_cache_fields.specs.Headers.{Headers, first, set, IsAbsent}
 use Rattle.http_cache_rules.specs.Forwarding.{without_named, forwarded_headers}
 
--- fields of a body that isn't sent, of a part of the response, and of the client's own conditions
+-- the fields of a body (which isn't sent), of ranges, and of the client's own conditions
 abbrev pub removed_fields : List (List ℕ)
 removed_fields =
     codes "content-encoding"
@@ -19,7 +19,7 @@ removed_fields =
     ∷ codes "range"
     ∷ []
 
--- the fields with a value in place of those under a name, if there is one
+-- the fields with the value under the name, if there is a value
 abbrev pub set_if_some : Headers → List ℕ → Option (List ℕ) → Headers
 set_if_some h name None = h
 set_if_some h name (Some value) = set h name value
@@ -30,16 +30,16 @@ with_validators stored h =
     set_if_some (set_if_some h (codes "if-none-match") (first stored (codes "etag")))
     (codes "if-modified-since") (first stored (codes "last-modified"))
 
--- the fields of the request that validates a stored response: those that are forwarded, without the
--- removed ones, and with the stored validators
+-- the fields of a validation request: the forwarded ones without the removed ones, and with the
+-- stored validators
 unfoldable pub validating : Headers → Headers → Headers
 validating stored asked = with_validators stored (without_named removed_fields (forwarded_headers asked))
 
--- a name has the value alone, or is absent
+-- the name has only this value, or is absent
 abbrev pub HasOnly : Headers → List ℕ → Option (List ℕ) → Type 0
 HasOnly h name value = fin.get h name ≡ option_map (λ v. v ∷ []) value
 
--- it has none of the removed fields, except the stored validators as its conditions
+-- only the stored validators are conditions, and the other removed fields are absent
 pub record IsClean (stored h : Headers) : Type 0 where
   pub content_encoding : IsAbsent h (codes "content-encoding")
   pub content_length : IsAbsent h (codes "content-length")

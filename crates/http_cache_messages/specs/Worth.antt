@@ -7,7 +7,7 @@ use Rattle.http_cache_fields.specs.Headers.{Headers, contains_key}
 use Rattle.http_cache_fields.specs.Pieces.{pieces_under}
 use Rattle.http_cache_policy.specs.StaleUse.{forbids_stale}
 
--- it has ETag or Last-Modified (RFC 9111, section 4.3.1)
+-- the response has ETag or Last-Modified (RFC 9111, section 4.3.1)
 abbrev pub has_validator : Headers → Bool
 has_validator h = contains_key h (codes "etag") || contains_key h (codes "last-modified")
 
@@ -15,8 +15,7 @@ has_validator h = contains_key h (codes "etag") || contains_key h (codes "last-m
 abbrev pub varies_by_all : Headers → Bool
 varies_by_all h = list_any (bytes_eq (codes "*")) (pieces_under h (codes "vary"))
 
--- it can answer some request at the time or later: it is fresh, can be validated, or doesn't forbid to
--- be used stale, and it doesn't vary by all (RFC 9111, sections 4.1 and 4.2.4)
+-- the response can answer some request at the time or later (RFC 9111, sections 4.1 and 4.2.4)
 unfoldable pub can_be_used_again : Exchange → ℤ → Bool
 can_be_used_again e now =
     not (varies_by_all e.response_headers)

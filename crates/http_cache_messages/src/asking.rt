@@ -1,6 +1,4 @@
-//! A request as stored responses are asked by it.
-//!
-//! It relies on the joined field lines of the library, and knows nothing of a shelf.
+//! A request in the form in which it is compared with stored responses. Nothing here knows a shelf.
 ghost use Rattle.std.specs.Prelude.{◌≡◌, ◌||◌, IfOk, codes, bytes_eq};
 ghost use Rattle.http.specs.Request.{head_of};
 ghost use Rattle.http_cache_fields.specs.Directives.{cache_control, has};
@@ -16,15 +14,15 @@ use http_cache_policy::policy::RequestLike;
 use http_cache_rules::joined::joined_headers;
 use std::alloc::{AllocError, Global};
 
-/// A request of a client, with the lines of each field joined if a field has several, so that all of
-/// them count for Vary (RFC 9111, section 4.1).
+/// A client's request with joined field lines, so that all lines of a field count for Vary (RFC
+/// 9111, section 4.1).
 #[derive(Drop)]
 pub struct Incoming<'a> {
     request: &'a Request<Bytes>,
     joined: Option<HeaderMap>,
 }
 
-/// A request by another method: a HEAD asks a response that is stored for GET as if it were a GET.
+/// A request with the method that counts: a HEAD counts as a GET for a response stored for GET.
 #[derive(Clone, Copy)]
 pub struct Asking<'a> {
     incoming: &'a Incoming<'a>,
@@ -37,8 +35,8 @@ fn is_get_or_head(method: &Method) -> bool
     *method == Method::GET || *method == Method::HEAD
 }
 
-/// Returns whether a request is answered from what is stored, and its response stored: a GET or HEAD
-/// without a body (RFC 9111, sections 2 and 4).
+/// Returns whether a request is looked up and its response may be stored. Only a GET or HEAD
+/// without a body is (RFC 9111, sections 2 and 4).
 pub fn is_looked_up(request: &Request<Bytes>) -> bool
     ensures { result ≡ is_looked_up request.now }
 {
@@ -50,7 +48,7 @@ impl<'a> Incoming<'a> {
     ///
     /// # Errors
     ///
-    /// `AllocError` if there is no memory for the joined lines.
+    /// `AllocError` if there is not enough memory for the joined lines.
     pub fn new(alloc: Global, request: &'a Request<Bytes>) -> Result<Incoming<'a>, AllocError>
         ensures { IfOk result (λ incoming. incoming.request.now ≡ request.now) }
     {
@@ -87,7 +85,7 @@ impl<'a> Incoming<'a> {
         *self.request.method() == Method::HEAD
     }
 
-    /// Returns whether only a stored response is asked for (RFC 9111, section 5.2.1.7).
+    /// Returns whether the request says `only-if-cached` (RFC 9111, section 5.2.1.7).
     pub fn is_only_if_cached(&self) -> bool
         ensures { result ≡ has (cache_control (headers_of (head_of self.now.request.now).headers))
             (codes "only-if-cached") }
@@ -95,13 +93,13 @@ impl<'a> Incoming<'a> {
         says(self.request.headers(), "only-if-cached")
     }
 
-    /// Returns the request by its own method.
+    /// Returns the request with its own method.
     pub fn as_received(&self) -> Asking<'_> {
         self.by(self.request.method())
     }
 
-    /// Returns the request as it asks a response that is stored for a method: a HEAD by that method,
-    /// any other request by its own.
+    /// Returns the request as compared with a response that is stored for a method. A HEAD takes
+    /// that method; any other request keeps its own.
     pub fn asking<'b>(&'b self, stored: &'b Method) -> Asking<'b> {
         if self.is_head() && is_get_or_head(stored) {
             self.by(stored)

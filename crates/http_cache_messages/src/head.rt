@@ -1,7 +1,5 @@
-//! The head of a response as it is stored.
-//!
-//! It relies on the library's joined field lines and dates. What a stored head must not have, or must
-//! have beside what was received, is decided here.
+//! The head of a response as it is stored. What is removed from a received head or added to it is
+//! decided only here.
 
 use http::header::{
     AGE, CACHE_STATUS, CONNECTION, CONTENT_LENGTH, DATE, EXPIRES, TRANSFER_ENCODING,
@@ -18,13 +16,14 @@ use httpdate::HttpDate;
 use jiff::Timestamp;
 use std::alloc::Global;
 
-// A head with more names isn't stored, so that an answer from the store has room for its own fields.
+// A head with more names isn't stored, so that an answer from the shelf has room for its own
+// fields.
 const MOST_NAMES: usize = 24_000;
 
 // The length of an IMF-fixdate.
 const FIXED_DATE: usize = 29;
 
-// What the rules of storing, freshness and validation read.
+// The fields that the rules of storing, freshness and validation read.
 const READ_BY_RULES: [&str; 9] = [
     "age",
     "cache-control",
@@ -39,10 +38,10 @@ const READ_BY_RULES: [&str; 9] = [
 
 const NANOS_A_SECOND: i128 = 1_000_000_000;
 
-// What an Age counts as that is too great to be read (RFC 9111, section 1.2.2).
+// The value of an Age that is too great to be read (RFC 9111, section 1.2.2).
 const GREATEST_AGE: u64 = 2_147_483_648;
 
-// The seconds of the first Age, or 0 where it is no number (RFC 9111, sections 1.2.2 and 5.1).
+// Returns the seconds of the first Age, or 0 if it is no number (RFC 9111, sections 1.2.2 and 5.1).
 fn received_age(headers: &HeaderMap) -> u64 {
     let Some(text) = pieces_under(headers, AGE).next() else {
         return 0;
@@ -55,14 +54,14 @@ fn received_age(headers: &HeaderMap) -> u64 {
         .min(GREATEST_AGE)
 }
 
-// The time of a date in any of the three forms of HTTP (RFC 9110, section 5.6.7).
+// Reads a date in any of the three forms of HTTP (RFC 9110, section 5.6.7).
 fn time_of(text: &str) -> Option<Timestamp> {
     let date = HttpDate::parse_ascii(text.as_bytes()).ok()?;
     let second = i64::try_from(date.unix_secs()).ok()?;
     Timestamp::from_second(second).ok()
 }
 
-// The whole seconds from Date to a time, or 0.
+// Returns the whole seconds from Date to a time, or 0 (RFC 9111, section 4.2.3).
 fn apparent_age(headers: &HeaderMap, now: Timestamp) -> u64 {
     match first_text(headers, DATE).and_then(time_of) {
         Some(date) => {
@@ -73,7 +72,7 @@ fn apparent_age(headers: &HeaderMap, now: Timestamp) -> u64 {
     }
 }
 
-// A time as the value of a date field; None before 1900.
+// Writes a time as a date. Returns None before 1900.
 fn date_value(alloc: Global, time: Timestamp) -> Result<Option<HeaderValue>, CacheError> {
     let Some(date) = http_date(time) else {
         return Ok(None);
@@ -125,7 +124,8 @@ fn fix_date(alloc: Global, headers: &mut HeaderMap, name: HeaderName) -> Result<
     }
 }
 
-// Whether a text ends with the one zone that dates have, in any case (RFC 9111, section 4.2).
+// Returns whether a text ends with GMT, the only zone of dates, in any case (RFC 9111, section
+// 4.2).
 fn ends_in_gmt(text: &str) -> bool {
     match text.rsplit_once(' ') {
         Some((_, zone)) => zone.eq_ignore_ascii_case("GMT"),
@@ -133,7 +133,8 @@ fn ends_in_gmt(text: &str) -> bool {
     }
 }
 
-// Whether Expires is a date of HTTP. The library reads more zones than GMT (RFC 9111, section 4.2).
+// Returns whether Expires is a date of HTTP. The library reads other zones than GMT too (RFC 9111,
+// section 4.2).
 fn is_http_date(value: &HeaderValue) -> bool {
     match value.to_str() {
         Ok(text) => ends_in_gmt(text) || time_of(text).is_some(),
@@ -141,7 +142,7 @@ fn is_http_date(value: &HeaderValue) -> bool {
     }
 }
 
-// Writes Expires as an IMF-fixdate, and as `0` where it is no date (RFC 9111, section 5.3).
+// Writes Expires as an IMF-fixdate, or as `0` if it is no date (RFC 9111, section 5.3).
 fn fix_expires(alloc: Global, headers: &mut HeaderMap) -> Result<(), CacheError> {
     let is_date = match headers.get(EXPIRES) {
         Some(value) => is_http_date(value),
@@ -153,8 +154,8 @@ fn fix_expires(alloc: Global, headers: &mut HeaderMap) -> Result<(), CacheError>
     insert(headers, EXPIRES, HeaderValue::from_static("0"))
 }
 
-// Leaves one Content-Length of several that are equal, and none that a received Transfer-Encoding
-// overrides (RFC 9110, section 8.6; RFC 9112, section 6.3).
+// Leaves one of several equal Content-Lengths, and none if Transfer-Encoding was received (RFC
+// 9110, section 8.6; RFC 9112, section 6.3).
 fn fix_length(
     alloc: Global,
     headers: &mut HeaderMap,
@@ -177,21 +178,20 @@ fn fix_length(
     }
 }
 
-// Whether a name is of a field that the rules read.
 fn is_read_by_rules(name: &str) -> bool {
     READ_BY_RULES
         .iter()
         .any(|read| read.eq_ignore_ascii_case(name))
 }
 
-// Whether Connection names a field that the rules read: it may not be forwarded, although it decides
-// (RFC 9110, section 7.6.1).
+// Returns whether Connection names a field that the rules read. Such a field would be removed,
+// although it decides (RFC 9110, section 7.6.1).
 fn names_rules(headers: &HeaderMap) -> bool {
     pieces_under(headers, CONNECTION).any(|name| is_read_by_rules(name))
 }
 
-/// Adds an empty Cache-Status to a head that has none, so that an answer with the head replaces a value
-/// and its copy doesn't grow.
+/// Adds an empty Cache-Status to a head that has none. An answer then replaces its value, and the
+/// copy of the head doesn't grow.
 ///
 /// # Errors
 ///
@@ -203,19 +203,23 @@ pub fn add_cache_status(headers: &mut HeaderMap) -> Result<(), CacheError> {
     insert(headers, CACHE_STATUS, HeaderValue::from_static(""))
 }
 
-/// Returns the head of a response as it is stored: without the fields of one connection (RFC 9111,
-/// section 3.1), with one line a field, with one Content-Length, with a Date, with dates in the form that
-/// the library reads, and with the age that the response had at `sent`.
+/// Returns the head of a response as it is stored.
 ///
-/// `sent` is the time at which the request was sent, and the response time of the policy. The age is
-/// the greater of the received Age and of the whole seconds from Date to `sent`. The age at a later
-/// time is then the current age of RFC 9111, section 4.2.3, with the network delay counted once.
+/// Connection-specific fields are removed (RFC 9111, section 3.1). Each field has one line. There
+/// is one Content-Length at most, a Date, dates in the form that the library reads, and the Age at
+/// `sent`.
+///
+/// `sent` is the time at which the request was sent, and becomes the policy's response time. The
+/// Age is the received one or the whole seconds from Date to `sent`, whichever is greater. The age
+/// at a later time is then the current age of RFC 9111, section 4.2.3, which counts the network
+/// delay once.
 ///
 /// # Errors
 ///
-/// `Malformed` if Connection names a field that the rules of caching read, `HeaderMapFull` if there
-/// are more than 24,000 names, `DateNotPrintable` if Date is absent and `received` is before 1900, and
-/// `Memory` if there is not enough memory.
+/// - `Malformed` if Connection names a field that the rules of caching read.
+/// - `HeaderMapFull` if there are more than 24,000 names.
+/// - `DateNotPrintable` if Date is absent and `received` is before 1900.
+/// - `Memory` if there is not enough memory.
 pub fn stored_head(
     alloc: Global,
     headers: &HeaderMap,

@@ -14,7 +14,7 @@ use http_cache_policy::policy::CachePolicy;
 use http_cache_rules::forwarding::forwarded_headers;
 use std::alloc::Global;
 
-// Fields of a body that isn't sent, of a part of the response, and of the client's own conditions.
+// The fields of a body (which isn't sent), of ranges, and of the client's own conditions.
 const REMOVED: [&str; 10] = [
     "content-encoding",
     "content-length",
@@ -28,7 +28,6 @@ const REMOVED: [&str; 10] = [
     "range",
 ];
 
-// Removes the fields of these names.
 fn remove_all(headers: &mut HeaderMap, names: &[&str])
     ensures { headers_of headers.new
         ≡ without_named (map (λ name. name.now) names.now) (headers_of headers.old) }
@@ -38,7 +37,6 @@ fn remove_all(headers: &mut HeaderMap, names: &[&str])
     }
 }
 
-// Puts a value in place of those under a name, if there is one.
 fn set_if_some(
     headers: &mut HeaderMap,
     name: HeaderName,
@@ -53,14 +51,13 @@ fn set_if_some(
     }
 }
 
-// The first value under a name.
 fn first_value(map: &HeaderMap, name: HeaderName) -> Option<&HeaderValue>
     ensures { option_map (λ v. v.now.bytes) result ≡ first (headers_of map.now) name }
 {
     map.get(name)
 }
 
-// Adds the stored validators as conditions.
+// Adds the stored validators as conditions (RFC 9111, section 4.3.1).
 fn add_validators(headers: &mut HeaderMap, stored: &HeaderMap) -> Result<(), CacheError>
     ensures { OnOk result (headers_of headers.new
         ≡ with_validators (headers_of stored.now) (headers_of headers.old)) }
@@ -74,16 +71,17 @@ fn add_validators(headers: &mut HeaderMap, stored: &HeaderMap) -> Result<(), Cac
     Ok(())
 }
 
-/// Returns the request that asks the origin server whether a stored response is still valid (RFC 9111,
-/// section 4.3.1).
+/// Returns the request that asks the origin server whether a stored response is still valid (RFC
+/// 9111, section 4.3.1).
 ///
-/// It is the client's own request without its conditions, without Range, without fields of a body or
-/// of one connection, and with the stored validators: If-None-Match is the stored ETag, and
-/// If-Modified-Since the stored Last-Modified.
+/// It is the client's own request without conditions, Range, fields of a body and
+/// connection-specific fields. If-None-Match is the stored ETag, and If-Modified-Since the stored
+/// Last-Modified.
 ///
 /// # Errors
 ///
-/// `HeaderMapFull` if there is no room for the validators, and `Memory` if there is not enough memory.
+/// `HeaderMapFull` if there is no room for the validators, and `Memory` if there is not enough
+/// memory.
 #[tactic(auto, unfolding(crate::specs::Outgoing::validating))]
 pub fn validation_request(
     alloc: Global,

@@ -1,4 +1,4 @@
-//! Whether a response is worth storing, and a stored one worth keeping.
+//! Decides whether a response is worth storing, and a stored one worth keeping.
 ghost use Rattle.std.specs.Prelude.{◌≡◌, true};
 ghost use Rattle.http_cache_fields.specs.Headers.{headers_of};
 ghost use Rattle.http_cache_rules.specs.Storing.{is_storable};
@@ -20,16 +20,17 @@ pub fn has_validator(stored: &HeaderMap) -> bool
     contains_key(stored, ETAG) || contains_key(stored, LAST_MODIFIED)
 }
 
-// Whether a response varies by more than its requests say (RFC 9111, section 4.1).
+// Returns whether Vary says `*`, which no request matches (RFC 9111, section 4.1).
 fn varies_by_all(stored: &HeaderMap) -> bool
     ensures { result ≡ varies_by_all (headers_of stored.now) }
 {
     pieces_under(stored, VARY).any(|name| name == "*")
 }
 
-/// Returns whether a stored response can answer some request at `now` or later: it is fresh, can be
-/// validated, or doesn't forbid to be used stale; and Vary doesn't say `*` (RFC 9111, sections 4.1 and
-/// 4.2.4). It allocates nothing.
+/// Returns whether a stored response can answer some request at `now` or later. Allocates nothing.
+///
+/// It can if Vary doesn't say `*` (RFC 9111, section 4.1) and it is fresh, has a validator, or may
+/// be used stale (RFC 9111, section 4.2.4).
 #[tactic(auto, unfolding(crate::specs::Worth::can_be_used_again))]
 pub fn can_be_used_again(policy: &CachePolicy, now: Timestamp) -> bool
     ensures { result ≡ can_be_used_again policy.now now.nanosecond }
@@ -39,9 +40,10 @@ pub fn can_be_used_again(policy: &CachePolicy, now: Timestamp) -> bool
         && (!policy.is_stale(now) || has_validator(stored) || !policy.forbids_stale())
 }
 
-/// Returns whether a response is worth storing at `now`: it may be stored, is neither a part of another
-/// nor an answer to a condition, is read as it was meant, and can be used again (RFC 9111, sections 3
-/// and 3.3). It allocates nothing.
+/// Returns whether a response is worth storing at `now`. Allocates nothing.
+///
+/// It is if it may be stored, isn't a 1xx, 206 or 304, isn't misread, and can be used again (RFC
+/// 9111, sections 3 and 3.3).
 pub fn is_worth_storing(policy: &CachePolicy, now: Timestamp) -> bool
     ensures storable { result ≡ true → is_storable policy.now ≡ true }
     ensures used { result ≡ true → can_be_used_again policy.now now.nanosecond ≡ true }

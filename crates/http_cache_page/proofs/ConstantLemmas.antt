@@ -1,4 +1,4 @@
--- Each constant begins and ends between tags, by reading it.
+-- Each constant begins and ends between tags, as reading it shows.
 use Rattle.std.proofs.Common.{◌≡◌, refl}
 use Rattle.http_cache_page.specs.declared.constant.Constant.{Constant}
 use Rattle.http_cache_page.specs.declared.constant.Constant.TheVariants.{Frame, Three, Change, Visit, Wrong, Both, Timeline, Request, Item, Letter, Named}

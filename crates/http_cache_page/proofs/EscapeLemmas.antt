@@ -1,4 +1,4 @@
--- A text as a page has it, character by character.
+-- A text as it appears in a page, character by character.
 use Rattle.std.proofs.Common.{◌≡◌, ◌∙◌, ap, ℕ, List, [], ◌++◌, length, chars, encode_utf8, IsUtf8}
 use Rattle.std.specs.List.{flat_map}
 use Rattle.std.proofs.lemmas.Str.{chars_past_char, chars-nil}

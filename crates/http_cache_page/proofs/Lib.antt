@@ -1,4 +1,3 @@
--- The lemmas about a page.
 pub mod EscapeLemmas
 pub mod ConstantLemmas
 pub mod TagLemmas

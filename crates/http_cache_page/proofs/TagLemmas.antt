@@ -1,4 +1,4 @@
--- A page is between tags before and after each of its pieces, and each text is between tags from its begin to its end.
+-- A page is between tags before and after each of its pieces, and a text is never inside one.
 use Rattle.std.proofs.Common.{◌≡◌, ◌∙◌, refl, sym, ap, subst, ℕ, zero, suc, ◌+◌, ◌-◌, ◌^◌, ◌*◌, ◌/◌, ◌%◌, ◌<◌, ◌≤◌, Bool, true, false, cond, not, List, [], ◌∷◌, ◌++◌, length, nat_lt, arith, ne_eqb, eq-eqb, ltb-true, ltb-false, encode_utf8, codes, decimal, chars, string_bytes}
 use Rattle.std.specs.Prelude.{◌==◌, ◌&&◌}
 use Rattle.std.specs.List.{flat_map, list_all}
@@ -11,7 +11,7 @@ use Rattle.http_cache_page.specs.declared.measure.Measure.{Measure}
 use Rattle.http_cache_page.specs.declared.measure.Measure.TheVariants.{Sent, Spared, Kept, Height, Link, Row, Cell, Load}
 use Rattle.http_cache_page.specs.declared.piece.Piece.{Piece}
 use Rattle.http_cache_page.specs.declared.piece.Piece.TheVariants.{Constant, Text, Number, Measured}
-use Rattle.http_cache_page.specs.Tags.{Reading, between, quoted, step, reading_after, is_between_tags, lacks}
+use Rattle.http_cache_page.specs.Tags.{TagState, between, quoted, step, state_after, is_between_tags, lacks}
 use Rattle.http_cache_page.specs.Escape.{is_unseen, unseen_text, plain_text, escaped_char, escaped}
 use Rattle.http_cache_page.specs.Measure.{before, after}
 use Rattle.http_cache_page.specs.Page.{measured_text, piece_text, page_text}
@@ -41,8 +41,6 @@ lacks-if : (x : ℕ) (t : Bool) (a b : List ℕ) → (t ≡ true → lacks x a �
 lacks-if x true a b is_true is_false = is_true refl
 lacks-if x false a b is_true is_false = is_false refl
 
--- ---- numbers
-
 glyph-not : (x : ℕ) (t upper : Bool) (d : ℕ) → (48 ≤ x → 58 ≤ x) → x < 65 → (t ≡ true → d < 10) → (t ≡ false → 10 ≤ d)
     → cond t (48 + d) (cond upper (55 + d) (87 + d)) ≡ x → ⊥
 glyph-not x true upper d low high is_true is_false e = omega (arith, is_true refl, low)
@@ -66,8 +64,6 @@ lacks-digits x base upper n low high = lacks-onto x 64 base upper n [] low high 
 lacks-zeros : (n : ℕ) → lacks 60 (replicate n 48) ≡ true
 lacks-zeros zero = refl
 lacks-zeros (suc n) = lacks-zeros n
-
--- ---- texts
 
 lacks-shown : (p : ℕ) (numeral : List ℕ) → lacks 60 numeral ≡ true
     → lacks 60 (codes "[U+" ++ ((replicate p 48 ++ (numeral ++ [])) ++ codes "]")) ≡ true
@@ -128,45 +124,38 @@ lacks-chars : (cs : List ℕ) → lacks 60 (flat_map escaped_char cs) ≡ true
 lacks-chars [] = refl
 lacks-chars (c ∷ cs) = lacks-append 60 (escaped_char c) (flat_map escaped_char cs) (lacks-char c) (lacks-chars cs)
 
--- no byte of an escaped text is `<`
 pub escaped-lacks : (text : List ℕ) → lacks 60 (escaped text) ≡ true
 unfolding escaped
 escaped-lacks text = lacks-chars (chars text)
-
--- ---- pieces
-
-stays-step : (x : ℕ) (t : Bool) (a b : Reading) → t ≡ false → cond t a b ≡ b
-stays-step x t a b e = rw e refl
 
 not-true : (t : Bool) → not t ≡ true → t ≡ false
 not-true false e = refl
 not-true true e = cc
 
--- between tags, a text without `<` is all between them
-stays-between : (text : List ℕ) → lacks 60 text ≡ true → reading_after between text ≡ between
+stays-between : (text : List ℕ) → lacks 60 text ≡ true → state_after between text ≡ between
 stays-between [] e = refl
 stays-between (b ∷ bs) e =
     let parts = both (not (b == 60)) (lacks 60 bs) e in
     rw (not-true (b == 60) parts.0) (stays-between bs parts.1)
 
--- in a value, a text without its quote is all in it
-stays-quoted : (q : ℕ) (name text : List ℕ) → lacks q text ≡ true → reading_after (quoted q name) text ≡ quoted q name
+-- in a quoted value, a text without the quote stays in the value
+stays-quoted : (q : ℕ) (name text : List ℕ) → lacks q text ≡ true → state_after (quoted q name) text ≡ quoted q name
 stays-quoted q name [] e = refl
 stays-quoted q name (b ∷ bs) e =
     let parts = both (not (b == q)) (lacks q bs) e in
     rw (not-true (b == q) parts.0) (stays-quoted q name bs parts.1)
 
-two : (r s t : Reading) (a b : List ℕ) → reading_after r a ≡ s → reading_after s b ≡ t → reading_after r (a ++ b) ≡ t
-two r s t a b ea eb = fold-append step r a b ∙ (ap (λ u. reading_after u b) ea ∙ eb)
+two : (r s t : TagState) (a b : List ℕ) → state_after r a ≡ s → state_after s b ≡ t → state_after r (a ++ b) ≡ t
+two r s t a b ea eb = fold-append step r a b ∙ (ap (λ u. state_after u b) ea ∙ eb)
 
-in-value : (name a b : List ℕ) (n : ℕ) → reading_after between a ≡ quoted 34 name → reading_after (quoted 34 name) b ≡ between
-    → reading_after between (a ++ (decimal n ++ b)) ≡ between
+in-value : (name a b : List ℕ) (n : ℕ) → state_after between a ≡ quoted 34 name → state_after (quoted 34 name) b ≡ between
+    → state_after between (a ++ (decimal n ++ b)) ≡ between
 in-value name a b n ea eb =
     let digits-stay = stays-quoted 34 name (decimal n) (lacks-digits 34 10 false n (λ h. omega arith) (omega arith)) in
     two between (quoted 34 name) between a (decimal n ++ b) ea
     (two (quoted 34 name) (quoted 34 name) between (decimal n) b digits-stay eb)
 
-measured-between : (m : Measure) (n : ℕ) → reading_after between (measured_text m n) ≡ between
+measured-between : (m : Measure) (n : ℕ) → state_after between (measured_text m n) ≡ between
 measured-between Sent n = in-value (codes "tcer") (before Sent) (after Sent) n refl refl
 measured-between Spared n = in-value (codes "tcer") (before Spared) (after Spared) n refl refl
 measured-between Kept n = in-value (codes "tcer") (before Kept) (after Kept) n refl refl
@@ -176,7 +165,6 @@ measured-between Row n = in-value (codes "rt") (before Row) (after Row) n refl r
 measured-between Cell n = in-value (codes "dt") (before Cell) (after Cell) n refl refl
 measured-between Load n = in-value (codes "3h") (before Load) (after Load) n refl refl
 
--- each piece begins and ends between tags
 pub piece-between : (p : Piece) → is_between_tags (piece_text p)
 unfolding is_between_tags
 piece-between (Constant c) = constant-between c
@@ -184,7 +172,6 @@ piece-between (Text t) = stays-between (escaped (string_bytes t)) (escaped-lacks
 piece-between (Number n) = stays-between (decimal n) (lacks-digits 60 10 false n (λ h. omega arith) (omega arith))
 piece-between (Measured m n) = measured-between m n
 
--- and so does a page, and what is before any of its pieces
 pub page-between : (ps : List Piece) → is_between_tags (page_text ps)
 unfolding is_between_tags
 page-between [] = refl

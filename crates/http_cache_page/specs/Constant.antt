@@ -1,4 +1,4 @@
--- What a page has that no recording changes.
+-- The fixed texts of a page.
 use Rattle.std.specs.Prelude.{ℕ, List}
 use Rattle.http_cache_page.specs.declared.constant.Constant.{Constant}
 use Rattle.http_cache_page.specs.declared.constant.Constant.TheVariants.{Frame, Three, Change, Visit, Wrong, Both, Timeline, Request, Item, Letter, Named}

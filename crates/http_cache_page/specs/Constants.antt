@@ -1,4 +1,4 @@
--- The constants of a page, by name.
+-- The fixed texts of a page, by name.
 use Rattle.std.specs.Prelude.{ℕ, List}
 use Rattle.http_cache_page.specs.declared.frame.FrameText.{FrameText}
 use Rattle.http_cache_page.specs.declared.frame.FrameText.TheVariants as frame

@@ -1,9 +1,8 @@
--- A text as a page has it: what means something in HTML by its entity, and what isn't seen by its number.
+-- A text in a page: special characters of HTML are entities, and invisible ones are numbers.
 use Rattle.std.specs.Prelude.{ℕ, ◌==◌, ◌||◌, nat_le, ◌&&◌, Bool, true, false, [], List, ◌++◌, ◌-◌, ◌^◌, codes, chars, encode_utf8, if◌then◌else◌}
 use Rattle.std.specs.List.{flat_map}
 use Rattle.std.specs.Fmt.{digits, padded_integral, format_spec}
 
--- whether a character is from one to another
 abbrev pub is_within : ℕ → ℕ → ℕ → Bool
 is_within from to c = nat_le from c && nat_le c to
 
@@ -11,26 +10,26 @@ is_within from to c = nat_le from c && nat_le c to
 abbrev pub is_control : ℕ → Bool
 is_control c = is_within 0 0x1f c || is_within 0x7f 0x9f c || c == 0xad
 
--- the letters that aren't seen
+-- invisible letters
 abbrev pub is_blank : ℕ → Bool
 is_blank c = is_within 0x115f 0x1160 c || is_within 0x17b4 0x17b5 c || c == 0x3164 || c == 0xffa0
 
--- what has no width, turns the direction of others, or ends a line
+-- characters without width, that change the direction of others, or that end a line
 abbrev pub is_direction : ℕ → Bool
 is_direction c = c == 0x61c || is_within 0x200b 0x200f c || is_within 0x2028 0x202e c || is_within 0x2060 0x206f c
 
--- what only changes how the character before it is drawn, and tags
+-- characters that only change how the one before is drawn, and tags
 abbrev pub is_mark : ℕ → Bool
 is_mark c = c == 0x34f || is_within 0x180b 0x180f c || is_within 0xfe00 0xfe0f c || is_within 0xe0000 0xe0fff c
 
--- the mark of the byte order, notes between lines, and controls of shorthand and of music
+-- the byte order mark, notes between lines, and controls of shorthand and of music
 abbrev pub is_other : ℕ → Bool
 is_other c = c == 0xfeff || is_within 0xfff9 0xfffb c || is_within 0x1bca0 0x1bca3 c || is_within 0x1d173 0x1d17a c
 
 unfoldable pub is_unseen : ℕ → Bool
 is_unseen c = is_control c || is_blank c || is_direction c || is_mark c || is_other c
 
--- the number of a character, in base 16 and of four digits at least
+-- in base 16, with at least four digits
 unfoldable pub unseen_text : ℕ → List ℕ
 unseen_text c = codes "[U+" ++ (padded_integral (format_spec 32 0 4 4 (2 ^ 64 - 1)) false [] (digits 16 true c) ++ codes "]")
 
@@ -46,6 +45,5 @@ escaped_char c =
     else (if c == 39 then codes "&#39;"
     else plain_text c))))
 
--- a text, character by character
 unfoldable pub escaped : List ℕ → List ℕ
 escaped text = flat_map escaped_char (chars text)

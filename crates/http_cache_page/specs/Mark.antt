@@ -1,4 +1,4 @@
--- The letters and words for what came of a request.
+-- The letters and words for what became of a request.
 use Rattle.std.specs.Prelude.{ℕ, List}
 use Rattle.http_cache_page.specs.declared.mark.Mark.{Mark}
 use Rattle.http_cache_page.specs.declared.mark.Mark.TheVariants as mark

@@ -4,7 +4,6 @@ use Rattle.http_cache_page.specs.declared.measure.Measure.{Measure}
 use Rattle.http_cache_page.specs.declared.measure.Measure.TheVariants.{Sent, Spared, Kept, Height, Link, Row, Cell, Load}
 use Rattle.http_cache_page.specs.declared.measure.TheConstants.{SENT, SPARED, KEPT, BAR_END, HEIGHT, HEIGHT_END, LINK, ROW, CELL, LOAD, TAG_END}
 
--- what is written before a number
 abbrev pub before : Measure → List ℕ
 before Sent = SENT.now
 before Spared = SPARED.now
@@ -15,7 +14,6 @@ before Row = ROW.now
 before Cell = CELL.now
 before Load = LOAD.now
 
--- what is written after it
 abbrev pub after : Measure → List ℕ
 after Sent = BAR_END.now
 after Spared = BAR_END.now

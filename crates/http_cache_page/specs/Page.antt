@@ -1,4 +1,4 @@
--- A page: its pieces, one after another.
+-- A page, piece by piece.
 use Rattle.std.specs.Prelude.{ℕ, List, ◌++◌, decimal, String, string_bytes}
 use Rattle.std.specs.List.{flat_map}
 use Rattle.http_cache_page.specs.declared.measure.Measure.{Measure}
@@ -8,11 +8,10 @@ use Rattle.http_cache_page.specs.Constant.{constant_text}
 use Rattle.http_cache_page.specs.Escape.{escaped}
 use Rattle.http_cache_page.specs.Measure.{before, after}
 
--- a number inside a tag
 abbrev pub measured_text : Measure → ℕ → List ℕ
 measured_text m n = before m ++ (decimal n ++ after m)
 
--- the text of a piece: of a text, only as it is escaped
+-- a text is always escaped
 abbrev pub piece_text : Piece → List ℕ
 piece_text (Constant c) = constant_text c
 piece_text (Text t) = escaped (string_bytes t)

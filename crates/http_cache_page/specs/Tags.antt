@@ -1,36 +1,36 @@
--- Where a reader of HTML is after some bytes. It knows tags, their quoted values, and the elements whose content is no text.
+-- Where a reader of HTML is after some bytes. It knows tags, their quoted values, and the elements
+-- whose content is no text.
 use Rattle.std.specs.Prelude.{◌≡◌, ℕ, ◌==◌, ◌||◌, Bool, List, [], ◌∷◌, ◌++◌, fold, codes, bytes_eq, not, if◌then◌else◌}
 use Rattle.std.specs.List.{list_all}
 
--- where it is. A name is that of a tag, last byte first
-pub data Reading : Type 0 where
-  between : Reading
-  named : List ℕ → Reading
-  inside : List ℕ → Reading
-  quoted : ℕ → List ℕ → Reading
-  raw : List ℕ → List ℕ → Reading
+-- the last byte of a tag's name comes first
+pub data TagState : Type 0 where
+  between : TagState
+  named : List ℕ → TagState
+  inside : List ℕ → TagState
+  quoted : ℕ → List ℕ → TagState
+  raw : List ℕ → List ℕ → TagState
 
--- the tag that ends an element whose content is no text, without its `>`
+-- the end tag of an element whose content is no text, without its `>`
 abbrev pub end_of : List ℕ → List ℕ
 end_of name =
     if bytes_eq name (codes "elyts") then codes "</style"
     else (if bytes_eq name (codes "tpircs") then codes "</script" else [])
 
--- after the `>` of a tag, by the tag that ends what follows
-abbrev pub content_until : List ℕ → Reading
+-- after the `>` of a tag, by the end tag of what follows
+abbrev pub content_until : List ℕ → TagState
 content_until [] = between
 content_until (b ∷ bs) = raw (b ∷ bs) (b ∷ bs)
 
 abbrev pub is_end_of_name : ℕ → Bool
 is_end_of_name b = b == 32 || b == 10 || b == 47
 
--- what is left to match of the tag that ends such an element
-abbrev pub raw_after : List ℕ → ℕ → List ℕ → ℕ → Reading
+-- what is left to match of such an end tag
+abbrev pub raw_after : List ℕ → ℕ → List ℕ → ℕ → TagState
 raw_after end x [] b = if b == x then inside [] else raw end end
 raw_after end x (y ∷ ys) b = if b == x then raw end (y ∷ ys) else raw end end
 
--- one byte further
-abbrev pub step : Reading → ℕ → Reading
+abbrev pub step : TagState → ℕ → TagState
 step between b = if b == 60 then named [] else between
 step (named name) b =
     if b == 62 then content_until (end_of name)
@@ -42,13 +42,11 @@ step (quoted quote name) b = if b == quote then inside name else quoted quote na
 step (raw end []) b = raw end end
 step (raw end (x ∷ xs)) b = raw_after end x xs b
 
-abbrev pub reading_after : Reading → List ℕ → Reading
-reading_after r text = fold step r text
+abbrev pub state_after : TagState → List ℕ → TagState
+state_after r text = fold step r text
 
--- a text begins and ends between tags
 unfoldable pub is_between_tags : List ℕ → Type 0
-is_between_tags text = reading_after between text ≡ between
+is_between_tags text = state_after between text ≡ between
 
--- no byte of a text is another
 abbrev pub lacks : ℕ → List ℕ → Bool
 lacks x text = list_all (λ (b : ℕ). not (b == x)) text

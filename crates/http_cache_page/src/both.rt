@@ -1,25 +1,25 @@
-//! The section of a browser's cache and a CDN's.
+//! The texts of the section on a browser's cache and a CDN's.
 ghost use Rattle.std.specs.Prelude.{◌≡◌};
 ghost use Rattle.http_cache_page.specs.Constants.{both_text};
 
-/// A fixed text of a browser's cache and a CDN's.
+/// A fixed text of the section on a browser's cache and a CDN's.
 #[derive(Clone, Copy)]
 pub enum BothText {
-    /// The section and its table begin.
+    /// The start of the section and its table.
     Head,
-    /// A row begins with its url.
+    /// Before a row's url.
     Url,
-    /// What a browser's cache does follows.
+    /// Before what a browser's cache does.
     Browser,
-    /// What a CDN's cache does follows.
+    /// Before what a CDN's cache does.
     Cdn,
-    /// A row ends.
+    /// After a row.
     RowEnd,
-    /// The table ends.
+    /// After the table.
     TableEnd,
-    /// The section ends.
+    /// After the section.
     End,
-    /// The section, if they do the same.
+    /// The whole section, if both caches do the same.
     Nothing,
 }
 

@@ -1,59 +1,59 @@
-//! The section of what to change first.
+//! The texts of the section on what to change first.
 ghost use Rattle.std.specs.Prelude.{◌≡◌};
 ghost use Rattle.http_cache_page.specs.Constants.{changes_text};
 
-/// A fixed text of what to change first.
+/// A fixed text of the section on what to change first.
 #[derive(Clone, Copy)]
 pub enum ChangeText {
-    /// The section begins.
+    /// The start of the section.
     Head,
-    /// What the table is of: later loads.
+    /// The table is about later loads.
     Later,
-    /// What the table is of: a later visit.
+    /// The table is about a later visit.
     Visit,
-    /// The table begins.
+    /// The start of the table.
     Table,
-    /// A row begins with its url.
+    /// Before a row's url.
     Url,
-    /// The number of requests follows.
+    /// Before the number of requests.
     Requests,
-    /// What was sent follows.
+    /// Before the bytes that were sent.
     Bytes,
-    /// Its bar begins.
+    /// The start of their bar.
     Bar,
-    /// What the response says now follows.
+    /// Before what the response has now.
     Now,
-    /// What to send follows.
+    /// Before what to send.
     Send,
-    /// What to send ends.
+    /// After what to send.
     SendEnd,
-    /// It gets an ETag.
+    /// The response gets an ETag.
     Tag,
-    /// It is answered by a 304.
+    /// A 304 answers the request.
     Answer,
-    /// What that saves follows.
+    /// Before what that saves.
     Saves,
-    /// What it saves ends.
+    /// After what it saves.
     SavesEnd,
-    /// What it saves in the first load follows.
+    /// Before what it saves in the first load.
     InFirst,
-    /// What it saves in the first load ends.
+    /// After what it saves in the first load.
     InFirstEnd,
-    /// What answers 304 save follows.
+    /// Before what 304 responses save.
     Alone,
-    /// What answers 304 save ends.
+    /// After what they save.
     AloneEnd,
-    /// A row ends.
+    /// After a row.
     RowEnd,
-    /// The row of all begins.
+    /// The start of the row of totals.
     Total,
-    /// What it is a part of follows.
+    /// Before the total of which it is a part.
     TotalOf,
-    /// What all save follows.
+    /// Before what all changes save.
     TotalSaves,
-    /// The table and the section end.
+    /// After the table and the section.
     End,
-    /// The section ends without a table.
+    /// The end of the section without a table.
     Nothing,
 }
 

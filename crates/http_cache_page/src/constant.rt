@@ -1,4 +1,4 @@
-//! What a page has that no recording changes. Each constant begins and ends between tags.
+//! The fixed texts of a page. Each begins and ends between tags.
 ghost use Rattle.std.specs.Prelude.{◌≡◌};
 ghost use Rattle.http_cache_page.specs.Constant.{constant_text};
 
@@ -15,27 +15,27 @@ use crate::wrong::{self, WrongText};
 /// A fixed text of a page, which begins and ends between tags.
 #[derive(Clone, Copy)]
 pub enum Constant {
-    /// What is before, between and after the sections.
+    /// A text before, between or after the sections.
     Frame(FrameText),
-    /// Of the three numbers.
+    /// A text of the three numbers.
     Three(ThreeText),
-    /// Of what to change first.
+    /// A text of what to change first.
     Change(ChangeText),
-    /// Of later visits.
+    /// A text of later visits.
     Visit(VisitText),
-    /// Of what looks wrong.
+    /// A text of what looks wrong.
     Wrong(WrongText),
-    /// Of a browser's cache and a CDN's.
+    /// A text of a browser's cache and a CDN's.
     Both(BothText),
-    /// Of the timeline.
+    /// A text of the timeline.
     Timeline(TimelineText),
-    /// Of the table of all requests.
+    /// A text of the table of all requests.
     Request(RequestText),
     /// An item of the timeline, by what became of its request.
     Item(Mark),
     /// The letter for what became of a request.
     Letter(Mark),
-    /// That letter, and its words.
+    /// The letter with its words.
     Named(Mark),
 }
 

@@ -1,5 +1,5 @@
-//! Texts of a recording as a page has them: the characters that mean something in HTML by their entities, and
-//! those that nobody sees, or that turn the direction of others, by their numbers.
+//! Escapes texts of a recording for a page. Special characters of HTML become entities, and
+//! characters that nobody sees, or that change the direction of others, become numbers.
 ghost use Rattle.std.specs.Prelude.{◌≡◌, ◌++◌, OnOk, string_bytes};
 ghost use Rattle.http_cache_page.specs.Escape.{is_control, is_blank, is_direction, is_mark, is_other, is_unseen};
 ghost use Rattle.http_cache_page.specs.Escape.{unseen_text, plain_text, escaped_char, escaped};
@@ -7,43 +7,38 @@ ghost use Rattle.http_cache_page.specs.Escape.{unseen_text, plain_text, escaped_
 use std::alloc::AllocError;
 use std::fmt::Write;
 
-// Whether a character is a control character, or a hyphen that isn't seen.
 fn is_control(c: char) -> bool
     ensures { result ≡ is_control c }
 {
     matches!(c, '\u{0}'..='\u{1f}' | '\u{7f}'..='\u{9f}' | '\u{ad}')
 }
 
-// Whether a character is a letter that isn't seen.
 fn is_blank(c: char) -> bool
     ensures { result ≡ is_blank c }
 {
     matches!(c, '\u{115f}'..='\u{1160}' | '\u{17b4}'..='\u{17b5}' | '\u{3164}' | '\u{ffa0}')
 }
 
-// Whether a character has no width, turns the direction of others, or ends a line.
 fn is_direction(c: char) -> bool
     ensures { result ≡ is_direction c }
 {
     matches!(c, '\u{61c}' | '\u{200b}'..='\u{200f}' | '\u{2028}'..='\u{202e}' | '\u{2060}'..='\u{206f}')
 }
 
-// Whether a character only changes how the one before it is drawn.
 fn is_mark(c: char) -> bool
     ensures { result ≡ is_mark c }
 {
     matches!(c, '\u{34f}' | '\u{180b}'..='\u{180f}' | '\u{fe00}'..='\u{fe0f}' | '\u{e0000}'..='\u{e0fff}')
 }
 
-// Whether a character is one of the others that aren't seen: of byte order, notes, shorthand and music.
 fn is_other(c: char) -> bool
     ensures { result ≡ is_other c }
 {
     matches!(c, '\u{feff}' | '\u{fff9}'..='\u{fffb}' | '\u{1bca0}'..='\u{1bca3}' | '\u{1d173}'..='\u{1d17a}')
 }
 
-/// Returns whether a character isn't seen by itself: it is a control character, has no width, or turns the
-/// direction of others.
+/// Returns whether a character is invisible: a control character, one without width, or one that
+/// changes the direction of others.
 #[tactic(auto, unfolding(crate::specs::Escape::is_unseen))]
 pub fn is_unseen(c: char) -> bool
     ensures { result ≡ is_unseen c }
@@ -51,7 +46,6 @@ pub fn is_unseen(c: char) -> bool
     is_control(c) || is_blank(c) || is_direction(c) || is_mark(c) || is_other(c)
 }
 
-// Adds the number of a character.
 #[tactic(auto, unfolding(crate::specs::Escape::unseen_text))]
 fn push_unseen(out: &mut String, c: char) -> Result<(), AllocError>
     ensures { OnOk result (string_bytes out.new ≡ string_bytes out.old ++ unseen_text c) }
@@ -60,7 +54,6 @@ fn push_unseen(out: &mut String, c: char) -> Result<(), AllocError>
     write!(out, "[U+{number:04X}]")
 }
 
-// Adds a character that has no meaning in HTML.
 fn push_plain(out: &mut String, c: char) -> Result<(), AllocError>
     ensures { OnOk result (string_bytes out.new ≡ string_bytes out.old ++ plain_text c) }
 {
@@ -85,12 +78,10 @@ fn push_char(out: &mut String, c: char) -> Result<(), AllocError>
     }
 }
 
-/// Adds a text as a page has it: `&`, `<`, `>`, `"` and `'` by their entities, and each character that isn't
-/// seen by its number, as `[U+202E]`.
+/// Adds a text as it appears in a page.
 ///
-/// # Errors
-///
-/// Returns an error only if there is no memory.
+/// `&`, `<`, `>`, `"` and `'` are written as entities, and invisible characters as numbers, such as
+/// `[U+202E]`. The only error is out of memory.
 pub fn push_escaped(out: &mut String, text: &str) -> Result<(), AllocError>
     ensures { OnOk result (string_bytes out.new ≡ string_bytes out.old ++ escaped text.now) }
 {

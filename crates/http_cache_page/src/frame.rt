@@ -1,4 +1,4 @@
-//! What a page has before, between and after its sections.
+//! The texts before, between and after the sections of a page.
 ghost use Rattle.std.specs.Prelude.{◌≡◌};
 ghost use Rattle.http_cache_page.specs.Constants.{frame_text};
 
@@ -12,35 +12,35 @@ pub enum FrameText {
     Head,
     /// The style.
     Style,
-    /// The title of the window begins.
+    /// Before the title of the window.
     Title,
-    /// The title of the window ends, and the heading begins.
+    /// After the title of the window, and before the heading.
     Body,
-    /// The heading ends, of a browser's cache.
+    /// After the heading for a browser's cache.
     Browser,
-    /// The heading ends, of a CDN's cache.
+    /// After the heading for a CDN's cache.
     Cdn,
-    /// The header ends.
+    /// After the header.
     Main,
-    /// What may mislead begins.
+    /// Before what may mislead.
     Warning,
-    /// A paragraph begins.
+    /// Before a paragraph.
     Paragraph,
-    /// A paragraph ends.
+    /// After a paragraph.
     ParagraphEnd,
     /// Between the items of a paragraph.
     Comma,
     /// Between texts.
     Blank,
-    /// A paragraph ends that counts what isn't listed.
+    /// After a paragraph that counts what isn't listed.
     More,
     /// The links to the sections.
     Navigation,
-    /// The end of what is read.
+    /// After what is read.
     Footer,
     /// The script.
     Script,
-    /// The end.
+    /// After the page.
     End,
 }
 

@@ -1,7 +1,7 @@
-//! A report as one page of HTML: the pieces that it has, and how each is written.
+//! A report as one page of HTML, made of pieces.
 //!
-//! A piece is a constant of the page, a number, a number inside a constant tag, or a text. A text is escaped
-//! and is written only between tags, so that no recording can add a tag, a style or a script.
+//! A piece is a constant, a number, a number in a constant tag, or a text. A text is escaped and
+//! only written between tags, so no recording can add a tag, a style or a script.
 #![tactic(auto)]
 
 pub mod both;

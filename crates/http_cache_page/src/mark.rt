@@ -1,4 +1,4 @@
-//! What became of a request, by a letter that is read without colours, and its words.
+//! The letters for what became of a request, which are readable without colours, and their words.
 ghost use Rattle.std.specs.Prelude.{◌≡◌};
 ghost use Rattle.http_cache_page.specs.Mark.{item_text, letter_text, named_text};
 
@@ -9,19 +9,19 @@ pub enum Mark {
     Fresh,
     /// A 304 confirmed the stored response.
     Confirmed,
-    /// This cache would have asked, and the browser answered by itself.
+    /// The cache would have validated, and the browser answered from its own cache.
     Browser,
-    /// The response isn't stored, and so it was sent again.
+    /// The response isn't stored, so it was sent again.
     Unstored,
     /// The same response was sent again.
     Same,
-    /// Only responses to other values of the headers in Vary are stored.
+    /// Only responses for other values of the fields in Vary are stored.
     Varies,
     /// The response has changed, and was sent anew.
     Changed,
     /// The response was sent again, and nothing shows whether it has changed.
     Unknown,
-    /// What was stored is gone, and the response was sent anew.
+    /// The stored response was removed, so the response was sent anew.
     Removed,
     /// The first request for the url.
     First,
@@ -119,7 +119,7 @@ pub const ALL: [Mark; 12] = [
     Mark::Apart,
 ];
 
-/// Returns the item of a list that has the colours of a mark.
+/// Returns the list item with the colours of a mark.
 pub fn item_of(mark: Mark) -> &'static str
     ensures { result.now ≡ item_text mark }
 {

@@ -1,15 +1,17 @@
-//! Numbers inside tags: a text before a number, and one after it. No text of a recording is inside a tag.
+//! Writes numbers inside tags, with fixed texts before and after them. No text of a recording is
+//! inside a tag.
 ghost use Rattle.std.specs.Prelude.{◌≡◌};
 ghost use Rattle.http_cache_page.specs.Measure.{before, after};
 
-/// What a number in a tag is.
+/// The meaning of a number inside a tag.
 #[derive(Clone, Copy)]
 pub enum Measure {
-    /// The width of a part of a bar, in percent: what is sent.
+    /// The width of a bar's part for what is sent, in percent.
     Sent,
-    /// The same: what is sent and needn't be.
+    /// The width of a bar's part for what is sent needlessly, in percent.
     Spared,
-    /// The same: what a cache spares, or what is sent with what is advised.
+    /// The width of a bar's part for what a cache spares, or for what is sent if the advice is
+    /// followed, in percent.
     Kept,
     /// The height of a bar of the timeline.
     Height,
@@ -45,7 +47,7 @@ const LOAD: &str = "<h3 data-v=\"";
 
 const TAG_END: &str = "\">";
 
-/// Returns what is written before the number.
+/// Returns the text before the number.
 pub fn before(measure: Measure) -> &'static str
     ensures { result.now ≡ before measure }
 {
@@ -61,7 +63,7 @@ pub fn before(measure: Measure) -> &'static str
     }
 }
 
-/// Returns what is written after the number.
+/// Returns the text after the number.
 pub fn after(measure: Measure) -> &'static str
     ensures { result.now ≡ after measure }
 {

@@ -1,4 +1,4 @@
-//! The pieces of a page, and the text of all of them.
+//! The pieces of a page, and the page's text.
 ghost use Rattle.std.specs.Prelude.{◌≡◌, ◌++◌, IfOk, OnOk, string_bytes};
 ghost use Rattle.std.specs.List.{flat_map};
 ghost use Rattle.http_cache_page.specs.Page.{measured_text, piece_text, page_text};
@@ -15,7 +15,7 @@ use std::fmt::Write;
 pub enum Piece {
     /// A fixed text.
     Constant(Constant),
-    /// A text, as of a recording: it is escaped, and is only between tags.
+    /// A text, as of a recording, which is escaped and is only between tags.
     Text(String),
     /// A number between tags.
     Number(u64),
@@ -75,7 +75,6 @@ impl Page {
     }
 }
 
-// Adds a number inside a tag, with what is before and after it.
 fn push_measured(out: &mut String, measure: Measure, number: u64) -> Result<(), AllocError>
     ensures { OnOk result (string_bytes out.new ≡ string_bytes out.old
         ++ measured_text measure number) }
@@ -96,11 +95,7 @@ fn push_piece(out: &mut String, piece: &Piece) -> Result<(), AllocError>
     }
 }
 
-/// Returns the text of the pieces, one after another.
-///
-/// # Errors
-///
-/// Returns an error only if there is no memory.
+/// Returns the text of the pieces, in order. The only error is out of memory.
 pub fn page_text(alloc: Global, pieces: &[Piece]) -> Result<String, AllocError>
     ensures pieces { IfOk result (λ text. string_bytes text ≡ page_text pieces.now) }
     ensures between { IfOk result (λ text. is_between_tags (string_bytes text)) }

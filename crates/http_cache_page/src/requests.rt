@@ -1,47 +1,47 @@
-//! The table of all requests.
+//! The texts of the table of all requests.
 ghost use Rattle.std.specs.Prelude.{◌≡◌};
 ghost use Rattle.http_cache_page.specs.Constants.{requests_text};
 
 /// A fixed text of the table of all requests.
 #[derive(Clone, Copy)]
 pub enum RequestText {
-    /// The section and its table begin.
+    /// The start of the section and its table.
     Head,
-    /// The number of the request follows.
+    /// Before the number of the request.
     Number,
-    /// The number of its load follows.
+    /// Before the number of its load.
     Load,
-    /// Its url follows.
+    /// Before its url.
     Url,
-    /// A method other than GET follows.
+    /// Before a method other than GET.
     Method,
-    /// The url follows a method.
+    /// Between a method and the url.
     UrlAfter,
-    /// The status follows.
+    /// Before the status.
     Status,
-    /// What became of it follows.
+    /// Before what became of the request.
     Mark,
-    /// The reason follows.
+    /// Before the reason.
     Why,
-    /// The members follow.
+    /// Before the members.
     Members,
     /// Between the name of a member and its value.
     Blank,
-    /// A member ends.
+    /// After a member.
     Line,
-    /// A link ends whose number was printed.
+    /// After a link with a number.
     From,
-    /// The members end.
+    /// After the members.
     Sent,
-    /// A cell ends.
+    /// After a cell.
     CellEnd,
-    /// A row ends.
+    /// After a row.
     RowEnd,
-    /// The table ends.
+    /// After the table.
     End,
-    /// What isn't judged follows.
+    /// Before the requests that aren't judged.
     Apart,
-    /// The section ends.
+    /// After the section.
     SectionEnd,
 }
 

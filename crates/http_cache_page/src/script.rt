@@ -1,4 +1,4 @@
-//! The script of a page: it sorts, finds and filters, and shows the reason of a request.
+//! The script of a page, which sorts, searches and filters, and shows the reason of a request.
 
 /// The script, in its element.
 pub const SCRIPT: &str = r##"<script>

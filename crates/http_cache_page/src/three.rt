@@ -1,45 +1,45 @@
-//! The three numbers of a page.
+//! The texts of the three numbers.
 ghost use Rattle.std.specs.Prelude.{◌≡◌};
 ghost use Rattle.http_cache_page.specs.Constants.{three_text};
 
 /// A fixed text of the three numbers.
 #[derive(Clone, Copy)]
 pub enum ThreeText {
-    /// The list and its first number begin.
+    /// The start of the list and its first number.
     Head,
-    /// A number of kilobytes ends, and its bar begins.
+    /// After a number of kilobytes, and before its bar.
     Kilobytes,
-    /// A number in percent ends, and its bar begins.
+    /// After a number in percent, and before its bar.
     Percent,
-    /// The bar ends, of what later loads sent.
+    /// After the bar of what later loads sent.
     Later,
-    /// The bar ends, of what a later visit sends.
+    /// After the bar of what a later visit sends.
     Visit,
-    /// What was sent of what a cache could answer follows.
+    /// Before the bytes sent that a cache could have answered.
     Asked,
-    /// What later loads sent of that follows.
+    /// Before the part of them that later loads sent.
     And,
-    /// An item ends, and the next number begins.
+    /// After that item, and before the next number.
     AskedEnd,
-    /// An item ends, and the next number begins.
+    /// After any other item, and before the next number.
     Next,
-    /// The bar ends, of the first urls.
+    /// After the bar of the first urls.
     Urls,
-    /// How many in a hundred they are follows.
+    /// Before their share in percent.
     Share,
-    /// It is a share of what the later loads sent.
+    /// The share is of what the later loads sent.
     OfLater,
-    /// It is a share of what a later visit sends.
+    /// The share is of what a later visit sends.
     OfVisit,
-    /// What changed headers spare follows.
+    /// Before what changed headers spare.
     Changed,
-    /// The bar ends, of what needs nothing.
+    /// After the bar of the requests that need nothing.
     Fresh,
-    /// How many requests are repeated follows.
+    /// Before the number of repeated requests.
     Repeated,
-    /// What that spares follows.
+    /// Before what that spares.
     Saved,
-    /// The list ends.
+    /// After the list.
     End,
 }
 

@@ -1,35 +1,35 @@
-//! The timeline of a page.
+//! The texts of the timeline.
 ghost use Rattle.std.specs.Prelude.{◌≡◌};
 ghost use Rattle.http_cache_page.specs.Constants.{timeline_text};
 
 /// A fixed text of the timeline.
 #[derive(Clone, Copy)]
 pub enum TimelineText {
-    /// The section begins, and the letters are explained.
+    /// The start of the section and of the explanation.
     Head,
-    /// The explanation of a letter begins.
+    /// Before the explanation of a letter.
     KeyItem,
-    /// How many requests have it follows.
+    /// Before the number of its requests.
     KeyCount,
-    /// The explanation of a letter ends.
+    /// After the explanation of a letter.
     KeyEnd,
-    /// The explanation ends.
+    /// After the explanation.
     Loads,
-    /// The number of a load follows.
+    /// Before the number of a load.
     Load,
-    /// Its url follows.
+    /// Before its url.
     Url,
-    /// How many requests it has follows.
+    /// Before the number of its requests.
     Requests,
-    /// What was sent follows.
+    /// Before the bytes that were sent.
     Sent,
-    /// The requests of a load follow.
+    /// Before the requests of a load.
     Lane,
-    /// A request ends.
+    /// After a request.
     ItemEnd,
-    /// A load ends.
+    /// After a load.
     LaneEnd,
-    /// The section ends.
+    /// After the section.
     End,
 }
 

@@ -1,11 +1,11 @@
-//! The section of later visits.
+//! The texts of the section on later visits.
 ghost use Rattle.std.specs.Prelude.{◌≡◌};
 ghost use Rattle.http_cache_page.specs.Constants.{visits_text};
 
-/// A fixed text of later visits.
+/// A fixed text of the section on later visits.
 #[derive(Clone, Copy)]
 pub enum VisitText {
-    /// The section begins.
+    /// The start of the section.
     Head,
     /// The visit an hour later.
     Hour,
@@ -15,63 +15,63 @@ pub enum VisitText {
     Week,
     /// The visit thirty days later.
     Month,
-    /// What it costs now follows.
+    /// Before what the visit costs now.
     Now,
-    /// The bar of what it costs then begins.
+    /// The start of the bar for what it costs then.
     Bar,
-    /// What it costs then follows.
+    /// Before what it costs then.
     Then,
-    /// How many answers are a 304 follows.
+    /// Before the number of 304 responses.
     Kilobytes,
-    /// The number of these ends.
+    /// After their number.
     Answers,
-    /// How many answers have an unknown size follows.
+    /// Before the number of responses of unknown size.
     Unknown,
-    /// The number of these ends.
+    /// After their number.
     UnknownEnd,
-    /// A visit ends.
+    /// After a visit.
     ItemEnd,
-    /// The visits end.
+    /// After the visits.
     ListEnd,
-    /// The table begins.
+    /// The start of the table.
     Table,
-    /// A row begins with its url.
+    /// Before a row's url.
     Url,
-    /// The size follows.
+    /// Before the size.
     Size,
-    /// How long it stays fresh follows.
+    /// Before the lifetime.
     Life,
-    /// Each cache guesses that.
+    /// The lifetime is heuristic, so caches differ.
     Guessed,
-    /// What the visit an hour later does follows.
+    /// Before what the visit an hour later does.
     InHour,
-    /// What the visit a day later does follows.
+    /// Before what the visit a day later does.
     InDay,
-    /// What the visit a week later does follows.
+    /// Before what the visit a week later does.
     InWeek,
-    /// What the visit thirty days later does follows.
+    /// Before what the visit thirty days later does.
     InMonth,
-    /// Nothing is asked.
+    /// The stored response is used without validation.
     Nothing,
-    /// A 304 confirms what is stored.
+    /// A 304 confirms the stored response.
     Confirmed,
-    /// A paragraph ends that counts guesses.
+    /// After a paragraph that counts heuristic lifetimes.
     Guesses,
     /// The full response is sent again.
     Again,
-    /// What to send follows.
+    /// Before what to send.
     Send,
-    /// A lifetime is to be said.
+    /// The response needs an explicit lifetime.
     Say,
-    /// The link is to be fixed.
+    /// The link has to be fixed.
     Fix,
-    /// A row ends.
+    /// After a row.
     RowEnd,
-    /// The table ends.
+    /// After the table.
     TableEnd,
-    /// What is in order follows.
+    /// Before what is in order.
     InOrder,
-    /// The section ends.
+    /// After the section.
     End,
 }
 

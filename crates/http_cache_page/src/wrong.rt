@@ -1,35 +1,35 @@
-//! The section of what looks wrong.
+//! The texts of the section on what looks wrong.
 ghost use Rattle.std.specs.Prelude.{◌≡◌};
 ghost use Rattle.http_cache_page.specs.Constants.{wrong_text};
 
-/// A fixed text of what looks wrong.
+/// A fixed text of the section on what looks wrong.
 #[derive(Clone, Copy)]
 pub enum WrongText {
-    /// The section begins.
+    /// The start of the section.
     Head,
-    /// An item begins with its url.
+    /// Before an item's url.
     Url,
-    /// What was sent follows.
+    /// Before what was sent.
     Sent,
-    /// What it should be follows.
+    /// Before what should be sent.
     Send,
-    /// What looks wrong follows.
+    /// Before what looks wrong.
     Why,
-    /// An item ends.
+    /// After an item.
     WhyEnd,
-    /// Several urls that have one response.
+    /// Several urls with one response.
     OneResponse,
-    /// What that saves follows.
+    /// Before what that saves.
     Saves,
-    /// An item ends without a reason.
+    /// After an item without a reason.
     PlainEnd,
-    /// An item ends that says by itself what looks wrong.
+    /// After an item that is its own reason.
     ItemEnd,
-    /// The list ends.
+    /// After the list.
     ListEnd,
-    /// The section ends.
+    /// After the section.
     End,
-    /// The section, if nothing looks wrong.
+    /// The whole section, if nothing looks wrong.
     Nothing,
 }
 

@@ -4,7 +4,7 @@ use Rattle.http_cache_storage.specs.declared.shelf.StoredResponse.{StoredRespons
 use Rattle.http_cache_plans.specs.declared.judge.Selected.{Selected}
 use Rattle.http_cache_plans.specs.declared.judge.Selected.TheVariants.{Fresh, Matching, Other, Nothing}
 
--- what is selected is one of the stored responses
+-- the selected response is one of the stored ones
 abbrev pub IsSelectedOf : List StoredResponse → Selected → Type 0
 IsSelectedOf stored (Fresh one) = Contains stored one.now
 IsSelectedOf stored (Matching one _) = Contains stored one.now

@@ -1,4 +1,4 @@
--- What is sent of stored responses, and what becomes of a response that was received.
+-- What a client answers with stored responses, and what it stores of received ones.
 pub mod Judge
 pub mod Plan
 pub mod Renewal

@@ -1,4 +1,4 @@
--- What becomes of a response that was received.
+-- What to do with a received response.
 use Rattle.std.specs.Prelude.{◌≡◌, ◌==◌, ◌||◌, true, ⊤, ℕ, Bool, List, length}
 use Rattle.http.specs.Request.{head_of}
 use Rattle.http.specs.declared.response.Parts.{Parts}
@@ -14,7 +14,6 @@ use Rattle.http_cache_plans.specs.declared.plan.Change.{Change}
 use Rattle.http_cache_plans.specs.declared.plan.Change.TheVariants.{Nothing, Put, Renew, Remove, RemoveTargets}
 use Rattle.http_cache_plans.specs.declared.plan.Plan.{Plan}
 
--- the change stores a new response
 abbrev pub Stores : Change → Type 0
 Stores Nothing = ⊥
 Stores (Put _ _ _ _) = ⊤
@@ -22,7 +21,7 @@ Stores (Renew _ _ _ _) = ⊥
 Stores (Remove _ _) = ⊥
 Stores (RemoveTargets _) = ⊥
 
--- the change is of the target of a text, or removes all that is stored for some targets
+-- the change is for the target with this text, or removes whole targets
 abbrev pub IsChangeOf : List ℕ → Change → Type 0
 IsChangeOf own Nothing = ⊤
 IsChangeOf own (Put target _ _ _) = text_of target ≡ own
@@ -30,22 +29,20 @@ IsChangeOf own (Renew target _ _ _) = text_of target ≡ own
 IsChangeOf own (Remove target _) = text_of target ≡ own
 IsChangeOf own (RemoveTargets _) = ⊤
 
--- the caller keeps the body
 abbrev pub IsElsewhere : Body → Type 0
 IsElsewhere (Here _) = ⊥
 IsElsewhere (Elsewhere _) = ⊤
 
--- the body is here, and is the whole of the response (RFC 9111, section 3.3)
+-- the body is in memory and complete (RFC 9111, section 3.3)
 abbrev pub IsWholeBody : Request (List ℕ) → Parts → Body → Type 0
 IsWholeBody request head (Here bytes) =
     is_complete (head_of request).method head.status (headers_of head.headers) (length bytes) ≡ true
 IsWholeBody request head (Elsewhere _) = ⊥
 
--- so it is of a response that was received
 abbrev pub IsWhole : Arrived → Type 0
 IsWhole a = IsWholeBody a.incoming.now.request.now a.head.now a.body.now
 
--- a response makes a condition of the request false only if that has one
+-- only a request with a condition can have its condition made false
 abbrev pub IsKnownPlan : Arrived → Plan → Type 0
 IsKnownPlan a plan =
     plan.is_known ≡ true

@@ -1,4 +1,4 @@
--- What is sent of a stored response.
+-- The answer by a stored response.
 use Rattle.std.specs.Prelude.{◌≡◌, ◌⊎◌, ℕ, true, Option, IfSome}
 use Rattle.http_cache_rules.specs.Conditions.{is_conditional}
 use Rattle.http_cache_fields.specs.Headers.{Headers}
@@ -9,7 +9,7 @@ abbrev pub IsConditionalReply : Headers → Option Reply → Type 0
 IsConditionalReply request reply =
     IfSome reply (λ r. r.head.status ≡ 304 → is_conditional request ≡ true)
 
--- it is of the stored response of an id, with the stored status or 304
+-- the answer is by the stored response that has the id, with its status or 304
 abbrev pub IsReplyOf : ℕ → ℕ → Option Reply → Type 0
 IsReplyOf id status reply =
     IfSome reply (λ r. (r.id.0 ≡ id) × ((r.head.status ≡ status) ⊎ (r.head.status ≡ 304)))

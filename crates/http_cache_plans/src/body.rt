@@ -1,12 +1,12 @@
-//! Where the body of a response is.
+//! The body of a response, in memory or elsewhere.
 use bytes::Bytes;
 
 /// The body of a response.
 #[derive(Debug, Drop)]
 pub enum Body {
-    /// These bytes.
+    /// The bytes of the body.
     Here(Bytes),
-    /// The caller keeps it; of this length in bytes, if that is known. Such a response is never stored.
+    /// The caller's body, with its length in bytes if known. Such a response is never stored.
     Elsewhere(Option<u64>),
 }
 

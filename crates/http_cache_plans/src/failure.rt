@@ -1,4 +1,4 @@
-//! What is done where the origin server failed.
+//! Decides what to do if the origin server failed.
 ghost use Rattle.std.specs.Prelude.{◌≡◌, IfOk};
 ghost use Rattle.http.specs.Request.{head_of};
 ghost use Rattle.http_cache_fields.specs.Headers.{headers_of};
@@ -13,16 +13,15 @@ use http_cache_storage::{ResponseId, StoredResponse};
 use jiff::Timestamp;
 use std::alloc::{AllocError, Global};
 
-/// Returns whether the origin server failed, so that a stale response may be used (RFC 5861, section
-/// 4).
+/// Returns whether the status allows a stale response instead (RFC 5861, section 4).
 pub fn is_failure(status: StatusCode) -> bool
     ensures { result ≡ is_failure status }
 {
     matches!(status.as_u16(), 500 | 502 | 503 | 504)
 }
 
-/// Returns what is sent of a stored response where the origin server failed, if that is allowed (RFC
-/// 5861, section 4).
+/// Returns the answer that a stored response yields after a failure of the origin server, if
+/// `stale_use` allows it (RFC 5861, section 4).
 pub fn stale_reply(
     alloc: Global,
     stored: &[StoredResponse],

@@ -1,4 +1,4 @@
-//! Stored responses that a response confirms: a 304, or a response to HEAD.
+//! Stored responses that a 304 or a response to HEAD confirms.
 ghost use Rattle.std.specs.Prelude.{IfOk, IfSome};
 ghost use Rattle.http_cache_plans.specs.Plan.{Stores, IsChangeOf};
 ghost use Rattle.http_cache_storage.specs.Target.{text_of};
@@ -28,8 +28,7 @@ fn compared_under(stored: &HeaderMap, received: &HeaderMap, name: HeaderName) ->
     }
 }
 
-// By the validators and the length that were received; a length alone confirms nothing (RFC 9111,
-// section 4.3.5).
+// Compares validators and length. Only a validator confirms anything (RFC 9111, section 4.3.5).
 fn compared(stored: &HeaderMap, received: &HeaderMap) -> Comparison {
     let tag = compared_under(stored, received, ETAG);
     let date = compared_under(stored, received, LAST_MODIFIED);
@@ -43,16 +42,16 @@ fn compared(stored: &HeaderMap, received: &HeaderMap) -> Comparison {
     }
 }
 
-// Which stored responses to GET a response to HEAD speaks of.
+// The responses stored for GET that a response to HEAD is about.
 #[derive(Drop)]
 struct OfHead {
-    // The newest that it confirms.
+    // The newest one that it confirms.
     same: Option<ResponseId>,
     // Those that differ from it, and older ones that it confirms.
     outdated: Vec<ResponseId>,
 }
 
-// What a response to HEAD says of a stored response, if that is one to GET that matches.
+// Compares a stored response to GET that matches the request.
 fn said_of(stored: &StoredResponse, arrived: &Arrived<'_>) -> Comparison {
     let method = stored.policy.stored_method();
     let asking = arrived.incoming.asking(method);
@@ -79,7 +78,7 @@ fn of_head(
     Ok(OfHead { same, outdated })
 }
 
-// The change by which a stored response is renewed.
+// Returns the change that renews a stored response.
 fn renewal(
     alloc: Global,
     target: Target,
@@ -103,8 +102,8 @@ fn renewal(
     }
 }
 
-/// Returns what a response to HEAD changes of what is stored for GET: what it confirms is renewed, and
-/// what differs from it is removed (RFC 9111, section 4.3.5). None if it says nothing of any.
+/// Returns how a response to HEAD changes what is stored for GET (RFC 9111, section 4.3.5). It
+/// renews what it confirms, and removes what differs. Returns `None` if it concerns nothing.
 pub fn freshened(
     alloc: Global,
     target: &Target,

@@ -1,4 +1,4 @@
-//! What the response to an unsafe request removes.
+//! Decides what the response to an unsafe request removes.
 ghost use Rattle.std.specs.Prelude.{◌≡◌, true, false, ℕ, List, IfOk};
 ghost use Rattle.http_cache_plans.specs.Plan.{Stores, IsChangeOf, is_failure};
 
@@ -10,14 +10,14 @@ use http_cache_fields::headers::first_text;
 use http_cache_storage::Target;
 use std::alloc::{AllocError, Global};
 
-// Whether a response isn't an error (RFC 9111, section 4.4).
+// Returns whether a status is a 2xx or 3xx (RFC 9111, section 4.4).
 fn is_no_error(status: StatusCode) -> bool
     ensures { is_failure status ≡ true → result ≡ false }
 {
     status.is_success() || status.is_redirection()
 }
 
-// Adds the target that a reference names, if that has the request's origin.
+// Adds the target of a reference that has the request's origin.
 fn add_named(
     alloc: Global,
     targets: &mut Vec<Target>,
@@ -33,9 +33,9 @@ fn add_named(
     }
 }
 
-/// Returns what the response to a request that isn't looked up removes: what is stored for the target
-/// of an unsafe request, and for Location and Content-Location of the same origin, if the response
-/// isn't an error (RFC 9111, section 4.4).
+/// Returns the change by the response to a request that isn't looked up. A response without an
+/// error to an unsafe request removes all that is stored for its targets: its own, and those at the
+/// same origin in Location and Content-Location (RFC 9111, section 4.4).
 pub fn invalidated(
     alloc: Global,
     request: &Request<Bytes>,

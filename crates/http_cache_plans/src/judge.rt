@@ -1,4 +1,4 @@
-//! Which of the stored responses of a target answers a request.
+//! Decides which stored response of a target answers a request.
 ghost use Rattle.std.specs.Prelude.{List, Contains};
 ghost use Rattle.http_cache_storage.specs.declared.shelf.StoredResponse.{StoredResponse};
 ghost use Rattle.http_cache_plans.specs.Judge.{IsSelectedOf};
@@ -8,20 +8,20 @@ use http_cache_policy::explain::{Explanation, Reason, StaleReason};
 use http_cache_storage::StoredResponse;
 use jiff::Timestamp;
 
-/// What is found among the stored responses.
+/// The result of a search among the stored responses.
 #[derive(Clone, Copy)]
 pub enum Selected<'a> {
-    /// One that may be used without validation.
+    /// A response that may be used without validation.
     Fresh(&'a StoredResponse),
-    /// One that answers the request once it is validated, and why it has to be.
+    /// A response that answers the request once it is validated, and why it has to be.
     Matching(&'a StoredResponse, Explanation<'a>),
-    /// None that does; of the newest one, why.
+    /// No usable response; why the newest one isn't.
     Other(Explanation<'a>),
-    /// None at all.
+    /// No stored response at all.
     Nothing,
 }
 
-// Whether a stored response isn't for the request at all.
+// Returns whether a stored response isn't for the request at all.
 fn is_mismatch(reason: Reason<'_>) -> bool {
     matches!(
         reason,
@@ -29,7 +29,7 @@ fn is_mismatch(reason: Reason<'_>) -> bool {
     )
 }
 
-// What is found once one more is looked at that isn't fresh.
+// Returns the better of the result so far and one more response that isn't fresh.
 fn better<'a>(
     so_far: Selected<'a>,
     stored: &'a StoredResponse,
@@ -46,9 +46,9 @@ fn better<'a>(
     }
 }
 
-// Why a stored response isn't used for a request without validation. A stale one that forbids to be
-// used stale isn't, although the library lets `max-stale` pass s-maxage and proxy-revalidate (RFC 9111,
-// section 4.2.4). No detail is given for it: the response forbids it, not the request.
+// Returns why a stored response may not be used without validation. A stale one that forbids such
+// use never may (RFC 9111, section 4.2.4), although the library lets `max-stale` override s-maxage
+// and proxy-revalidate. It has no detail: the response forbids it, not the request.
 fn explained<'a>(
     stored: &'a StoredResponse,
     incoming: &'a Incoming<'a>,
@@ -67,8 +67,8 @@ fn explained<'a>(
     said
 }
 
-/// Returns the newest stored response that may be used, else the newest that answers the request once
-/// it is validated, else none (RFC 9111, sections 4 and 4.1).
+/// Returns the newest stored response that may be used, else the newest one that may be used after
+/// validation, else why there is none (RFC 9111, sections 4 and 4.1).
 pub fn select<'a>(
     stored: &'a [StoredResponse],
     incoming: &'a Incoming<'a>,

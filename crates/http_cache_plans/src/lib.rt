@@ -1,6 +1,6 @@
-//! What a caching client decides over the stored responses of a target, without a shelf: which one
-//! answers a request, what is sent of it, and what becomes of a response that was received (RFC 9110,
-//! 9111, 5861 and 9211).
+//! What a caching client decides about the stored responses of a target, without a shelf: which one
+//! answers a request, what the answer is, and what to store of a received response (RFC 9110, 9111,
+//! 5861 and 9211).
 #![tactic(auto)]
 
 pub mod body;

@@ -1,7 +1,7 @@
-//! What is stored of a response that was received.
+//! Decides what to store of a received response. It reads what the shelf showed, and plans one
+//! change of the shelf as the last step.
 //!
-//! All here is decided over what was read of the shelf, and the shelf is changed by one step at the
-//! end. After a policy is made nothing here can fail, so that a policy is dropped at few places.
+//! Nothing fails once a policy is made, so a policy is dropped at few places.
 ghost use Rattle.std.specs.Prelude.{◌≡◌, true, false, IsSome, IfOk};
 ghost use Rattle.http_cache_plans.specs.Plan.{Stores, IsChangeOf, IsElsewhere, IsWhole, IsKnownPlan};
 ghost use Rattle.http_cache_storage.specs.Target.{text_of};
@@ -24,11 +24,11 @@ use std::alloc::{AllocError, Global};
 /// A change of the shelf.
 #[derive(Drop)]
 pub enum Change {
-    /// None.
+    /// No change.
     Nothing,
-    /// A response is stored, and the superseded ones are removed.
+    /// Stores a response, and removes the superseded ones.
     Put {
-        /// For this target.
+        /// The target of the response.
         target: Target,
         /// The ids of the superseded responses.
         superseded: Vec<ResponseId>,
@@ -37,9 +37,9 @@ pub enum Change {
         /// The body.
         body: Bytes,
     },
-    /// A stored response has another policy, and the superseded ones are removed.
+    /// Replaces the policy of a stored response, and removes the superseded ones.
     Renew {
-        /// Of this target.
+        /// The target of the responses.
         target: Target,
         /// The ids of the superseded responses.
         superseded: Vec<ResponseId>,
@@ -48,14 +48,14 @@ pub enum Change {
         /// Its new policy.
         policy: CachePolicy,
     },
-    /// Stored responses are removed.
+    /// Removes stored responses.
     Remove {
-        /// Of this target.
+        /// The target of the responses.
         target: Target,
         /// Their ids.
         ids: Vec<ResponseId>,
     },
-    /// All that is stored for these targets is removed.
+    /// Removes all that is stored for these targets.
     RemoveTargets(Vec<Target>),
 }
 
@@ -64,33 +64,33 @@ pub enum Change {
 pub enum Settled {
     /// A response is stored.
     Stored,
-    /// None is.
+    /// No response is stored.
     NotStored,
-    /// The shelf failed, and has what it had.
+    /// The shelf failed, and nothing changed.
     Failed,
 }
 
-/// What becomes of a response that was received.
+/// What to do with a received response.
 #[derive(Drop)]
 pub struct Plan {
-    /// What is changed on the shelf.
+    /// The change of the shelf.
     pub change: Change,
-    /// What is left of the lifetime of the response that is stored.
+    /// The remaining lifetime of the stored response.
     pub left: Option<TimeLeft>,
-    /// Why it isn't stored, where that isn't said by its own fields.
+    /// The reason why it isn't stored, unless its own fields say so.
     pub detail: Option<&'static str>,
-    /// Whether Cache-Status says that the response is stored, if the shelf takes it.
+    /// Whether Cache-Status says `stored` if the shelf takes the response.
     pub says_stored: bool,
-    /// Whether it makes the client's own condition false.
+    /// Whether the response makes the client's own condition false.
     pub is_known: bool,
 }
 
-/// When a request was sent, and when its response was received.
+/// The times of a request and its response.
 #[derive(Clone, Copy, Debug, PartialEq, Eq)]
 pub struct Times {
-    /// When the request was sent.
+    /// The time at which the request was sent.
     pub sent: Timestamp,
-    /// When the response was received.
+    /// The time at which the response was received.
     pub received: Timestamp,
 }
 
@@ -105,12 +105,12 @@ pub struct Arrived<'a> {
     pub body: &'a Body,
     /// The stored response that it replaces.
     pub id: Option<ResponseId>,
-    /// When the request was sent and the response received.
+    /// The times of the request and the response.
     pub times: &'a Times,
 }
 
 impl Plan {
-    /// Returns a plan for a change that stores nothing of the received response.
+    /// Returns a plan with a change that stores nothing of the received response.
     pub fn of(change: Change) -> Plan
         ensures change { result.change ≡ change }
         ensures known { result.is_known ≡ false }
@@ -124,7 +124,7 @@ impl Plan {
         }
     }
 
-    /// Returns a plan that changes nothing, with a reason for Cache-Status if there is one.
+    /// Returns a plan that changes nothing, with an optional reason for Cache-Status.
     pub fn nothing(detail: Option<&'static str>) -> Plan
         ensures change { result.change ≡ Change.Nothing }
         ensures known { result.is_known ≡ false }
@@ -139,9 +139,9 @@ impl Plan {
     }
 }
 
-// Whether a stored response gives way to the received one: it is the one that is replaced, or is to the
-// same method and matches the request, or can't be used again.
-fn gives_way(stored: &StoredResponse, arrived: &Arrived<'_>) -> bool {
+// Returns whether the received response supersedes a stored one. It does if they have one method,
+// and it replaces the stored one or its request matches; or if the stored one can't be used again.
+fn is_superseded(stored: &StoredResponse, arrived: &Arrived<'_>) -> bool {
     let asking = arrived.incoming.as_received();
     let is_same_method = *stored.policy.stored_method() == *arrived.incoming.request().method();
     let is_replaced = arrived.id == Some(stored.id);
@@ -149,7 +149,6 @@ fn gives_way(stored: &StoredResponse, arrived: &Arrived<'_>) -> bool {
         || !can_be_used_again(&stored.policy, arrived.times.received)
 }
 
-// The stored responses that give way to the received one.
 fn superseded(
     alloc: Global,
     stored: &[StoredResponse],
@@ -157,14 +156,14 @@ fn superseded(
 ) -> Result<Vec<ResponseId>, AllocError> {
     let mut ids = Vec::new(alloc);
     for one in stored {
-        if gives_way(one, arrived) {
+        if is_superseded(one, arrived) {
             ids.push(one.id)?;
         }
     }
     Ok(ids)
 }
 
-// The policy of a response, of the time at which its request was sent.
+// Returns a policy whose response time is the time at which the request was sent.
 fn policy_of(
     alloc: Global,
     arrived: &Arrived<'_>,
@@ -182,7 +181,7 @@ fn policy_of(
     CachePolicy::new_options(alloc, &asking, &head, times.sent, *options)
 }
 
-// What becomes of a response with a policy, where its body is at hand.
+// Plans what to do with a response whose body is in memory.
 fn plan_for(
     target: Target,
     superseded: Vec<ResponseId>,
@@ -228,7 +227,7 @@ fn plan_for(
     }
 }
 
-// A copy of the body, where it is here.
+// Returns a copy of the body if it is in memory.
 fn copy_of_body(body: &Body) -> Result<Option<Bytes>, AllocError>
     ensures { IfOk result (λ copy. IsSome copy → ¬ (IsElsewhere body.now)) }
 {
@@ -238,7 +237,7 @@ fn copy_of_body(body: &Body) -> Result<Option<Bytes>, AllocError>
     }
 }
 
-// Whether a response was received whole, as far as its body is here.
+// Returns whether the body is complete, if it is in memory (RFC 9111, section 3.3).
 fn is_whole(arrived: &Arrived<'_>) -> bool
     ensures { result ≡ true → ¬ (IsElsewhere arrived.now.body.now) → IsWhole arrived.now }
 {
@@ -253,7 +252,7 @@ fn is_whole(arrived: &Arrived<'_>) -> bool
     }
 }
 
-// Why no policy is made of a response.
+// Returns the plan for a response of which no policy can be made.
 fn unfit(cause: CacheError) -> Result<Plan, AllocError>
     ensures change { IfOk result (λ plan. plan.change ≡ Change.Nothing) }
     ensures known { IfOk result (λ plan. plan.is_known ≡ false) }
@@ -266,9 +265,12 @@ fn unfit(cause: CacheError) -> Result<Plan, AllocError>
     }
 }
 
-/// Returns what becomes of the response to a request that is looked up: it is stored if it was received
-/// whole and may be stored (RFC 9111, sections 3 and 3.3). What is stored and matches the request, or
-/// can't be used again, is removed, even if the new response isn't stored.
+/// Returns the plan for the response to a request that is looked up. It is stored if it was
+/// received whole and may be stored (RFC 9111, sections 3 and 3.3).
+///
+/// Stored responses that match the request or can't be used again are removed, even if the new one
+/// isn't stored. Nothing is removed for a 206, a 304, an incomplete response, or one of which no
+/// policy can be made.
 pub fn plan_of(
     alloc: Global,
     target: Target,

@@ -6,7 +6,7 @@ ghost use Rattle.http_cache_plans.specs.Plan.{IsElsewhere};
 use crate::body::Body;
 use crate::plan::Settled;
 use crate::reply::not_modified;
-use crate::report::{line_of, set_line};
+use crate::report::{cache_status_of, set_cache_status};
 use bytes::Bytes;
 use http::{HeaderMap, HeaderValue, Response};
 use http_cache_messages::head::add_date;
@@ -17,14 +17,18 @@ use std::alloc::{AllocError, Global};
 
 /// The values of Cache-Status for the outcomes of a change.
 #[derive(Drop)]
-pub struct Lines {
-    /// A response is stored.
+pub struct CacheStatuses {
+    /// For a response that is stored.
     pub stored: HeaderValue,
-    /// The shelf failed.
+    /// For a shelf that failed.
     pub failed: HeaderValue,
 }
 
-fn lines_of(alloc: Global, headers: &HeaderMap, member: &Member<'_>) -> Result<Lines, AllocError> {
+fn cache_statuses_of(
+    alloc: Global,
+    headers: &HeaderMap,
+    member: &Member<'_>,
+) -> Result<CacheStatuses, AllocError> {
     let stored = Member {
         stored: true,
         ..*member
@@ -34,16 +38,20 @@ fn lines_of(alloc: Global, headers: &HeaderMap, member: &Member<'_>) -> Result<L
         detail: Some("shelf failed"),
         ..*member
     };
-    Ok(Lines {
-        stored: line_of(alloc, headers, &stored)?,
-        failed: line_of(alloc, headers, &failed)?,
+    Ok(CacheStatuses {
+        stored: cache_status_of(alloc, headers, &stored)?,
+        failed: cache_status_of(alloc, headers, &failed)?,
     })
 }
 
-/// Returns the value of Cache-Status for the outcome of a change, unless it is that no response is
-/// stored.
-pub fn line_for(lines: Lines, settled: Settled, says_stored: bool) -> Option<HeaderValue> {
-    let Lines { stored, failed } = lines;
+/// Returns the value of Cache-Status for the outcome of a change, or `None` if the value that is
+/// already there is right.
+pub fn cache_status_for(
+    cache_statuses: CacheStatuses,
+    settled: Settled,
+    says_stored: bool,
+) -> Option<HeaderValue> {
+    let CacheStatuses { stored, failed } = cache_statuses;
     match settled {
         Settled::Stored if says_stored => Some(stored),
         Settled::Failed => Some(failed),
@@ -51,16 +59,15 @@ pub fn line_for(lines: Lines, settled: Settled, says_stored: bool) -> Option<Hea
     }
 }
 
-/// Returns a received response as it is sent before it is known whether it is stored: with a Date, and
-/// as a 304 if it makes the client's own condition false; and what Cache-Status says once that is
-/// known.
+/// Returns the answer by a received response, and its Cache-Status for each outcome of storing it.
+/// The answer has a Date, and is a 304 if it makes the client's own condition false.
 pub fn prepared(
     alloc: Global,
     response: Response<Body>,
     member: &Member<'_>,
     is_known: bool,
     received: Timestamp,
-) -> Result<(Response<Body>, Lines), AllocError>
+) -> Result<(Response<Body>, CacheStatuses), AllocError>
     ensures status { IfOk result (λ made. (head_of made.0).status ≡ 304
         → (is_known ≡ true) ⊎ ((head_of response).status ≡ 304)) }
     ensures body { IfOk result (λ made. IsElsewhere (body_of made.0) → IsElsewhere (body_of response)) }
@@ -71,8 +78,8 @@ pub fn prepared(
         head = not_modified(alloc, &head)?;
         body = Body::Here(Bytes::new());
     }
-    let line = line_of(alloc, &head.headers, member)?;
-    let lines = lines_of(alloc, &head.headers, member)?;
-    set_line(&mut head.headers, line)?;
-    Ok((Response::from_parts(head, body), lines))
+    let cache_status = cache_status_of(alloc, &head.headers, member)?;
+    let cache_statuses = cache_statuses_of(alloc, &head.headers, member)?;
+    set_cache_status(&mut head.headers, cache_status)?;
+    Ok((Response::from_parts(head, body), cache_statuses))
 }

@@ -1,4 +1,4 @@
-//! Stored responses that a 304 confirms.
+//! Stored responses that a 304 confirms (RFC 9111, section 4.3.4).
 ghost use Rattle.std.specs.Prelude.{◌≡◌, false, IfOk, IfSome};
 ghost use Rattle.http_cache_plans.specs.Plan.{Stores, IsChangeOf};
 ghost use Rattle.http_cache_storage.specs.Target.{text_of};
@@ -16,13 +16,14 @@ use http_cache_storage::{ResponseId, StoredResponse, Target};
 use jiff::Timestamp;
 use std::alloc::{AllocError, Global};
 
-/// Returns the stored response of an id.
+/// Returns the stored response that has the id.
 pub fn of_id(stored: &[StoredResponse], id: ResponseId) -> Option<&StoredResponse> {
     stored.iter().find(|one| one.id == id)
 }
 
-/// Returns the policy of a stored response that was confirmed, of the time at which its validation was
-/// sent: with the fields that were received, new names too (RFC 9111, sections 3.2 and 4.3.4).
+/// Returns the new policy of a stored response after a 304. It has the received fields, even with
+/// new names (RFC 9111, sections 3.2 and 4.3.4). Its response time is the time at which the
+/// validation was sent.
 pub fn renewed(
     alloc: Global,
     policy: &CachePolicy,
@@ -40,17 +41,16 @@ pub fn renewed(
     CachePolicy::new_options(alloc, &asking, &head, times.sent, *options)
 }
 
-/// What is sent of a stored response that a 304 confirmed, and what becomes of it.
+/// The answer by a stored response that a 304 confirmed, and what to do with that response.
 #[derive(Drop)]
 pub struct Renewal {
-    /// What is sent.
+    /// The answer.
     pub reply: Reply,
-    /// What becomes of the stored response.
+    /// The change of the stored response.
     pub plan: Plan,
 }
 
-// A renewed policy takes the place of the stored one, which is removed if the renewed response may not
-// be stored.
+// Replaces the stored policy, or removes the stored response if the renewed one may not be stored.
 fn renewal_plan(
     alloc: Global,
     target: Target,
@@ -80,7 +80,7 @@ fn renewal_plan(
     Plan::of(Change::Remove { target, ids })
 }
 
-// The renewal by a policy. A fallible step borrows the policy, so that it is dropped in one place.
+// Returns the renewal by a policy. Fallible steps borrow it, so that it is dropped only here.
 fn renewal_by(
     alloc: Global,
     target: Target,
@@ -110,8 +110,8 @@ fn renewal_by(
     }
 }
 
-/// Returns the renewal of a stored response by a 304 (RFC 9111, section 4.3.4), or None if that isn't
-/// for it, or the stored response can't be renewed.
+/// Returns the renewal of a stored response by a 304 (RFC 9111, section 4.3.4). Returns `None` if
+/// the 304 doesn't confirm it or it can't be renewed.
 pub fn renewal_of(
     alloc: Global,
     target: &Target,

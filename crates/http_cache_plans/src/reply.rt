@@ -34,22 +34,21 @@ const FIELDS_OF_304: [HeaderName; 9] = [
     VARY,
 ];
 
-/// What is sent of a stored response.
+/// The answer by a stored response.
 #[derive(Drop)]
 pub struct Reply {
     /// The id of the stored response.
     pub id: ResponseId,
-    /// The head that is sent.
+    /// The head to send.
     pub head: response::Parts,
     /// Whether the stored body is sent too.
     pub needs_body: bool,
-    /// The stored body, where it is sent and the shelf has it at hand.
+    /// The stored body, if it is sent and in memory.
     pub body: Option<Bytes>,
-    /// What is left of the lifetime.
+    /// The remaining lifetime.
     pub left: TimeLeft,
 }
 
-// Copies the lines of one name.
 fn copy_lines(from: &HeaderMap, name: &HeaderName, to: &mut HeaderMap) -> Result<(), AllocError> {
     for value in from.get_all(name).iter() {
         if to.append(name, value.clone()?).is_err() {
@@ -59,7 +58,7 @@ fn copy_lines(from: &HeaderMap, name: &HeaderName, to: &mut HeaderMap) -> Result
     Ok(())
 }
 
-/// Returns the head of a 304 in place of another head.
+/// Returns the head of a 304 that replaces another head.
 pub fn not_modified(alloc: Global, head: &response::Parts) -> Result<response::Parts, AllocError>
     ensures { IfOk result (λ parts. parts.status ≡ 304) }
 {
@@ -74,8 +73,8 @@ pub fn not_modified(alloc: Global, head: &response::Parts) -> Result<response::P
     })
 }
 
-// The stored fields at an age. None is of one connection, since none such was stored (RFC 9111, section
-// 3.1).
+// Returns the stored fields with an age. None is connection-specific, since no such field is stored
+// (RFC 9111, section 3.1).
 fn headers_at(alloc: Global, policy: &CachePolicy, age: Duration) -> Result<HeaderMap, CacheError> {
     let mut headers = copy_of_map(policy.stored_headers())?;
     let age = HeaderValue::from_u64(alloc, age.as_secs())?;
@@ -83,7 +82,7 @@ fn headers_at(alloc: Global, policy: &CachePolicy, age: Duration) -> Result<Head
     Ok(headers)
 }
 
-// Whether a stored response makes the request's own condition false, if it has one.
+// Returns whether the request's own condition is false (RFC 9111, section 4.3.2).
 fn is_known(policy: &CachePolicy, request: &Request<Bytes>) -> bool
     ensures { result ≡ true → is_conditional (headers_of (head_of request.now).headers) ≡ true }
 {
@@ -92,12 +91,11 @@ fn is_known(policy: &CachePolicy, request: &Request<Bytes>) -> bool
         && policy.is_not_modified_for(request)
 }
 
-/// Returns what is left of the lifetime of a stored response.
+/// Returns the remaining lifetime of a stored response.
 pub fn left_of(policy: &CachePolicy, now: Timestamp) -> TimeLeft {
     TimeLeft::of(policy.freshness().lifetime, policy.age(now))
 }
 
-// The stored body, where it is sent and at hand.
 fn body_at_hand(body: Option<&Bytes>, needs_body: bool) -> Result<Option<Bytes>, AllocError> {
     match body {
         Some(body) if needs_body => Ok(Some(body.clone()?)),
@@ -106,7 +104,7 @@ fn body_at_hand(body: Option<&Bytes>, needs_body: bool) -> Result<Option<Bytes>,
 }
 
 impl Reply {
-    // The 304 in its place. It isn't inlined, so that a hit makes no room for its values.
+    // Returns the 304 instead. It isn't inlined, so that a hit reserves no stack for its values.
     #[inline(never)]
     fn not_modified(self, alloc: Global) -> Result<Reply, AllocError>
         ensures { IfOk result (λ reply. (reply.head.status ≡ 304) × (reply.id ≡ self.id)) }
@@ -121,9 +119,11 @@ impl Reply {
         })
     }
 
-    /// Returns what a policy says is sent at `now`: a 304 if the stored response makes the client's own
-    /// condition false, else the stored head, with the body, here where it is at hand, unless the
-    /// method is HEAD (RFC 9110, sections 9.3.2 and 13.2.2). None if it can't be sent.
+    /// Returns the answer by a policy at `now`, or `None` if it can't be sent.
+    ///
+    /// It is a 304 if the stored response makes the client's own condition false (RFC 9110, section
+    /// 13.2.2). Otherwise it is the stored head, with the body unless the method is HEAD (RFC 9110,
+    /// section 9.3.2).
     pub fn of_policy(
         alloc: Global,
         id: ResponseId,
@@ -164,7 +164,8 @@ impl Reply {
         Ok(Some(reply))
     }
 
-    /// Returns what is sent of a stored response at `now`, with its body if that is sent and at hand.
+    /// Returns the answer by a stored response at `now`, with its body if that is sent and in
+    /// memory.
     pub fn of(
         alloc: Global,
         stored: &StoredResponse,

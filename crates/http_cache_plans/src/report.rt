@@ -1,4 +1,4 @@
-//! What a client says of an answer in Cache-Status (RFC 9211).
+//! What a client reports of an answer in Cache-Status (RFC 9211).
 ghost use Rattle.std.specs.Prelude.{◌≡◌, IfOk};
 ghost use Rattle.http.specs.Response.{head_of, body_of};
 
@@ -11,17 +11,17 @@ use http_cache_messages::memory::or_out_of_memory;
 use http_cache_policy::explain::{CacheOutcome, Explanation, Forward, Member, TimeLeft};
 use std::alloc::{AllocError, Global};
 
-/// Why a request is sent, for Cache-Status.
+/// The reason why a request is sent, for Cache-Status.
 #[derive(Debug, Drop)]
 pub struct Why {
-    /// The word (RFC 9211, section 2.2).
+    /// The value of `fwd` (RFC 9211, section 2.2).
     pub forward: Forward,
     /// The detail, if there is one.
     pub detail: Option<String>,
 }
 
 impl Why {
-    /// Returns a word without a detail.
+    /// Returns a reason without a detail.
     pub fn of(forward: Forward) -> Why {
         Why {
             forward,
@@ -66,7 +66,7 @@ pub fn forwarded<'a>(cache: &'a str, why: &'a Why, status: Option<StatusCode>) -
     }
 }
 
-/// Returns why a request is sent, by what was found out of a stored response.
+/// Returns why a request is sent, from the explanation of a stored response.
 pub fn why_of(alloc: Global, said: &Explanation<'_>) -> Result<Why, AllocError> {
     let forward = match said.outcome() {
         CacheOutcome::Forwarded(forward) => forward,
@@ -78,7 +78,7 @@ pub fn why_of(alloc: Global, said: &Explanation<'_>) -> Result<Why, AllocError> 
     })
 }
 
-/// Returns why a request is sent where the shelf failed.
+/// Returns the reason for a request that is sent because the shelf failed.
 pub fn shelf_failed(alloc: Global) -> Result<Why, AllocError> {
     Ok(Why {
         forward: Forward::Bypass,
@@ -86,61 +86,62 @@ pub fn shelf_failed(alloc: Global) -> Result<Why, AllocError> {
     })
 }
 
-// The members of earlier caches, each with a comma after it. A line that isn't text, or is empty, is no
-// member.
+// Returns the members of earlier caches, each followed by a comma. A line that is empty or isn't
+// text has no member.
 fn earlier_members(alloc: Global, headers: &HeaderMap) -> Result<String, AllocError> {
-    let mut line = String::new(alloc);
+    let mut cache_status = String::new(alloc);
     for value in headers.get_all(CACHE_STATUS).iter() {
         if let Ok(text) = value.to_str()
             && !text.is_empty()
         {
-            line.push_str(text)?;
-            line.push_str(", ")?;
+            cache_status.push_str(text)?;
+            cache_status.push_str(", ")?;
         }
     }
-    Ok(line)
+    Ok(cache_status)
 }
 
-// A line as a value.
-fn value_of(line: String) -> Result<HeaderValue, AllocError> {
-    match HeaderValue::from_string(line) {
+fn value_of(cache_status: String) -> Result<HeaderValue, AllocError> {
+    match HeaderValue::from_string(cache_status) {
         Ok(value) => Ok(value),
         Err(HeaderValueError::OutOfMemory | HeaderValueError::Invalid) => Err(AllocError),
     }
 }
 
-/// Returns the value of Cache-Status with a member after those of earlier caches, on one line (RFC
-/// 9211, section 2).
-pub fn line_of(
+/// Returns Cache-Status on one line, with the member last (RFC 9211, section 2).
+pub fn cache_status_of(
     alloc: Global,
     headers: &HeaderMap,
     member: &Member<'_>,
 ) -> Result<HeaderValue, AllocError> {
     let text = or_out_of_memory(member.text(alloc))?;
-    let mut line = earlier_members(alloc, headers)?;
-    if line.is_empty() {
+    let mut cache_status = earlier_members(alloc, headers)?;
+    if cache_status.is_empty() {
         return value_of(text);
     }
-    line.push_str(text.as_str())?;
-    value_of(line)
+    cache_status.push_str(text.as_str())?;
+    value_of(cache_status)
 }
 
-/// Puts a value of Cache-Status in place of the earlier lines. A full map stays without it.
-pub fn set_line(headers: &mut HeaderMap, line: HeaderValue) -> Result<(), AllocError> {
-    match insert(headers, CACHE_STATUS, line) {
+/// Replaces all lines of Cache-Status by one. A full map stays without it.
+pub fn set_cache_status(
+    headers: &mut HeaderMap,
+    cache_status: HeaderValue,
+) -> Result<(), AllocError> {
+    match insert(headers, CACHE_STATUS, cache_status) {
         Err(CacheError::Memory) => Err(AllocError),
         _ => Ok(()),
     }
 }
 
-/// Puts a value of Cache-Status in place of one that is there, for which no memory is needed.
-pub fn replace_line(headers: &mut HeaderMap, line: HeaderValue) {
+/// Replaces the value of an existing Cache-Status, which needs no memory.
+pub fn replace_cache_status(headers: &mut HeaderMap, cache_status: HeaderValue) {
     if contains_key(headers, CACHE_STATUS) {
-        replace(headers, CACHE_STATUS, line);
+        replace(headers, CACHE_STATUS, cache_status);
     }
 }
 
-/// Returns a head and a body with a member of Cache-Status.
+/// Returns a response with a head, a body and a member of Cache-Status.
 #[inline(always)]
 pub fn answer_of(
     alloc: Global,
@@ -151,7 +152,7 @@ pub fn answer_of(
     ensures status { IfOk result (λ answer. (head_of answer).status ≡ head.status) }
     ensures body { IfOk result (λ answer. body_of answer ≡ body) }
 {
-    let line = line_of(alloc, &head.headers, member)?;
-    set_line(&mut head.headers, line)?;
+    let cache_status = cache_status_of(alloc, &head.headers, member)?;
+    set_cache_status(&mut head.headers, cache_status)?;
     Ok(Response::from_parts(head, body))
 }

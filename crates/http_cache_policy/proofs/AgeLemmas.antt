@@ -1,4 +1,4 @@
--- How an age moves.
+-- How an age changes with time.
 use Rattle.std.proofs.Common.{◌≡◌, ℤ, ◌-◌, ◌-ℤ◌, ◌≤◌, ◌≤ℤ◌, pos, negsuc, arith}
 use Rattle.std.proofs.lemmas.Int.{ints}
 use borrow.Author.Differences.{up, down}
@@ -13,7 +13,6 @@ elapsed-is (negsuc n) = omega arith
 pub elapsed_rises : (a b m : ℤ) → a ≤ℤ b → elapsed_time (a -ℤ m) ≤ elapsed_time (b -ℤ m)
 elapsed_rises a b m h = omega (arith, ints, elapsed-is (a -ℤ m), elapsed-is (b -ℤ m))
 
--- an age never falls
 pub age_at-rises : (e : Exchange) (a b : ℤ) → a ≤ℤ b → age_at e a ≤ age_at e b
 unfolding age_at
 age_at-rises e a b h = let l = elapsed_rises a b e.response_time h in omega arith

@@ -1,4 +1,4 @@
--- Headers with a date beside them: what is put among them, and where they have no room.
+-- Headers with Date among them, and when they have no room for a field.
 use Rattle.std.proofs.Common.{◌≡◌, ℕ, ℤ, ◌+◌, ◌<◌, ◌≤◌, Bool, true, false, List, [], ◌∷◌, ◌++◌, length}
 use Rattle.std.proofs.Common.{cond, map}
 use Rattle.std.proofs.Common.{bytes_eq, codes, Option, Some, None, unwrap_or, is_some, refl, sym, ap, subst, ◌∙◌, ◌⊎◌}
@@ -20,8 +20,6 @@ use Rattle.http_cache_policy.specs.Fresh.{is_guessed_past_a_day, heuristic_warni
 use Rattle.http_cache_policy.specs.Fresh.{RefusesFreshHeaders}
 use Rattle.http_cache_policy.proofs.FreshLemmas.{get-insert_other}
 
--- ---- what is put among headers and taken away from them
-
 at-remove : (x : Headers) (name q : List ℕ)
     → fin.get (fin.remove x name) q ≡ cond (bytes_eq name q) None (fin.get x q)
 at-remove x name q =
@@ -32,7 +30,6 @@ at-insert : (x : Headers) (name : List ℕ) (vs : List (List ℕ)) (q : List ℕ
 at-insert x name vs q =
     fin.get-insert nat_list_cmp_total x name vs q ∙ ap (λ b. cond b (Some vs) (fin.get x q)) (ties q name)
 
--- to take a name away that isn't there changes nothing
 pub remove-absent : (x : Headers) (name : List ℕ) → IsAbsent x name → fin.remove x name ≡ x
 remove-absent x name absent =
     same_headers (fin.remove x name) x (λ q. at-remove x name q ∙ by q (bytes_eq name q) refl)
@@ -41,7 +38,7 @@ remove-absent x name absent =
     by q true e = sym (subst (λ (k : List ℕ). IsAbsent x k) ((bytes_eq-Decides name q).0 e) absent)
     by q false e = refl
 
--- one name is put there and another taken away, whichever comes first
+-- setting one name and removing another may be done in either order
 pub remove-insert : (x : Headers) (gone name : List ℕ) (vs : List (List ℕ)) → bytes_eq gone name ≡ false
     → fin.remove (fin.insert x name vs) gone ≡ fin.insert (fin.remove x gone) name vs
 remove-insert x gone name vs apart =
@@ -62,7 +59,7 @@ remove-insert x gone name vs apart =
     by q false e true k = refl
     by q false e false k = refl
 
--- what is put under a name doesn't depend on what stood there
+-- setting a name doesn't depend on its earlier values
 pub insert-over : (x : Headers) (name : List ℕ) (vs : List (List ℕ))
     → fin.insert x name vs ≡ fin.insert (fin.remove x name) name vs
 insert-over x name vs =
@@ -89,8 +86,6 @@ put_back x name vs there =
     by q true e = subst (λ (k : List ℕ). fin.get x k ≡ Some vs) ((bytes_eq-Decides name q).0 e) there
     by q false e = refl
 
--- ---- how many there are
-
 abbrev names : Headers → ℕ
 names h = length (fin.entries h)
 
@@ -108,7 +103,7 @@ names-insert_over h name vs old there =
     ∙ ap (λ o. cond (is_some o) (fin.len h) (fin.len h + 1)) there
     ∙ fin.len-entries h
 
--- x holds what h holds, and values of a date besides
+-- x has h's fields, and Date's values besides
 record HasDate (x h : Headers) : Type 0 where
   dates : List (List ℕ)
   there : fin.get x (codes "date") ≡ Some dates
@@ -137,9 +132,7 @@ beside x h is = by (fin.get x (codes "date")) refl
           all_values = ap value_count whole ∙ value_count-insert_new h (codes "date") vs gone;
         })
 
--- ---- room
-
--- a name that has room beside the date has room without it
+-- a name that has room with Date has room without it
 pub fits : (x h : Headers) (name : List ℕ) → fin.remove x (codes "date") ≡ h → bytes_eq (codes "date") name ≡ false
     → ¬ (RefusesName x name) → ¬ (RefusesName h name)
 fits x h name is apart room r =
@@ -154,7 +147,7 @@ fits x h name is apart room r =
       )
     ]
 
--- where a name has no room beside the date, the name has none, or the date has none behind it
+-- if a name has no room with Date, it has none without, or Date has none after it
 pub full : (x h : Headers) (name : List ℕ) (vs : List (List ℕ)) → fin.remove x (codes "date") ≡ h
     → length (values x (codes "date")) ≤ 1 → 0 < length vs → bytes_eq (codes "date") name ≡ false
     → bytes_eq name (codes "date") ≡ false → RefusesName x name
@@ -178,7 +171,6 @@ full x h name vs is one some apart apart_too r =
           )
     ]
 
--- a date that has room in a map has room among the headers beside it
 pub date_fits : (m : Entries FieldValue) (h : Headers) → IsHeaderMap m
     → fin.remove (headers_of m) (codes "date") ≡ h → ¬ (RefusesName (headers_of m) (codes "date"))
     → ¬ (RefusesName h (codes "date"))
@@ -204,7 +196,7 @@ date_fits m h valid is room r =
         let same : vs ≡ w ∷ ws = ap (λ o. unwrap_or o []) e in
         subst (λ (l : List (List ℕ)). 0 < length l) (sym same) (omega arith)
 
--- where few headers have no room for a date, a name has none, or the date has none behind it
+-- if few headers have no room for Date, the name has none, or Date has none after it
 pub full-before : (h : Headers) (name : List ℕ) (vs : List (List ℕ)) → value_count h ≤ 24577
     → bytes_eq name (codes "date") ≡ false → RefusesName h (codes "date")
     → RefusesName h name ⊎ RefusesName (fin.insert h name vs) (codes "date")
@@ -222,22 +214,18 @@ full-before h name vs few apart r = by (fin.get h name) refl
           inl (omega (arith, crowded, names-insert_over h name vs old e)),
         )
 
--- headers have no more values than with a date beside them
 pub few_without : (x h : Headers) → fin.remove x (codes "date") ≡ h → value_count h ≤ value_count x
 few_without x h is = elim (beside x h is) [
   | inl e ↦ omega (arith, ap value_count e.1)
   | inr d ↦ omega (arith, d.all_values)
 ]
 
--- ---- the steps to a fresh answer
-
--- what is handed on has no date
 pub filtered-no_date : (h out : Headers) → out ≡ filtered_headers h → IsAbsent out (codes "date")
 unfolding is_hop_by_hop
 filtered-no_date h out is =
     ap (λ (g : Headers). fin.get g (codes "date")) is ∙ filtered_headers-none h (codes "date") refl
 
--- a warning that is due and has no room beside the date has none without it, or the age or the date has none
+-- a due warning without room next to Date has none without it either, or Age or Date has none
 pub warning-full : (e : Exchange) (now : ℤ) (x : Headers) (dated : Bool)
     → fin.remove x (codes "date") ≡ filtered_headers e.response_headers
     → (dated ≡ false → IsAbsent x (codes "date")) → length (values x (codes "date")) ≤ 1
@@ -287,7 +275,7 @@ warning-full e now x dated is undated one few due printable refused = by dated r
               ]
         ]
 
--- and so it is with an age
+-- likewise for Age
 pub age-full : (e : Exchange) (now : ℤ) (x : Headers) → fin.remove x (codes "date") ≡ warned_headers e now
     → length (values x (codes "date")) ≤ 1 → IsPrintable now → RefusesName x (codes "age")
     → RefusesFreshHeaders e now

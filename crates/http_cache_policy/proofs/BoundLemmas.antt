@@ -1,4 +1,4 @@
--- What is asked of an age is one bound, and what follows of the verdict.
+-- The request's limits on the age are one bound, and what follows for the verdict.
 use Rattle.std.proofs.Common.{◌≡◌, ℕ, ℤ, ◌+◌, ◌*◌, ◌-◌, ◌≤◌, ◌<◌, ◌≤ℤ◌, Bool, true, false}
 use Rattle.std.proofs.Common.{not, ◌&&◌, ◌||◌, true≢false, nat_lt, nat_le, codes, List}
 use Rattle.std.proofs.Common.{Option, Some, None, option_map, option_and_then, unwrap_or}
@@ -21,8 +21,6 @@ use Rattle.http_cache_policy.specs.Bound.{bound_by_max_age, bound_to_leave}
 use Rattle.http_cache_policy.specs.Bound.{bound_by_min_fresh, bound, is_fresh_by_bound}
 use Rattle.http_cache_policy.proofs.AgeLemmas.{age_at-rises}
 
--- ---- one bound each
-
 below-lesser : (a b : Option ℕ) (age : ℕ) → is_below (lesser a b) age ≡ (is_below a age && is_below b age)
 below-lesser None b age = refl
 below-lesser (Some m) None age = grind (arith, nat_tests)
@@ -41,8 +39,7 @@ least-below None life age = refl
 least-below (Some zero) life age = grind (arith, nat_tests)
 least-below (Some (suc least)) life age = grind (arith, nat_tests)
 
--- what is let through, by whether max-stale is there and a stale response may answer, and by the
--- number
+-- by whether max-stale is present and a stale response may be used, and by its number
 let_through-below : (taken out : Bool) (more : Option ℕ) (life age : ℕ)
     → (not (nat_le life age)
     || ((taken && unwrap_or (option_map (λ seconds. nat_lt (age - life) (seconds * 1_000_000_000)) more) true)
@@ -53,8 +50,6 @@ let_through-below true true (Some n) life age = grind (arith, nat_tests)
 let_through-below true false None life age = grind (arith, nat_tests)
 let_through-below true false (Some n) life age = grind (arith, nat_tests)
 let_through-below false out more life age = grind (arith, nat_tests)
-
--- ---- the least of them
 
 pub meets-below : (e : Exchange) (asks : Asks) (age : ℕ)
     → meets e (asked_directives asks) age ≡ is_below (bound e asks) age
@@ -71,7 +66,7 @@ meets-below e asks age =
     ∙ and_comm (is_below most age && is_below least age) (is_below stale age)
     ∙ sym (below-lesser stale (lesser most least) age ∙ ap (λ b. is_below stale age && b) (below-lesser most least age))
 
--- a stored response answers exactly where its age is below the bound, and all else holds
+-- a stored response may be used exactly if its age is below the bound and all else holds
 pub is_fresh_for-by_bound : (e : Exchange) (request : RequestSeen) (now : ℤ)
     → is_fresh_for e request now ≡ is_fresh_by_bound e request now
 unfolding is_fresh_for is_fresh_by_bound
@@ -80,13 +75,11 @@ is_fresh_for-by_bound e request now =
     ap (λ b. request_matches e request && (not (has_no_cache asks) && b)) (meets-below e asks (age_at e now))
     ∙ sym (and_assoc (request_matches e request) (not (has_no_cache asks)) (is_below (bound e asks) (age_at e now)))
 
--- ---- what follows
-
 below-younger : (limit : Option ℕ) (a b : ℕ) → a ≤ b → is_below limit b ≡ true → is_below limit a ≡ true
 below-younger None a b h e = refl
 below-younger (Some n) a b h e = let k = ltb-true b n e in lt-ltb a n (omega arith)
 
--- what answers at a moment has answered at each earlier one
+-- a response that may be used at a time could be used at each earlier time
 pub is_fresh_for-earlier : (e : Exchange) (request : RequestSeen) (earlier now : ℤ) → earlier ≤ℤ now
     → is_fresh_for e request now ≡ true → is_fresh_for e request earlier ≡ true
 unfolding is_fresh_by_bound
@@ -97,7 +90,7 @@ is_fresh_for-earlier e request earlier now before met =
     ∙ and_from _ _ parts.0
     (below-younger limit (age_at e earlier) (age_at e now) (age_at-rises e earlier now before) parts.1)
 
--- what doesn't answer at a moment answers at no later one
+-- one that may not be used at a time may not be used later
 pub is_fresh_for-later : (e : Exchange) (request : RequestSeen) (now later : ℤ) → now ≤ℤ later
     → is_fresh_for e request now ≡ false → is_fresh_for e request later ≡ false
 is_fresh_for-later e request now later after unmet =
@@ -109,7 +102,7 @@ lifetime-none : (e : Exchange)
 unfolding lifetime
 lifetime-none e h = cond-true _ 0 _ h
 
--- what may not be stored, and what is never used without validation, has no lifetime
+-- a response that may not be stored, or has no-cache, has no lifetime
 alive-storable : (e : Exchange) → 0 < lifetime e
     → (is_storable e ≡ true) × (has (stored_directives e) (codes "no-cache") ≡ false)
 alive-storable e alive =
@@ -118,7 +111,7 @@ alive-storable e alive =
     (false_from_ne_true _ (λ h. omega (arith, alive, lifetime-none e h))) in
     (not-false (is_storable e) parts.0, parts.1)
 
--- so what is let through may be stored, and isn't stored with no-cache
+-- a response whose age is accepted may be stored, and has no no-cache
 let_through-storable : (e : Exchange) (ds : List Directive) (age : ℕ) → is_let_through e ds age ≡ true
     → (is_storable e ≡ true) × (has (stored_directives e) (codes "no-cache") ≡ false)
 let_through-storable e ds age = by (not (nat_le (lifetime e) age)) refl
@@ -132,7 +125,7 @@ let_through-storable e ds age = by (not (nat_le (lifetime e) age)) refl
         let parts = and_parts (is_storable e && not (has (stored_directives e) (codes "must-revalidate"))) _ out.1 in
         ((and_parts (is_storable e) _ parts.0).0, not-true (has (stored_directives e) (codes "no-cache")) parts.1)
 
--- and so is what answers
+-- likewise for a response that may be used
 pub is_fresh_for-storable : (e : Exchange) (request : RequestSeen) (now : ℤ) → is_fresh_for e request now ≡ true
     → (is_storable e ≡ true) × (has (stored_directives e) (codes "no-cache") ≡ false)
 unfolding is_fresh_for

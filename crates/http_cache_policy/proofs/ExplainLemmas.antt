@@ -1,5 +1,4 @@
--- A reason is told exactly where the stored response isn't used, and first of all those by which it
--- isn't the answer to the request.
+-- There is a reason exactly if the stored response isn't used. A mismatch is the first reason.
 use Rattle.std.proofs.Common.{◌≡◌, ℕ, ℤ, ◌-◌, Bool, true, false, not, ◌&&◌, ◌||◌, nat_lt, nat_le, List, [], ◌∷◌, ◌++◌}
 use Rattle.std.proofs.Common.{map, codes, bytes_eq, Option, Some, None, is_some, is_none, option_map, unwrap_or, refl}
 use Rattle.std.proofs.Common.{cond, if◌then◌else◌, ◌*◌, sym, ap, ◌∙◌}
@@ -32,9 +31,7 @@ use Rattle.http_cache_policy.proofs.VaryLemmas.{agrees_on, list_all-agrees_on}
 abbrev applies : Row → Bool
 applies row = row.0
 
--- ---- the rows of Vary
-
--- the row of the first name that differs is told
+-- the first name that differs is the reason
 pub first_said-varied : (stored asked : Headers) (names : List (List ℕ))
     → first_said (map (varied_row stored asked) names) ≡ option_map varies_by (find (differs_under stored asked) names)
 first_said-varied stored asked [] = refl
@@ -47,7 +44,7 @@ first_said-varied stored asked (name ∷ names) =
     by true rows later same = refl
     by false rows later same = same
 
--- the same behind the three rows in front
+-- likewise after the three rows before it
 pub mismatch-varied : (e : Exchange) (request : RequestSeen) → request.is_same_target e.target ≡ true
     → same_value (first e.request_headers (codes "host")) (first request.headers (codes "host")) ≡ true
     → bytes_eq e.method request.method ≡ true
@@ -78,8 +75,6 @@ all-varied : (stored asked : Headers) (names : List (List ℕ))
 all-varied stored asked [] = refl
 all-varied stored asked (name ∷ names) = all-varied stored asked names
 
--- ---- the rows by which the stored response isn't the answer
-
 method-mismatches : (stored asked : List ℕ) → is_mismatch (method_reason stored asked) ≡ true
 method-mismatches stored asked = by (is_get_or_head stored && is_get_or_head asked)
   where
@@ -108,8 +103,6 @@ none-mismatches e request =
     ∙ ap (λ b. target && host && b && bytes_eq e.method request.method)
     (none-varied stored request.headers (varied_names e)
     ∙ list_all-agrees_on stored request.headers (varied_names e))
-
--- ---- the rows by what is asked, and those of a stale response
 
 none-unmet : (no_cache pragma young lasts stale said short storable must_revalidate stored_no_cache : Bool)
     → (not (no_cache || (pragma || (not young || (not lasts || false))))
@@ -148,8 +141,6 @@ none-asked e asks now =
     (is_storable e) (has (stored_directives e) (codes "must-revalidate"))
     (has (stored_directives e) (codes "no-cache"))
 
--- ---- which group of rows decides
-
 abbrev by_groups : Option ReasonSeen → Option ReasonSeen → Option ReasonSeen → Option ReasonSeen
 by_groups mismatch asked stale = option_or (option_or mismatch asked) stale
 
@@ -182,13 +173,10 @@ module _ (e : Exchange) (request : RequestSeen) (now : ℤ) where
       → r ≡ reason e request now
   reason-of_stale r none met is = (λ i. by_groups (none i) (met i) (is i)) ∙ sym reason-by_groups
 
--- ---- the laws
-
 not_or : (a b : Bool) → not (a || b) ≡ (not a && not b)
 not_or true b = refl
 not_or false b = refl
 
--- no reason is told exactly where the stored response is used
 pub reason-hit : (e : Exchange) (request : RequestSeen) (now : ℤ)
     → is_none (reason e request now) ≡ is_fresh_for e request now
 unfolding reason is_fresh_for
@@ -205,7 +193,7 @@ reason-hit e request now =
     ∙ and_assoc (not (list_any applies mismatch)) (not (list_any applies asked)) (not (list_any applies stale))
     ∙ (λ i. none-mismatches e request i && none-asked e asks now i)
 
--- one of the first four is told exactly where the stored response isn't the answer
+-- a mismatch is reported exactly if the stored response doesn't match
 pub reason-mismatch : (e : Exchange) (request : RequestSeen) (now : ℤ)
     → option_map_or is_mismatch (reason e request now) false ≡ not (request_matches e request)
 reason-mismatch e request now =

@@ -1,4 +1,4 @@
--- What fresh headers hold.
+-- What fresh headers contain.
 use Rattle.std.proofs.Common.{◌≡◌, ◌≢◌, ℕ, ℤ, Bool, true, false, List, ◌∷◌}
 use Rattle.std.proofs.Common.{◌++◌, [], length, bytes_eq, codes, if◌then◌else◌}
 use Rattle.std.proofs.Common.{refl, sym, ap, ◌∙◌, inl, inr, true≢false}
@@ -26,7 +26,6 @@ pub get-insert_other : (h : Headers) (name : List ℕ) (vs : List (List ℕ)) (o
     → fin.get (fin.insert h name vs) other ≡ fin.get h other
 get-insert_other h name vs other f = fin.get-insert nat_list_cmp_total h name vs other ∙ rw (ties other name, f) refl
 
--- a hop-by-hop name other than `date` isn't there
 no_hop : (e : Exchange) (now : ℤ) (date name : List ℕ) → is_hop_by_hop name ≡ true → name ≢ codes "date"
     → IsAbsent (set (aged_headers e now) (codes "date") date) name
 unfolding is_hop_by_hop
@@ -55,7 +54,6 @@ no_hop e now date name hop other =
     by true = get-insert_other stored (codes "warning") _ name (apart (codes "warning") name hop refl)
     by false = refl
 
--- what the headers of a fresh answer are like
 pub one_age_and_date : {e : Exchange} {now : ℤ} {h : Headers} → IsFreshHeaders e now h → HasOneAgeAndDate e now h
 one_age_and_date {e} {now} {h} is = record {
   age =

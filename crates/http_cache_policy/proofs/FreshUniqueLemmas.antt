@@ -1,4 +1,4 @@
--- An exchange has one set of fresh headers at a moment.
+-- An exchange has one set of fresh headers at a time.
 use Rattle.std.proofs.Common.{◌≡◌, ℤ, codes, sym, ap, ◌∙◌}
 use Rattle.http_cache_fields.specs.Headers.{Headers, set}
 use Rattle.http_cache_rules.proofs.DateUniqueLemmas.{IsDateText-unique}

@@ -9,14 +9,14 @@ use Rattle.http_cache_fields.specs.KeptHeaders.{kept_response}
 use Rattle.http_cache_policy.specs.Exchange.{Exchange, stored_directives}
 use Rattle.http_cache_policy.specs.Kept.{kept_exchange}
 
--- what is kept of an exchange is kept whole
+-- keeping an exchange twice changes nothing more
 pub kept-settled : (e : Exchange) → kept_exchange (kept_exchange e) ≡ kept_exchange e
 unfolding kept_exchange
 kept-settled e =
     ap (λ (h : Headers). record e { response_headers = h })
     (kept_response-settled e.options.ignores_cargo_cult e.response_headers)
 
--- without cargo cult, a policy has the directives that were read, but for its five
+-- without cargo cult, a policy has the directives that were read, except for its five
 pub kept-directives : (e : Exchange)
     → e.options.ignores_cargo_cult ≡ true → has_cargo_cult (cache_control e.response_headers) ≡ true
     → stored_directives (kept_exchange e) ≡ without_cargo_cult (cache_control e.response_headers)

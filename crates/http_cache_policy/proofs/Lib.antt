@@ -1,4 +1,3 @@
--- The lemmas of this crate.
 pub mod AgeLemmas
 pub mod BesideDateLemmas
 pub mod BoundLemmas

@@ -25,12 +25,10 @@ module _ (e : Exchange) (request : RequestSeen) (response : ResponseSeen) (respo
   abbrev pub renewed_exchange : Exchange
   renewed_exchange = next_where true e request response response_time
 
-  -- the status stays
   pub next-status : renewed_exchange.status ≡ e.status
   unfolding next_where kept_exchange
   next-status = refl
 
-  -- no name is new
   pub next-adds_none : (name : List ℕ) → fin.get e.response_headers name ≡ None
       → fin.get renewed_exchange.response_headers name ≡ None
   unfolding next_where kept_exchange
@@ -38,7 +36,7 @@ module _ (e : Exchange) (request : RequestSeen) (response : ResponseSeen) (respo
       kept_response-adds_none e.options.ignores_cargo_cult (renewed_headers e.response_headers response.headers) name
       (renewed_headers-adds_none e.response_headers response.headers name none)
 
-  -- the headers of the body stay
+  -- fields that describe the body stay
   pub next-body : (name : List ℕ) → is_of_body name ≡ true → length (values e.response_headers name) ≡ 1
       → values renewed_exchange.response_headers name ≡ values e.response_headers name
   unfolding next_where kept_exchange is_of_body

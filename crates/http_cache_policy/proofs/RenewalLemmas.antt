@@ -15,7 +15,6 @@ use Rattle.http_cache_policy.specs.declared.steps.Outcome.{Outcome}
 use Rattle.http_cache_policy.specs.declared.steps.Outcome.TheVariants.{Asked, NotModified, Modified, Restarted}
 use Rattle.http_cache_policy.proofs.RunLemmas.{run-push}
 
--- an exchange with the same status and response headers is a renewal
 pub renewal-same : (e f : Exchange) → f.status ≡ e.status → f.response_headers ≡ e.response_headers → IsRenewalOf e f
 renewal-same e f status headers = record {
   status = status;
@@ -30,7 +29,7 @@ renewal-after e f g h k = record {
   body = λ name of_body one. k.body name of_body (ap length (h.body name of_body one) ∙ one) ∙ h.body name of_body one;
 }
 
--- what was seen has the status of the stored exchange
+-- the outcome has the status of the stored exchange
 step-status : (e : Exchange) (step : StepSeen) (o : Outcome) (f : Exchange)
     → IsStepOf e step o f → f.status ≡ e.status → HasStatus e.status (outcome_seen o)
 step-status e (asks r moment) (Asked (Fresh parts)) f h same = h.0.fresh.status
@@ -49,13 +48,12 @@ all-push : (P : OutcomeSeen → Type 0) (os : List OutcomeSeen) (o : OutcomeSeen
 all-push P [] o h p = (p, tt)
 all-push P (q ∷ os) o h p = (h.0, all-push P os o h.1 p)
 
--- what holds up to the exchange f where no new response takes the place of the stored one
+-- what holds up to the exchange f if no new response replaces the stored one
 pub record IsRenewedTo (e : Exchange) (steps : List StepSeen) (outcomes : List Outcome) (f : Exchange) : Type 0 where
   pub statuses : AllByRecursion (HasStatus e.status) (map outcome_seen outcomes)
   pub run : IsRunThrough (IsRenewalOf e) e steps outcomes f
   pub renewal : IsRenewalOf e f
 
--- the steps were taken, and f was reached
 pub record HasTaken (e : Exchange) (steps : List StepSeen) (outcomes : List Outcome) (f : Exchange) : Type 0 where
   pub run : IsRun e steps outcomes f
   pub renewed : has_replacement outcomes ≡ false → IsRenewedTo e steps outcomes f
@@ -68,7 +66,6 @@ last_alone : (b : Bool) → (b || false) ≡ false → b ≡ false
 last_alone true h = absurd (true≢false h)
 last_alone false h = refl
 
--- the outcomes with one more have none that takes the place of the stored response
 without_replacement : (os : List Outcome) (o : Outcome) → has_replacement (os ++ o ∷ []) ≡ false
     → (has_replacement os ≡ false) × (is_replacement (outcome_seen o) ≡ false)
 without_replacement os o h =

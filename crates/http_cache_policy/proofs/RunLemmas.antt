@@ -1,4 +1,4 @@
--- A list of steps has one run at most.
+-- A list of steps has at most one run.
 use Rattle.std.proofs.Common.{◌≡◌, ℤ, true≢false, List, [], ◌∷◌, ◌++◌, map, refl, sym, ap, ◌∙◌, subst}
 use Rattle.http.specs.declared.request.Parts.{Parts as RequestParts}
 use Rattle.http.specs.declared.response.Parts.{Parts}
@@ -18,7 +18,7 @@ use Rattle.http_cache_policy.specs.declared.before.BeforeRequest.TheVariants.{Fr
 use Rattle.http_cache_policy.specs.declared.steps.Outcome.{Outcome}
 use Rattle.http_cache_policy.specs.declared.steps.Outcome.TheVariants.{Asked, NotModified, Modified, Restarted}
 use Rattle.http_cache_policy.proofs.FreshUniqueLemmas.{IsFreshHeaders-unique}
-use Rattle.http_cache_stored.proofs.StoredLemmas.{IsStored-unique}
+use Rattle.http_cache_json.proofs.StoredLemmas.{IsStored-unique}
 
 response_seen-unique : (e : Exchange) (moment : ℤ) (p q : Parts) → IsFreshParts e moment p → IsFreshParts e moment q
     → response_seen p ≡ response_seen q
@@ -90,7 +90,6 @@ run-unique e (s ∷ steps) (o ∷ os) (p ∷ ps) f g h k =
       rest.1,
     )
 
--- one more step at the end
 pub run-push : (P : Exchange → Type 0) (e : Exchange) (steps : List StepSeen) (os : List Outcome)
     (g : Exchange) (s : StepSeen) (o : Outcome) (f : Exchange)
     → IsRunThrough P e steps os g → IsStepOf g s o f → P f → IsRunThrough P e (steps ++ s ∷ []) (os ++ o ∷ []) f

@@ -1,4 +1,4 @@
--- What follows of the use of a stale response: the seconds of a directive, and earlier moments.
+-- Stale use: the seconds of a directive, and earlier times.
 use Rattle.std.proofs.Common.{◌≡◌, ℕ, ℤ, ◌+◌, ◌*◌, ◌-◌, ◌≤◌, ◌≤ℤ◌, Bool, true, false, not, ◌&&◌, ◌||◌, nat_lt, nat_le, codes}
 use Rattle.std.proofs.Common.{List, Option, Some, None, option_map, option_and_then, unwrap_or, refl, sym, ap, ◌∙◌, arith, true≢false}
 use Rattle.std.proofs.lemmas.Bool.{and_parts, and_from}
@@ -21,13 +21,10 @@ use Rattle.http_cache_policy.specs.StaleUse.{lets_while_revalidate, lets_if_erro
 use Rattle.http_cache_policy.proofs.AgeLemmas.{age_at-rises}
 use Rattle.http_cache_policy.proofs.BoundLemmas.{is_fresh_for-by_bound}
 
--- ---- the seconds of a directive
-
 number-kept : (n : Option ℕ) → number_in (said_by_number n) ≡ n
 number-kept None = refl
 number-kept (Some n) = refl
 
--- what is kept of a directive has its number
 pub number_in-under : (ds : List Directive) (name : List ℕ)
     → number_in (delta_seconds_under ds name) ≡ number_under ds name
 number_in-under ds name = by (value_under ds name)
@@ -38,15 +35,13 @@ number_in-under ds name = by (value_under ds name)
     by (Some None) = refl
     by (Some (Some text)) = number-kept (number text)
 
--- ---- where the verdict is by the bound
-
 with_open : (offered asked matched below : Bool) → (offered ≡ true → matched ≡ true)
     → (offered && not asked && not (matched && not asked && below)) ≡ (offered && not asked && not below)
 with_open false asked matched below h = refl
 with_open true true matched below h = refl
 with_open true false matched below h = ap (λ m. not (m && true && below)) (h refl)
 
--- a response may be used stale where it is open to it, no validation is asked for, and the age isn't
+-- a response may be used stale if it is offered, no validation is asked for, and the age isn't
 -- below the bound
 pub may_be_used-by_bound : (e : Exchange) (request : RequestSeen) (now : ℤ)
     → may_be_used_stale e request now
@@ -60,8 +55,6 @@ may_be_used-by_bound e request now =
     (is_below (bound e (asks_of request.headers)) (age_at e now))
     (λ offered. (and_parts (is_storable e && is_stale_at e now) (request_matches e request)
     (and_parts _ (not (forbids_stale e)) offered).0).1)
-
--- ---- whether any use is allowed
 
 nor : (a b : Bool) → b ≡ false → (a && b) ≡ false
 nor true b h = h
@@ -82,25 +75,22 @@ module _ (e : Exchange) (request : RequestSeen) (now : ℤ) where
     if_error = sym h i && lets_if_error e (asked_directives asks) (age_at e now);
   }
 
-  -- the response isn't offered for it
   pub neither-closed : offered ≡ false → record { while_revalidate = false; if_error = false } ≡ stale_use e request now
   neither-closed h =
       neither-where (ap (λ b. b && not (has_no_cache asks) && not (is_fresh_for e request now)) h)
 
-  -- the request asks for validation
   pub neither-asked : has_no_cache asks ≡ true
       → record { while_revalidate = false; if_error = false } ≡ stale_use e request now
   neither-asked h =
       neither-where (ap (λ b. b && not (is_fresh_for e request now)) (nor offered (not (has_no_cache asks)) (ap not h)))
 
-  -- the response answers without validation
   pub neither-below : is_below (bound e asks) (age_at e now) ≡ true
       → record { while_revalidate = false; if_error = false } ≡ stale_use e request now
   neither-below h =
       neither-where
       (may_be_used-by_bound e request now ∙ nor (offered && not (has_no_cache asks)) _ (ap not h))
 
-  -- else the seconds decide
+  -- otherwise the seconds decide
   pub used-by_seconds : offered ≡ true → has_no_cache asks ≡ false → is_below (bound e asks) (age_at e now) ≡ false
       → (whiling erring : Bool) → whiling ≡ lets_while_revalidate e (asked_directives asks) (age_at e now)
       → erring ≡ lets_if_error e (asked_directives asks) (age_at e now)
@@ -113,8 +103,6 @@ module _ (e : Exchange) (request : RequestSeen) (now : ℤ) where
         while_revalidate = (w ∙ ap (λ b. b && lets_while_revalidate e (asked_directives asks) (age_at e now)) (sym may)) i;
         if_error = (r ∙ ap (λ b. b && lets_if_error e (asked_directives asks) (age_at e now)) (sym may)) i;
       }
-
--- ---- neither use while fresh
 
 none-while : (held fresh more : Bool) → fresh ≡ true → (held && not fresh && more) ≡ false
 none-while held true more h = by held
@@ -133,8 +121,6 @@ neither-while_fresh e request now fresh =
       none-while offered (is_fresh_for e request now) (lets_while_revalidate e asked (age_at e now)) fresh,
       none-while offered (is_fresh_for e request now) (lets_if_error e asked (age_at e now)) fresh,
     )
-
--- ---- earlier moments
 
 within-younger : (more : Option ℕ) (life a b : ℕ) → a ≤ b
     → unwrap_or (option_map (λ seconds. nat_lt b (life + seconds * 1_000_000_000)) more) false ≡ true
@@ -167,7 +153,7 @@ module _ (e : Exchange) (request : RequestSeen) (earlier now : ℤ) (before : ea
   younger : age_at e earlier ≤ age_at e now
   younger = age_at-rises e earlier now before
 
-  -- what may be used so later may be used so while it is stale and not fresh
+  -- a response that may be used stale later may be used so while it is stale and not fresh
   may-earlier : may_be_used_stale e request now ≡ true → may_be_used_stale e request earlier ≡ true
   may-earlier may =
       let unasked = and_parts (is_open_to_stale e request now && not (has_no_cache (asks_of request.headers))) _ may in

@@ -1,4 +1,4 @@
--- Where a step is refused, it has no outcome.
+-- A step that returns an error has no outcome.
 use Rattle.std.proofs.Common.{◌≡◌, ℕ, ℤ, ◌<◌, suc, true≢false, List, map, take}
 use Rattle.std.proofs.Common.{drop, length, get_or, inl, inr, sym, ◌∙◌, subst}
 use Rattle.http_cache_fields.specs.Headers.{Headers, headers_of}
@@ -14,7 +14,7 @@ use Rattle.http_cache_policy.specs.declared.before.BeforeRequest.{BeforeRequest}
 use Rattle.http_cache_policy.specs.declared.before.BeforeRequest.TheVariants.{Fresh, Stale}
 use Rattle.http_cache_policy.specs.declared.steps.Outcome.{Outcome}
 use Rattle.http_cache_policy.specs.declared.steps.Outcome.TheVariants.{Asked, NotModified, Modified, Restarted}
-use Rattle.http_cache_stored.proofs.ZipLemmas.{place}
+use Rattle.http_cache_json.proofs.ZipLemmas.{map_around}
 use Rattle.http_cache_policy.proofs.RenewalLemmas.{HasTaken}
 
 full-no_headers : (e : Exchange) (now : ℤ) (h : Headers) → RefusesFreshHeaders e now → ¬ (IsFreshHeaders e now h)
@@ -76,7 +76,7 @@ undated-no_outcome e (receives r s now) undated (Modified parts) f is =
 undated-no_outcome e (receives r s now) undated Restarted f is = is.0
 undated-no_outcome e restarts undated o f is = undated
 
--- the steps up to a place were taken, and the one there has no outcome
+-- the steps up to an index were taken, and the one there has no outcome
 pub stops_at : {A : Type 0} (seen : A → StepSeen) (Cause : Exchange → StepSeen → Type 0) (e : Exchange)
     (steps : List A) (i : ℕ) (s : A) (os : List Outcome) (g : Exchange) → i < length steps → s ≡ get_or steps i s
     → HasTaken e (map seen (take i steps)) os g → Cause g (seen s) → HasNoOutcome g (seen s)
@@ -85,7 +85,7 @@ stops_at seen Cause e steps i s os g lt is taken cause stops = record {
   before = map seen (take i steps);
   step = seen s;
   after = map seen (drop (suc i) steps);
-  cut = place seen steps i s lt is;
+  cut = map_around seen steps i s lt is;
   outcomes = os;
   reached = g;
   run = taken.run;

@@ -8,32 +8,27 @@ use Rattle.http_cache_policy.specs.declared.after.AfterResponse.{AfterResponse}
 use Rattle.http_cache_policy.specs.declared.after.AfterResponse.TheVariants.{NotModified, Modified}
 use Rattle.http_cache_policy.specs.Exchange.{Exchange}
 
--- the answer is the stored response
 abbrev pub is_fresh : BeforeRequest → Bool
 is_fresh (Fresh parts) = true
 is_fresh (Stale request matches) = false
 
--- P holds of a fresh answer
 abbrev pub WhereFresh : (ResponseParts → Type 0) → BeforeRequest → Type 0
 WhereFresh P (Fresh parts) = P parts
 WhereFresh P (Stale request matches) = Unit {0}
 
--- P holds of a stale answer
 abbrev pub WhereStale : (RequestParts → Bool → Type 0) → BeforeRequest → Type 0
 WhereStale P (Fresh parts) = Unit {0}
 WhereStale P (Stale request matches) = P request matches
 
--- the stored body still holds
 abbrev pub is_not_modified : AfterResponse → Bool
 is_not_modified (NotModified policy parts) = true
 is_not_modified (Modified policy parts) = false
 
--- the exchange from then on
 abbrev pub policy_in : AfterResponse → Exchange
 policy_in (NotModified policy parts) = policy
 policy_in (Modified policy parts) = policy
 
--- what goes to the client
+-- what is sent to the client
 abbrev pub parts_in : AfterResponse → ResponseParts
 parts_in (NotModified policy parts) = parts
 parts_in (Modified policy parts) = parts

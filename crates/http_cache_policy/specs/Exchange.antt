@@ -1,10 +1,9 @@
--- The exchange of a request and the response that came for it.
+-- The exchange of a request and its response.
 use Rattle.std.specs.Prelude.{ℤ}
 use Rattle.http_cache_rules.specs.Options.{Options}
 pub use Rattle.http_cache_rules.specs.Exchange.{Exchange, exchange_code, stored_directives, request_directives}
 use Rattle.http_cache_rules.specs.Messages.{RequestSeen, ResponseSeen}
 
--- the exchange of a request and the response that came for it
 abbrev pub exchange_of : RequestSeen → ResponseSeen → Options → ℤ → Exchange
 exchange_of request response options response_time = record {
   target = request.target;

@@ -1,5 +1,5 @@
--- Why a stored response isn't used for a request without validation: one table of reasons, of which
--- the first that applies is told. It is used where none does.
+-- Why a stored response isn't used without validation: the first reason of a table that applies. It
+-- is used if none does.
 use Rattle.std.specs.Prelude.{ℕ, ℤ, ◌-◌, Bool, false, not, ◌&&◌, ◌||◌, nat_le, List, [], ◌∷◌, ◌++◌, map, codes, bytes_eq}
 use Rattle.std.specs.Prelude.{Option, option_map, unwrap_or, if◌then◌else◌}
 use Rattle.http_cache_fields.specs.Text.{contains}
@@ -21,30 +21,28 @@ use Rattle.http_cache_policy.specs.Exchange.{Exchange, stored_directives}
 use Rattle.http_cache_policy.specs.Age.{age_at}
 use Rattle.http_cache_policy.specs.Match.{varied_names}
 
--- a row of the table: where it applies, and the reason that it tells
 abbrev pub Row : Type 0
 Row = Bool × ReasonSeen
 
--- the name is `*`, or two requests have other first values under it (RFC 7234, section 4.1)
+-- the name is `*`, or the first values under it differ (RFC 7234, section 4.1)
 abbrev pub differs_under : Headers → Headers → List ℕ → Bool
 differs_under stored asked name =
     bytes_eq (codes "*") name || not (same_value (first_under stored name) (first_under asked name))
 
--- the row of a name that the stored response varies by
 abbrev pub varied_row : Headers → Headers → List ℕ → Row
 varied_row stored asked name = (differs_under stored asked name, varies_by name)
 
--- a method of which a cache may answer the one by the other
+-- a cache may answer one of these methods by the other
 abbrev pub is_get_or_head : List ℕ → Bool
 is_get_or_head method = bytes_eq method (codes "GET") || bytes_eq method (codes "HEAD")
 
--- the reason of two methods that aren't the same (RFC 9211, section 2.2)
+-- the reason for two methods that differ (RFC 9211, section 2.2)
 abbrev pub method_reason : List ℕ → List ℕ → ReasonSeen
 method_reason stored asked =
     if is_get_or_head stored && is_get_or_head asked then other_of_get_and_head else other_method
 
--- the rows by which the stored response isn't the answer to a request (RFC 7234, section 4): another
--- target first, which Host is part of, and the method where both are the stored ones
+-- the rows of a mismatch (RFC 7234, section 4): the target with its Host, and the method if both
+-- match
 abbrev pub mismatch_rows : Exchange → RequestSeen → List Row
 mismatch_rows e request =
     let host = first e.request_headers (codes "host") in
@@ -53,11 +51,10 @@ mismatch_rows e request =
     ∷ (not (bytes_eq e.method request.method), method_reason e.method request.method)
     ∷ map (varied_row e.request_headers request.headers) (varied_names e)
 
--- the number of a directive, or 0
 abbrev pub seconds_under : List Directive → List ℕ → ℕ
 seconds_under ds name = unwrap_or (number_under ds name) 0
 
--- the rows by what a request asks of an age (RFC 7234, sections 5.2.1 and 5.4)
+-- the rows of the request's limits on the age (RFC 7234, sections 5.2.1 and 5.4)
 abbrev pub asked_rows : Exchange → Asks → ℕ → List Row
 asked_rows e asks age =
     let ds = asked_directives asks in
@@ -70,7 +67,7 @@ asked_rows e asks age =
     )
     ∷ []
 
--- the rows of a stale response, which max-stale may let out (RFC 7234, sections 4.2.4 and 5.2.1.2)
+-- the rows of a stale response that max-stale may allow (RFC 7234, sections 4.2.4 and 5.2.1.2)
 abbrev pub stale_rows : Exchange → List Directive → ℕ → List Row
 stale_rows e ds age =
     let stale = nat_le (lifetime e) age in
@@ -84,7 +81,6 @@ stale_rows e ds age =
     )
     ∷ []
 
--- the table of reasons
 abbrev pub reason_rows : Exchange → RequestSeen → ℤ → List Row
 reason_rows e request now =
     let asks = asks_of request.headers in
@@ -92,11 +88,9 @@ reason_rows e request now =
     ++ asked_rows e asks (age_at e now)
     ++ stale_rows e (asked_directives asks) (age_at e now)
 
--- the reason of the first row that applies
 unfoldable pub reason : Exchange → RequestSeen → ℤ → Option ReasonSeen
 reason e request now = first_said (reason_rows e request now)
 
--- the explanation for a request at a moment
 abbrev pub explanation : Exchange → RequestSeen → ℤ → ExplanationSeen
 explanation e request now = record {
   reason = reason e request now;

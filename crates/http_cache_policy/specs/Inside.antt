@@ -1,4 +1,4 @@
--- What lies under a policy.
+-- The representation of a policy.
 use Rattle.std.specs.Prelude.{◌≡◌, codes}
 use Rattle.std.specs.Duration.{as_nanos}
 use Rattle.http_cache_fields.specs.Directives.{has}
@@ -10,11 +10,10 @@ use Rattle.http_cache_rules.specs.Storing.{is_storable}
 use Rattle.http_cache_rules.specs.Lifetimes.{lifetime}
 use Rattle.http_cache_rules.specs.Freshness.{freshness}
 use Rattle.http_cache_policy.specs.Age.{received_age}
-use Rattle.http_cache_policy.specs.declared.policy.Found.{Found}
+use Rattle.http_cache_policy.specs.declared.policy.Findings.{Findings}
 use Rattle.http_cache_policy.specs.declared.policy.CachePolicy.TheInside.{Inside}
 
--- what is read once of an exchange
-pub record IsFoundIn (e : Exchange) (f : Found) : Type 0 where
+pub record AreFindingsIn (e : Exchange) (f : Findings) : Type 0 where
   pub no_store : f.request_no_store ≡ has (request_directives e) (codes "no-store")
   pub directives : f.directives ≡ stored_directives_of (stored_directives e)
   pub storable : f.storable ≡ is_storable e
@@ -22,7 +21,7 @@ pub record IsFoundIn (e : Exchange) (f : Found) : Type 0 where
   pub fresh : (f.source, as_nanos f.lifetime) ≡ freshness e
   pub lifetime_is : as_nanos f.lifetime ≡ lifetime e
 
--- the exchange is one that is kept, with what is read once of it
+-- the exchange is a kept one, and the findings are its
 pub record IsDerived (p : Inside) : Type 0 where
   pub settled : kept_exchange (exchange_in p.parts) ≡ exchange_in p.parts
-  pub found : IsFoundIn (exchange_in p.parts) p.found
+  pub found : AreFindingsIn (exchange_in p.parts) p.found

@@ -1,4 +1,4 @@
--- Whether a stored response is the answer to a request (RFC 7234, section 4).
+-- Whether a stored response matches a request (RFC 7234, section 4).
 use Rattle.std.specs.Prelude.{◌≡◌, ℕ, Bool, true, not, ◌&&◌, ◌||◌, List, map, codes, bytes_eq, Option}
 use Rattle.std.specs.List.{list_any}
 use Rattle.std.specs.Cmp.Lexicographic.{pointwise}
@@ -8,22 +8,20 @@ use Rattle.http_cache_fields.specs.Directives.{same_value}
 use Rattle.http_cache_rules.specs.Messages.{RequestSeen}
 use Rattle.http_cache_policy.specs.Exchange.{Exchange}
 
--- what a match looks at of a request, seen from a stored exchange
+-- the parts of a request that a match compares
 pub record NamedParts : Type 0 where
   pub same_target : Bool
   pub method : List ℕ
   pub host : Option (List ℕ)
   pub varied : List (Option (List ℕ))
 
--- the names that the stored response varies by (RFC 7231, section 7.1.4)
+-- RFC 7231, section 7.1.4
 abbrev pub varied_names : Exchange → List (List ℕ)
 varied_names e = pieces_under e.response_headers (codes "vary")
 
--- what a request's headers have under those names
 abbrev pub varied_values : Exchange → Headers → List (Option (List ℕ))
 varied_values e request = map (first_under request) (varied_names e)
 
--- the named parts of a request
 abbrev pub named_parts : Exchange → RequestSeen → NamedParts
 named_parts e request = record {
   same_target = request.is_same_target e.target;
@@ -32,13 +30,13 @@ named_parts e request = record {
   varied = varied_values e request.headers;
 }
 
--- no name is `*`, and under each the stored request has what is given (RFC 7234, section 4.1)
+-- no name is `*`, and the stored request has these values (RFC 7234, section 4.1)
 unfoldable pub vary_matches : Exchange → List (Option (List ℕ)) → Bool
 vary_matches e varied =
     not (list_any (bytes_eq (codes "*")) (varied_names e))
     && pointwise same_value (varied_values e e.request_headers) varied
 
--- the target, the Host and the method are the stored ones, and so is what the response varies by
+-- the target, the Host, the method and the values of Vary are the stored ones
 unfoldable pub matches : Exchange → NamedParts → Bool
 matches e named =
     named.same_target
@@ -50,15 +48,13 @@ matches e named =
 abbrev pub may_validate : Exchange → NamedParts → Bool
 may_validate e named = matches e named || bytes_eq named.method (codes "HEAD")
 
--- the stored response is the answer to the request
 abbrev pub request_matches : Exchange → RequestSeen → Bool
 request_matches e request = matches e (named_parts e request)
 
--- the request is for the stored target, by the stored method
+-- the request has the stored target and method
 pub record IsForStored (e : Exchange) (request : RequestSeen) : Type 0 where
   pub target : request.is_same_target e.target ≡ true
   pub method : request.method ≡ e.method
 
--- the stored response may be validated for the request
 abbrev pub validates_for : Exchange → RequestSeen → Bool
 validates_for e request = may_validate e (named_parts e request)

@@ -1,12 +1,10 @@
--- Whether a 304 answers a request's own conditions (RFC 9110, section 13.2.2, and RFC 9111, section
--- 4.3.2).
+-- Whether a 304 answers a request's conditions (RFC 9110, section 13.2.2; RFC 9111, section 4.3.2).
 use Rattle.std.specs.Prelude.{Bool, ◌&&◌, ◌||◌, ◌==◌, codes, bytes_eq}
 use Rattle.http_cache_rules.specs.Conditions.{has_stored_already}
 use Rattle.http_cache_rules.specs.Messages.{RequestSeen}
 use Rattle.http_cache_policy.specs.Exchange.{Exchange}
 
--- a GET or HEAD (RFC 9110, section 13.2.1) whose conditions say that it has the stored response, of
--- status 200, already
+-- for GET and HEAD (RFC 9110, section 13.2.1) if the client has the stored 200 already
 unfoldable pub is_not_modified_for : Exchange → RequestSeen → Bool
 is_not_modified_for e request =
     (bytes_eq request.method (codes "GET") || bytes_eq request.method (codes "HEAD"))

@@ -1,5 +1,4 @@
--- What stays of a stored exchange as long as no new response takes its place (RFC 7234, section
--- 4.3.4).
+-- What stays of a stored exchange until a new response replaces it (RFC 7234, section 4.3.4).
 use Rattle.std.specs.Prelude.{◌≡◌, ⊤, ℕ, Bool, true, false, List, map, length}
 use Rattle.std.specs.List.{AllByRecursion, list_any}
 use Rattle.http_cache_fields.specs.Headers.{values, IsAbsent}
@@ -9,7 +8,7 @@ use Rattle.http_cache_policy.specs.Steps.{StepSeen, OutcomeSeen, uses, sends, re
 use Rattle.http_cache_policy.specs.Run.{IsRunThrough}
 use Rattle.http_cache_policy.specs.declared.steps.Outcome.{Outcome}
 
--- the status stays, no name is new, and what is said once of the body stays
+-- the status stays, no name is new, and single fields of the body stay
 pub record IsRenewalOf (e f : Exchange) : Type 0 where
   pub status : f.status ≡ e.status
   pub no_new_name : (name : List ℕ) → IsAbsent e.response_headers name
@@ -18,7 +17,6 @@ pub record IsRenewalOf (e f : Exchange) : Type 0 where
       → length (values e.response_headers name) ≡ 1
       → values f.response_headers name ≡ values e.response_headers name
 
--- a new response takes the place of the stored one
 abbrev pub is_replacement : OutcomeSeen → Bool
 is_replacement (uses response) = false
 is_replacement (sends request matches) = false
@@ -26,11 +24,10 @@ is_replacement (renews response) = false
 is_replacement (replaces response) = true
 is_replacement restarted = false
 
--- some outcome is such
 abbrev pub has_replacement : List Outcome → Bool
 has_replacement outcomes = list_any is_replacement (map outcome_seen outcomes)
 
--- a response that goes to the client has the status
+-- a response that is sent to the client has the status
 abbrev pub HasStatus : ℕ → OutcomeSeen → Type 0
 HasStatus status (uses response) = response.status ≡ status
 HasStatus status (sends request matches) = ⊤
@@ -38,7 +35,7 @@ HasStatus status (renews response) = response.status ≡ status
 HasStatus status (replaces response) = response.status ≡ status
 HasStatus status restarted = ⊤
 
--- each response that goes to the client has the stored status, and behind each step the stored
+-- each response that is sent to the client has the stored status, and after each step the stored
 -- exchange is a renewal of the first
 pub record IsRenewedThrough
     (e : Exchange) (steps : List StepSeen) (outcomes : List Outcome) : Type 0 where

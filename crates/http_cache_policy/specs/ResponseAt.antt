@@ -7,16 +7,16 @@ use Rattle.http_cache_rules.specs.Forwarding.{forwarded_headers}
 use Rattle.http_cache_policy.specs.Exchange.{Exchange}
 use Rattle.http_cache_policy.specs.Fresh.{age_text}
 
--- all lines of the stored fields, its own Date among them, but for those of one connection, and the
--- age at a time (RFC 9111, section 5.1)
+-- all lines of the stored fields, the origin's Date too, without connection-specific ones, and Age
+-- (RFC 9111, section 5.1)
 unfoldable pub headers_at : Exchange → ℤ → Headers
 headers_at e now = set (forwarded_headers e.response_headers) (codes "age") (age_text e now)
 
--- Age has to be added to headers that are full
+-- there is no room for Age
 unfoldable pub RefusesAge : Exchange → Type 0
 RefusesAge e = RefusesName (forwarded_headers e.response_headers) (codes "age")
 
--- the stored response at a time: its status, HTTP/1.1 and such headers
+-- the status, HTTP/1.1 and such headers
 pub record IsResponseAt (e : Exchange) (now : ℤ) (parts : Parts) : Type 0 where
   pub status : parts.status ≡ e.status
   pub version : parts.version ≡ HTTP_11

@@ -10,35 +10,34 @@ use Rattle.http_cache_policy.specs.Steps.{StepSeen, asks, receives, restarts}
 use Rattle.http_cache_policy.specs.Run.{IsStepOf, IsRun}
 use Rattle.http_cache_policy.specs.declared.steps.Outcome.{Outcome}
 
--- a header of the answer or of the request for the origin has to be added to a map that is full
+-- a field of the answer, or of the request to the origin server, has no room in its map
 abbrev pub RefusesStep : Exchange → StepSeen → Type 0
 RefusesStep e (asks request moment) = RefusesAnswer e request moment
 RefusesStep e (receives request response moment) =
     RefusesFreshHeaders (next_exchange e request response moment) moment
 RefusesStep e restarts = ⊥
 
--- the moment can't be printed as the date of the answer
+-- the time can't be printed as the Date of the answer
 abbrev pub HasUndatedStep : Exchange → StepSeen → Type 0
 HasUndatedStep e (asks request moment) = HasUndatedAnswer e request moment
 HasUndatedStep e (receives request response moment) =
     HasNoDate (next_exchange e request response moment) moment
 HasUndatedStep e restarts = ⊥
 
--- the printed target is none
+-- no target is read from the printed one
 abbrev pub HasLostTarget : Exchange → Type 0
 HasLostTarget e = (target : Uri) → ¬ (Spells (uri_text e.target) target)
 
--- the exchange is written and can't be read back, since the printed target is none
+-- the exchange is written and can't be read back, since no target is read from the printed one
 abbrev pub LosesTarget : Exchange → StepSeen → Type 0
 LosesTarget e (asks request moment) = ⊥
 LosesTarget e (receives request response moment) = ⊥
 LosesTarget e restarts = HasLostTarget e
 
--- the step has no outcome
 abbrev pub HasNoOutcome : Exchange → StepSeen → Type 0
 HasNoOutcome e step = (outcome : Outcome) (f : Exchange) → ¬ (IsStepOf e step outcome f)
 
--- the steps before one have their outcomes, and that one has none, for the cause
+-- the earlier steps have their outcomes, and this one has none, because of the cause
 pub record StopsFor
     (Cause : Exchange → StepSeen → Type 0) (e : Exchange) (steps : List StepSeen) : Type 0 where
   pub before : List StepSeen

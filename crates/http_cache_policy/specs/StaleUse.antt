@@ -1,4 +1,4 @@
--- Which use of a stale response is allowed (RFC 5861, and RFC 9111, section 4.2.4).
+-- Which stale use is allowed (RFC 5861, and RFC 9111, section 4.2.4).
 use Rattle.std.specs.Prelude.{ℕ, ℤ, ◌+◌, ◌*◌, ◌-◌, Bool, false, not, ◌&&◌, ◌||◌, List, codes, nat_lt, Option, option_map}
 use Rattle.std.specs.Prelude.{unwrap_or}
 use Rattle.http_cache_fields.specs.Directives.{Directive, has}
@@ -13,62 +13,60 @@ use Rattle.http_cache_policy.specs.Match.{request_matches}
 use Rattle.http_cache_policy.specs.Verdict.{is_fresh_for}
 use Rattle.http_cache_policy.specs.declared.stale_use.StaleUse.{StaleUse}
 
--- the response says that it isn't used stale
+-- the response forbids stale use
 abbrev pub forbids_stale : Exchange → Bool
 forbids_stale e =
     let ds = stored_directives e in
     -- to any cache (RFC 9111, sections 5.2.2.2 and 5.2.2.4)
     has ds (codes "must-revalidate")
     || has ds (codes "no-cache")
-    -- to a shared one (RFC 9111, sections 5.2.2.8 and 5.2.2.10)
+    -- to a shared cache (RFC 9111, sections 5.2.2.8 and 5.2.2.10)
     || (e.options.shared
     && (has ds (codes "proxy-revalidate")
     || has ds (codes "s-maxage")
     -- not the RFC's: one user's cookies are withheld from another
     || has_own_cookies e.response_headers ds))
 
--- what both uses need of the response, for a request that it is the answer to
+-- what both uses require of the response and the request
 abbrev pub is_open_to_stale : Exchange → RequestSeen → ℤ → Bool
 is_open_to_stale e request now =
-    -- it may be stored (RFC 9111, section 3)
+    -- the response may be stored (RFC 9111, section 3)
     is_storable e
-    -- it is stale (RFC 9111, section 4.2)
+    -- the response is stale (RFC 9111, section 4.2)
     && is_stale_at e now
-    -- it is the answer to the request (RFC 9111, section 4)
+    -- the response matches the request (RFC 9111, section 4)
     && request_matches e request
-    -- it doesn't forbid the use (RFC 9111, section 4.2.4)
+    -- the response doesn't forbid it (RFC 9111, section 4.2.4)
     && not (forbids_stale e)
 
--- what both uses need, whatever seconds are allowed
+-- what both uses require, apart from seconds
 abbrev pub may_be_used_stale : Exchange → RequestSeen → ℤ → Bool
 may_be_used_stale e request now =
     is_open_to_stale e request now
     -- the request doesn't ask for validation (RFC 9111, sections 5.2.1.4 and 5.4)
     && not (has_no_cache (asks_of request.headers))
-    -- and max-stale doesn't let the response out anyway (RFC 9111, section 5.2.1.2)
+    -- max-stale doesn't allow the use anyway (RFC 9111, section 5.2.1.2)
     && not (is_fresh_for e request now)
 
--- the age is below the lifetime and the seconds of a directive, if those are a number
+-- the age is below the lifetime plus a directive's seconds, if that is a number
 abbrev pub is_within : Exchange → Option ℕ → ℕ → Bool
 is_within e more age =
     unwrap_or (option_map (λ seconds. nat_lt age (lifetime e + seconds * 1_000_000_000)) more) false
 
--- the response lets itself be used while it is validated, for a request that is met by its age
--- (RFC 5861, section 3, and RFC 9111, sections 5.2.1.1 and 5.2.1.3)
+-- the response may be used while it is validated, and the request's limits on the age are met (RFC
+-- 5861, section 3; RFC 9111, sections 5.2.1.1 and 5.2.1.3)
 abbrev pub lets_while_revalidate : Exchange → List Directive → ℕ → Bool
 lets_while_revalidate e asked age =
     is_within e (number_under (stored_directives e) (codes "stale-while-revalidate")) age
     && is_young_enough asked age
     && lasts_long_enough asked (lifetime e - age)
 
--- the response or the request lets it be used where the origin fails, for the longer of the two
--- (RFC 5861, section 4)
+-- the longer stale-if-error of the response and the request counts (RFC 5861, section 4)
 abbrev pub lets_if_error : Exchange → List Directive → ℕ → Bool
 lets_if_error e asked age =
     is_within e (number_under (stored_directives e) (codes "stale-if-error")) age
     || is_within e (number_under asked (codes "stale-if-error")) age
 
--- what is allowed for a request at a moment
 unfoldable pub stale_use : Exchange → RequestSeen → ℤ → StaleUse
 stale_use e request now =
     let asked = asked_directives (asks_of request.headers) in

@@ -1,4 +1,4 @@
--- The steps of a run and their outcomes, as they are seen.
+-- The steps of a run and their outcomes, as contracts see them.
 use Rattle.std.specs.Prelude.{ℤ, Bool}
 use Rattle.http_cache_rules.specs.Messages.{RequestSeen, ResponseSeen, request_seen, response_seen}
 use Rattle.http_cache_policy.specs.declared.before.BeforeRequest.{BeforeRequest}
@@ -8,13 +8,12 @@ use Rattle.http_cache_policy.specs.declared.steps.Step.TheVariants.{Ask, Receive
 use Rattle.http_cache_policy.specs.declared.steps.Outcome.{Outcome}
 use Rattle.http_cache_policy.specs.declared.steps.Outcome.TheVariants.{Asked, NotModified, Modified, Restarted}
 
--- a request that asks at a moment, a response that came at a moment for a request, or a restart
+-- a request at a time, a response received for a request at a time, or a restart
 pub data StepSeen : Type 0 where
   asks : RequestSeen → ℤ → StepSeen
   receives : RequestSeen → ResponseSeen → ℤ → StepSeen
   restarts : StepSeen
 
--- what is seen of a step, by what is seen of its messages
 abbrev pub step_seen : {Req Res : Type 0} → (Req → RequestSeen) → (Res → ResponseSeen)
     → Step Req Res → StepSeen
 step_seen request_of response_of (Ask request moment) = asks (request_of request) moment.nanosecond
@@ -22,8 +21,8 @@ step_seen request_of response_of (Receive request response moment) =
     receives (request_of request) (response_of response) moment.nanosecond
 step_seen request_of response_of Restart = restarts
 
--- a stored response that is used, a request that goes to the origin, by whether the stored response
--- matches, a stored response that still holds, a new one, or a restart
+-- the stored response is used; a request to the origin server, and whether it matches; the stored
+-- response is confirmed; a new response; a restart
 pub data OutcomeSeen : Type 0 where
   uses : ResponseSeen → OutcomeSeen
   sends : RequestSeen → Bool → OutcomeSeen
@@ -31,12 +30,10 @@ pub data OutcomeSeen : Type 0 where
   replaces : ResponseSeen → OutcomeSeen
   restarted : OutcomeSeen
 
--- what is seen of an answer to a request
 abbrev pub answer_seen : BeforeRequest → OutcomeSeen
 answer_seen (Fresh parts) = uses (response_seen parts)
 answer_seen (Stale request matches) = sends (request_seen request) matches
 
--- what is seen of an outcome
 abbrev pub outcome_seen : Outcome → OutcomeSeen
 outcome_seen (Asked answer) = answer_seen answer
 outcome_seen (NotModified parts) = renews (response_seen parts)

@@ -1,4 +1,4 @@
-//! What is stored after the origin has answered.
+//! Decides what is stored after the origin server has responded (RFC 7234, section 4.3.4).
 ghost use Rattle.std.specs.Prelude.{◌≡◌, ◌≢◌, ℕ, List, true, length, IfOk, IsErrOf, IsOkUnless};
 ghost use Rattle.http_cache_fields.specs.Headers.{headers_of, values, IsAbsent};
 ghost use Rattle.http_cache_rules.specs.Renewed.{is_of_body};
@@ -16,27 +16,25 @@ use http_cache_rules::update::renewed_headers;
 use jiff::Timestamp;
 use std::alloc::{AllocError, Global};
 
-/// What is stored and used after the origin has answered: a policy, and its status and headers as
-/// they go to the client.
+/// The policy to store after a validation, and the head of the response for the client.
 #[derive(Drop)]
 pub enum AfterResponse {
-    /// The stored body still holds, under these headers.
+    /// The stored body is still valid, under these headers.
     NotModified(CachePolicy, response::Parts),
-    /// The body is that of the new response. It may be one that can't be stored: `is_storable` of
-    /// the policy says so.
+    /// The new response's body replaces the stored one. Ask the policy's `is_storable` whether it
+    /// may be stored.
     Modified(CachePolicy, response::Parts),
 }
 
-/// What is stored after the origin has answered, by `next_policy`.
+/// The policy to store after a validation, from `next_policy`.
 #[derive(Drop)]
 pub struct NextPolicy {
-    /// Whether the stored body still holds.
+    /// Whether the stored body is still valid.
     pub not_modified: bool,
-    /// The policy from then on. It may be one that can't be stored: `is_storable` of it says so.
+    /// The policy from then on. Ask its `is_storable` whether it may be stored.
     pub policy: CachePolicy,
 }
 
-// The answer that gives a policy away.
 fn answer_with(alloc: Global, next: NextPolicy, now: Timestamp) -> Result<AfterResponse, CacheError>
     ensures selected { IfOk result (λ answer. is_not_modified answer ≡ next.not_modified) }
     ensures policy { IfOk result (λ answer. policy_in answer ≡ next.policy) }
@@ -61,13 +59,16 @@ fn answer_with(alloc: Global, next: NextPolicy, now: Timestamp) -> Result<AfterR
 }
 
 impl CachePolicy {
-    /// The policy after a response came for a request, and its headers as they go to the client
-    /// (RFC 7234, section 4.3.4). `NotModified` comes exactly where the response is a 304 that the
-    /// validators tell to be of the stored response. It is for a request that matched: the response
-    /// to another one makes a policy of its own.
+    /// Returns the policy after a response to the request, and the head for the client (RFC 7234,
+    /// section 4.3.4).
     ///
-    /// `HeaderMapFull` comes where `warning`, `age` or `date` has to be added to headers that are
-    /// full, and `DateNotPrintable` where the moment is earlier than 1900.
+    /// `NotModified` is returned exactly if the response is a 304 whose validators select the
+    /// stored response. The request has to match: make a new policy for the response to any other.
+    ///
+    /// # Errors
+    ///
+    /// `HeaderMapFull` if `warning`, `age` or `date` has no room in the headers, `DateNotPrintable`
+    /// before 1900, and `Memory`.
     pub fn after_response<Req: RequestLike, Res: ResponseLike>(
         &self,
         alloc: Global,
@@ -105,9 +106,10 @@ impl CachePolicy {
         answer_with(alloc, next, response_time)
     }
 
-    /// What `after_response` stores, without the headers as they go to the client: for a store or an
-    /// audit, which hand nothing on (RFC 7234, section 4.3.4). It is refused for want of memory
-    /// alone.
+    /// Returns the policy that `after_response` stores, without headers for a client (RFC 7234,
+    /// section 4.3.4).
+    ///
+    /// It suits a store or an audit, which send nothing. The only error is `Memory`.
     pub fn next_policy<Req: RequestLike, Res: ResponseLike>(
         &self,
         alloc: Global,
@@ -129,16 +131,15 @@ impl CachePolicy {
         })
     }
 
-    /// Returns whether a response is a 304 that selects the stored one: the test by which
-    /// `after_response` and `next_policy` tell that the stored body still holds (RFC 9111, section
-    /// 4.3.4).
+    /// Returns whether a response is a 304 that selects the stored one (RFC 9111, section 4.3.4).
+    ///
+    /// `after_response` and `next_policy` decide by it.
     pub fn is_confirmed_by<Res: ResponseLike>(&self, response: &Res) -> bool
         ensures { result ≡ selects self.now (Res.seen response.now) }
     {
         is_selected(self.stored_headers(), response.status(), response.headers())
     }
 
-    // The headers of the new response, or those of the stored one that it renews.
     fn headers_after<Res: ResponseLike>(
         &self,
         selected: bool,
@@ -154,7 +155,6 @@ impl CachePolicy {
         }
     }
 
-    // The policy of a request and what is stored for it, under the same options.
     #[tactic(auto, unfolding(crate::specs::Update::next_where))]
     fn policy_after<Req: RequestLike, Res: ResponseLike>(
         &self,

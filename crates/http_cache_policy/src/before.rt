@@ -1,4 +1,4 @@
-//! Whether a stored response answers a request, and what goes to the origin where it doesn't.
+//! Answers a request from a stored response, or makes the request to the origin server.
 ghost use Rattle.std.specs.Prelude.{◌≡◌, ◌≢◌, ◌≤ℤ◌, ℤ, true, false, bytes_eq, codes, IfOk, IsErrOf};
 ghost use Rattle.http_cache_fields.specs.Headers.{headers_of};
 ghost use Rattle.http_cache_fields.specs.Directives.{has};
@@ -24,17 +24,17 @@ use http_cache_fields::CacheError;
 use jiff::Timestamp;
 use std::alloc::Global;
 
-/// What a cache answers to a request.
+/// The cache's answer to a request.
 #[derive(Drop)]
 pub enum BeforeRequest {
-    /// The stored response may be used without validation: its status, and its headers as they go
-    /// to the client.
+    /// The stored response may be used without validation, with this head.
     Fresh(response::Parts),
-    /// The origin is to be asked.
+    /// The request has to be forwarded to the origin server.
     Stale {
-        /// The request that validates the stored response at the origin: its target and its method
-        /// are the stored ones. If `matches` is false it asks for another page than the incoming
-        /// request does, so forward the incoming request instead.
+        /// The request that validates the stored response, with the stored target and method.
+        ///
+        /// If `matches` is false, it isn't for the response that the incoming request asks for, so
+        /// forward the incoming request instead.
         request: request::Parts,
         /// Whether the stored response answers the request, once it is validated.
         matches: bool,
@@ -44,7 +44,7 @@ pub enum BeforeRequest {
 impl BeforeRequest {
     ghost use Rattle.http_cache_policy.specs.Answer.{is_fresh};
 
-    /// Whether the stored response may be used without validation: true exactly for `Fresh`.
+    /// Returns whether the answer is `Fresh`.
     pub fn satisfies_without_revalidation(&self) -> bool
         ensures { result ≡ is_fresh self.now }
     {
@@ -52,7 +52,6 @@ impl BeforeRequest {
     }
 }
 
-// Whether the method is HEAD.
 fn is_head(method: &Method) -> bool
     ensures { result ≡ bytes_eq method.now (codes "HEAD") }
 {
@@ -62,12 +61,14 @@ fn is_head(method: &Method) -> bool
 impl CachePolicy {
     ghost use Rattle.http_cache_policy.specs.Answer.{is_fresh, WhereFresh, WhereStale};
 
-    /// Whether the stored response may be used for a request at a moment without validation, and
-    /// what is to be used or sent (RFC 7234, section 4).
+    /// Returns whether the stored response may be used at `now` without validation, and what to
+    /// send (RFC 7234, section 4).
     ///
-    /// `HeaderMapFull` comes where `warning`, `age` or `date` of a fresh answer, or `if-none-match`
-    /// or `if-modified-since` of a request for the origin, has to be added to full headers.
-    /// `DateNotPrintable` comes for a fresh answer at a moment earlier than 1900.
+    /// # Errors
+    ///
+    /// `HeaderMapFull` if `warning`, `age` or `date` of a fresh answer, or `if-none-match` or
+    /// `if-modified-since` of a request, has no room. `DateNotPrintable` for a fresh answer before
+    /// 1900. `Memory`.
     #[tactic(auto, unfolding(crate::specs::Verdict::is_fresh_for, crate::specs::Refused::RefusesAnswer))]
     #[inline(always)]
     pub fn before_request<Req: RequestLike>(

@@ -1,4 +1,4 @@
-//! Why a stored response isn't used for a request, and why it may be stored or not.
+//! Explains why a stored response isn't used for a request, and why it may be stored or not.
 ghost use Rattle.std.specs.Prelude.{◌≡◌, ◌∷◌, [], ℤ, true, false, not, List, codes, is_none, option_map};
 ghost use Rattle.std.specs.Option.{option_map_or};
 ghost use Rattle.http_cache_fields.specs.Headers.{headers_of};
@@ -6,7 +6,8 @@ ghost use Rattle.http_cache_fields.specs.Directives.{Directive, has};
 ghost use Rattle.http_cache_rules.specs.Storing.{is_storable};
 ghost use Rattle.http_cache_rules.specs.Storability.{storability, is_allowed};
 ghost use Rattle.http_cache_rules.specs.FirstRow.{first_said};
-ghost use Rattle.http_cache_rules.specs.Asks.{asks_of, asked_directives, asked_of, is_young_enough};
+ghost use Rattle.http_cache_rules.specs.Asks.{asks_of, asked_directives};
+ghost use Rattle.http_cache_rules.specs.Asks.{requested_by, is_young_enough};
 ghost use Rattle.http_cache_rules.specs.Asks.{lasts_long_enough, takes_stale};
 ghost use Rattle.http_cache_reasons.specs.Reason.{reason_seen, is_mismatch, explanation_seen};
 ghost use Rattle.http_cache_policy.specs.Match.{request_matches};
@@ -24,7 +25,7 @@ use http_cache_fields::pieces::pieces_under;
 use http_cache_fields::pragma::pragma_forbids;
 pub use http_cache_reasons::member::{CacheOutcome, Forward, Member, TimeLeft};
 pub use http_cache_reasons::reason::{Explanation, Reason, StaleReason};
-use http_cache_rules::asks::{Asked, asked_by};
+use http_cache_rules::asks::{RequestDirectives, directives_of_request};
 pub use http_cache_rules::freshness::{Freshness, LifetimeSource};
 use http_cache_rules::storability::storability_of;
 pub use http_cache_rules::storability::{Obstacles, Permission, Storability};
@@ -38,8 +39,8 @@ impl CachePolicy {
     ghost use Rattle.http_cache_policy.specs.Match.{varied_names};
     ghost use Rattle.http_cache_policy.specs.Explain.{differs_under};
 
-    /// What lets the stored response be stored, or every condition that forbids it (RFC 7234,
-    /// section 3). It takes no memory.
+    /// Returns the rule that allows to store the response, or every condition that forbids it (RFC
+    /// 7234, section 3).
     pub fn storability(&self) -> Storability
         ensures value { result ≡ storability self.now }
         ensures storable { is_allowed result ≡ is_storable self.now }
@@ -47,12 +48,11 @@ impl CachePolicy {
         storability_of(self.parts(), self.request_no_store(), self.directives())
     }
 
-    /// Returns why the stored response isn't used for a request at `now` without validation, or that
-    /// it is.
+    /// Returns whether the stored response is used at `now` without validation, or why it isn't.
     ///
-    /// The reason is the first that applies, in the order of `Reason`: the target, Host, the method
-    /// and the names of Vary, `no-cache`, Pragma, `max-age`, `min-fresh`, staleness. Another method
-    /// is reported only for the stored target. It takes no memory.
+    /// The reason is the first that applies, in the order of `Reason`: the target, Host, the
+    /// method, Vary's names, `no-cache`, Pragma, `max-age`, `min-fresh`, staleness. The method is a
+    /// reason only for the stored target. Nothing is allocated.
     pub fn explain<Req: RequestLike>(&self, req: &Req, now: Timestamp) -> Explanation<'_>
         ensures value { explanation_seen result
             ≡ explanation self.now (Req.seen req.now) now.nanosecond }
@@ -69,7 +69,6 @@ impl CachePolicy {
         }
     }
 
-    // The first reason of all, at an age in nanoseconds.
     fn reason<Req: RequestLike>(&self, req: &Req, age: u128) -> Option<Reason<'_>>
         ensures { (now : ℤ) → age ≡ age_at self.now now
             → option_map reason_seen result ≡ reason self.now (Req.seen req.now) now }
@@ -78,7 +77,7 @@ impl CachePolicy {
             return Some(reason);
         }
         let headers = req.headers();
-        let asked = asked_by(headers);
+        let asked = directives_of_request(headers);
         if let Some(reason) = self.unmet(headers, &asked, age) {
             return Some(reason);
         }
@@ -86,7 +85,7 @@ impl CachePolicy {
         Some(Reason::Stale(why))
     }
 
-    // Why the stored response isn't the answer to a request (RFC 7234, sections 4 and 4.1).
+    // RFC 7234, sections 4 and 4.1.
     fn mismatch<Req: RequestLike>(&self, req: &Req) -> Option<Reason<'_>>
         ensures { option_map reason_seen result
             ≡ first_said (mismatch_rows self.now (Req.seen req.now)) }
@@ -104,7 +103,6 @@ impl CachePolicy {
         Some(Reason::Vary(name))
     }
 
-    // The first name of Vary that is `*` or under which a request has another value.
     fn differing_name(&self, headers: &HeaderMap) -> Option<&str>
         ensures { option_copied result
             ≡ find (differs_under self.now.request_headers (headers_of headers.now))
@@ -115,9 +113,9 @@ impl CachePolicy {
         })
     }
 
-    // What a request asks that isn't met at an age (RFC 7234, sections 5.2.1 and 5.4).
-    fn unmet(&self, headers: &HeaderMap, asked: &Asked, age: u128) -> Option<Reason<'_>>
-        ensures { asked.now ≡ asked_of (asked_directives (asks_of (headers_of headers.now)))
+    // RFC 7234, sections 5.2.1 and 5.4.
+    fn unmet(&self, headers: &HeaderMap, asked: &RequestDirectives, age: u128) -> Option<Reason<'_>>
+        ensures { asked.now ≡ requested_by (asked_directives (asks_of (headers_of headers.now)))
             → option_map reason_seen result
             ≡ first_said (asked_rows self.now (asks_of (headers_of headers.now)) age) }
     {
@@ -134,9 +132,9 @@ impl CachePolicy {
         Some(Reason::MinFresh(least))
     }
 
-    // Why a stale response isn't let out at an age (RFC 7234, sections 4.2.4 and 5.2.1.2).
-    fn why_stale(&self, asked: &Asked, age: u128) -> Option<StaleReason>
-        ensures { (ds : List Directive) → asked.now ≡ asked_of ds
+    // RFC 7234, sections 4.2.4 and 5.2.1.2.
+    fn why_stale(&self, asked: &RequestDirectives, age: u128) -> Option<StaleReason>
+        ensures { (ds : List Directive) → asked.now ≡ requested_by ds
             → option_map is_stale result ≡ first_said (stale_rows self.now ds age) }
     {
         let lifetime = self.lifetime().as_nanos();
@@ -160,14 +158,13 @@ impl CachePolicy {
     }
 }
 
-// Whether a method is GET or HEAD.
 fn is_get_or_head(method: &Method) -> bool
     ensures { result ≡ is_get_or_head method.now }
 {
     *method == Method::GET || *method == Method::HEAD
 }
 
-// What is reported of two methods that aren't the same (RFC 9211, section 2.2).
+// RFC 9211, section 2.2.
 fn other_method(stored: &Method, asked: &Method) -> Reason<'static>
     ensures { reason_seen result ≡ method_reason stored.now asked.now }
 {
@@ -178,9 +175,9 @@ fn other_method(stored: &Method, asked: &Method) -> Reason<'static>
     }
 }
 
-// The seconds of the asked max-age, where an age exceeds them (RFC 7234, section 5.2.1.1).
-fn exceeded_age(asked: &Asked, age: u128) -> Option<u64>
-    ensures { (ds : List Directive) → asked.now ≡ asked_of ds
+// RFC 7234, section 5.2.1.1.
+fn exceeded_age(asked: &RequestDirectives, age: u128) -> Option<u64>
+    ensures { (ds : List Directive) → asked.now ≡ requested_by ds
         → result ≡ first_said
         ((not (is_young_enough ds age), seconds_under ds (codes "max-age")) ∷ []) }
 {
@@ -191,9 +188,9 @@ fn exceeded_age(asked: &Asked, age: u128) -> Option<u64>
     Some(most)
 }
 
-// The seconds of the asked min-fresh, where less is left (RFC 7234, section 5.2.1.3).
-fn missed_rest(asked: &Asked, left: u128) -> Option<u64>
-    ensures { (ds : List Directive) → asked.now ≡ asked_of ds
+// RFC 7234, section 5.2.1.3.
+fn missed_rest(asked: &RequestDirectives, left: u128) -> Option<u64>
+    ensures { (ds : List Directive) → asked.now ≡ requested_by ds
         → result ≡ first_said
         ((not (lasts_long_enough ds left), seconds_under ds (codes "min-fresh")) ∷ []) }
 {
@@ -204,10 +201,10 @@ fn missed_rest(asked: &Asked, left: u128) -> Option<u64>
     Some(least)
 }
 
-// The seconds of the asked max-stale, where a response is stale for as long (RFC 7234, section
-// 5.2.1.2).
-fn exceeded_staleness(asked: &Asked, staleness: u128) -> Option<u64>
-    ensures { (ds : List Directive) → asked.now ≡ asked_of ds → has ds (codes "max-stale") ≡ true
+// RFC 7234, section 5.2.1.2.
+fn exceeded_staleness(asked: &RequestDirectives, staleness: u128) -> Option<u64>
+    ensures { (ds : List Directive) → asked.now ≡ requested_by ds
+        → has ds (codes "max-stale") ≡ true
         → result ≡ first_said
         ((not (takes_stale ds staleness), seconds_under ds (codes "max-stale")) ∷ []) }
 {

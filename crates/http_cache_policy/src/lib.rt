@@ -1,5 +1,5 @@
-//! A stored exchange: what it answers to a request, what becomes of it with a response, and the
-//! form that it is stored in (RFC 7234, sections 3 to 5).
+//! A stored exchange: what it answers to a request, how a response changes it, and its stored form
+//! (RFC 7234, sections 3 to 5).
 #![tactic(auto)]
 
 pub mod after;

@@ -1,4 +1,4 @@
-//! A stored exchange: whether it may be stored, how old it is and how long it stays fresh.
+//! The policy: whether its response may be stored, how old it is and how long it stays fresh.
 ghost use Rattle.std.specs.Prelude.{◌≡◌, ◌-◌, ℤ, ◌≤ℤ◌, ◌≤◌, ◌↔◌, true, codes, IsTrue, IfOk};
 ghost use Rattle.std.specs.Prelude.{IsOkUnless};
 ghost use Rattle.std.specs.Duration.{as_nanos};
@@ -28,12 +28,11 @@ use std::alloc::{AllocError, Global};
 use std::marker::Model;
 use std::time::Duration;
 
-/// A request, the response that came for it, and when it came. It tells when the response may be
-/// used again.
+/// A request, its response and the time of receipt. It decides when the response may be used again.
 #[derive(Debug, Drop)]
 pub struct CachePolicy {
     parts: StoredParts,
-    found: Found,
+    found: Findings,
 }
 
 impl Model for CachePolicy {
@@ -50,14 +49,14 @@ impl Model for CachePolicy {
     ghost invariant = { IsDerived };
 }
 
-/// A copy of a target.
+/// Returns a copy of a target.
 pub(crate) fn copy_of_target(target: &Uri) -> Result<Uri, AllocError>
     ensures { IfOk result (λ copy. copy ≡ target.now) }
 {
     target.clone()
 }
 
-/// The head of a request for a target, with a copy of a method.
+/// Returns the head of a request for a target, with a copy of a method.
 pub(crate) fn request_with(
     method: &Method,
     uri: Uri,
@@ -74,9 +73,9 @@ pub(crate) fn request_with(
     })
 }
 
-// What is read once of the parts, so that the answers below take no memory.
+// They are read once, so that later answers allocate nothing.
 #[derive(Clone, Copy, Debug)]
-struct Found {
+struct Findings {
     request_no_store: bool,
     directives: StoredDirectives,
     storable: bool,
@@ -85,17 +84,17 @@ struct Found {
     lifetime: Duration,
 }
 
-impl Found {
-    ghost use Rattle.http_cache_policy.specs.Inside.{IsFoundIn};
+impl Findings {
+    ghost use Rattle.http_cache_policy.specs.Inside.{AreFindingsIn};
 
-    fn of(alloc: Global, parts: &StoredParts) -> Result<Found, AllocError>
-        ensures { IfOk result (λ found. IsFoundIn (exchange_in parts.now) found) }
+    fn of(alloc: Global, parts: &StoredParts) -> Result<Findings, AllocError>
+        ensures { IfOk result (λ found. AreFindingsIn (exchange_in parts.now) found) }
     {
         let request_no_store = forbids_storing(&parts.request_headers);
         let directives = StoredDirectives::of(alloc, &parts.response_headers)?;
         let storable = is_storable(parts, request_no_store, &directives);
         let freshness = lifetime_of(alloc, storable, parts, &directives)?;
-        Ok(Found {
+        Ok(Findings {
             request_no_store,
             directives,
             storable,
@@ -118,8 +117,10 @@ impl CachePolicy {
     ghost use Rattle.http_cache_policy.specs.Age.{age_at, time_to_live_at, is_stale_at};
     ghost use Rattle.http_cache_policy.specs.Verdict.{lets_stale_out};
 
-    /// The policy of a response that came for a request at a moment, with the default options. It
-    /// is refused for want of memory alone.
+    /// Returns the policy of a request and its response, received at `response_time`, with the
+    /// default options.
+    ///
+    /// The only error is `Memory`.
     pub fn new<Req: RequestLike, Res: ResponseLike>(
         alloc: Global,
         req: &Req,
@@ -134,9 +135,10 @@ impl CachePolicy {
         CachePolicy::new_options(alloc, req, res, response_time, CacheOptions::default())
     }
 
-    /// The policy of a response that came for a request at a moment. Where cargo cult is ignored
-    /// and both of its marks are there, its directives, Expires and Pragma aren't kept. It is
-    /// refused for want of memory alone.
+    /// Returns the policy of a request and its response, received at `response_time`.
+    ///
+    /// If `ignore_cargo_cult` is set, and the response has both of its marks, the directives that
+    /// it names, Expires and Pragma aren't kept. The only error is `Memory`.
     pub fn new_options<Req: RequestLike, Res: ResponseLike>(
         alloc: Global,
         req: &Req,
@@ -165,12 +167,10 @@ impl CachePolicy {
         CachePolicy::from_details(alloc, parts)
     }
 
-    /// Returns the policy of what it keeps, as `new_options` does of a request and a response, of which
-    /// it makes copies.
+    /// Returns the policy of its parts, as `new_options` does of copies of a request and a
+    /// response.
     ///
-    /// # Errors
-    ///
-    /// `Memory` only.
+    /// The only error is `Memory`.
     #[tactic(auto, unfolding(crate::specs::Kept::kept_exchange))]
     #[inline(always)]
     pub fn from_details(alloc: Global, mut parts: StoredParts) -> Result<CachePolicy, CacheError>
@@ -179,11 +179,11 @@ impl CachePolicy {
     {
         let ignores = parts.options.ignore_cargo_cult;
         keep(alloc, &mut parts.response_headers, ignores)?;
-        let found = Found::of(alloc, &parts)?;
+        let found = Findings::of(alloc, &parts)?;
         Ok(CachePolicy { parts, found })
     }
 
-    /// The same policy, copied field by field. It is refused for want of memory alone.
+    /// Returns a copy of the policy. The only error is `Memory`.
     pub fn try_clone(&self, _alloc: Global) -> Result<CachePolicy, CacheError>
         ensures value { IfOk result (λ copy. copy ≡ self.now) }
         ensures only_memory { IsOkUnless result CacheError.Memory }
@@ -203,7 +203,7 @@ impl CachePolicy {
         })
     }
 
-    /// All that is stored.
+    /// Returns all that is stored.
     pub(crate) fn parts(&self) -> &StoredParts
         ensures value { exchange_in result.now ≡ self.now }
         ensures settled { kept_exchange self.now ≡ self.now }
@@ -211,29 +211,30 @@ impl CachePolicy {
         &self.parts
     }
 
-    /// The target of the stored request, by which a store may file the policy.
+    /// Returns the target URI of the stored request, by which a store may file the policy.
     pub fn stored_target(&self) -> &Uri
         ensures { result.now ≡ self.now.target }
     {
         &self.parts.target
     }
 
-    /// The method of the stored request.
+    /// Returns the method of the stored request.
     pub fn stored_method(&self) -> &Method
         ensures { result.now ≡ self.now.method }
     {
         &self.parts.method
     }
 
-    /// The status of the stored response.
+    /// Returns the status of the stored response.
     pub fn stored_status(&self) -> StatusCode
         ensures { result ≡ self.now.status }
     {
         self.parts.status
     }
 
-    /// Returns the headers of the stored response: those received, with what later 304 responses
-    /// renewed, and without what `ignore_cargo_cult` removes.
+    /// Returns the headers of the stored response, as later 304 responses renewed them.
+    ///
+    /// They are without what `ignore_cargo_cult` removes.
     pub fn stored_headers(&self) -> &HeaderMap
         ensures { headers_of result.now ≡ self.now.response_headers }
     {
@@ -247,7 +248,7 @@ impl CachePolicy {
         self.parts.options
     }
 
-    /// When the stored response came.
+    /// Returns the time at which the stored response was received.
     pub fn stored_response_time(&self) -> Timestamp
         ensures { result.nanosecond ≡ self.now.response_time }
     {
@@ -261,8 +262,10 @@ impl CachePolicy {
         &self.parts.request_headers
     }
 
-    /// Whether the stored response may answer although it is stale: it may be stored, and says
-    /// neither `must-revalidate` nor `no-cache` (RFC 7234, section 4.2.4).
+    /// Returns whether the stored response may be used although it is stale (RFC 7234, section
+    /// 4.2.4).
+    ///
+    /// It has to be storable, without `must-revalidate` and `no-cache`.
     pub(crate) fn lets_stale_out(&self) -> bool
         ensures { result ≡ lets_stale_out self.now }
     {
@@ -270,41 +273,39 @@ impl CachePolicy {
         self.is_storable() && !said.must_revalidate && !said.no_cache
     }
 
-    /// Whether the stored response itself says when it expires.
+    /// Returns whether the stored response has an explicit lifetime.
     pub(crate) fn has_explicit_expiration(&self) -> bool
         ensures { result ≡ has_explicit_expiration self.now }
     {
         has_explicit_expiration(&self.parts, &self.found.directives)
     }
 
-    /// How long the stored response stays fresh.
+    /// Returns how long the stored response stays fresh.
     pub(crate) fn lifetime(&self) -> Duration
         ensures { as_nanos result ≡ lifetime self.now }
     {
         self.found.lifetime
     }
 
-    /// What is found of the stored directives.
+    /// Returns the findings in the stored directives.
     pub(crate) fn directives(&self) -> &StoredDirectives
         ensures { result.now ≡ stored_directives_of (stored_directives self.now) }
     {
         &self.found.directives
     }
 
-    /// Whether the stored request forbids to store the response.
+    /// Returns whether the stored request forbids to store the response.
     pub(crate) fn request_no_store(&self) -> bool
         ensures { result ≡ has (request_directives self.now) (codes "no-store") }
     {
         self.found.request_no_store
     }
 
-    /// Returns the directives by which the policy decides, in order: those of the stored response
-    /// after `ignore_cargo_cult`, and the `no-cache` of a Pragma that stands in for Cache-Control
-    /// (RFC 7234, sections 5.2 and 5.4). They are read anew from the stored headers at each call.
+    /// Returns the directives by which the policy decides, in order.
     ///
-    /// # Errors
-    ///
-    /// `Memory` only.
+    /// They are the stored response's, without what `ignore_cargo_cult` removes. `no-cache` in
+    /// Pragma counts if there is no Cache-Control (RFC 7234, sections 5.2 and 5.4). Each call reads
+    /// them anew; the only error is `Memory`.
     pub fn stored_directives(&self, alloc: Global) -> Result<CacheControl, CacheError>
         ensures value { IfOk result (λ directives. directives ≡ stored_directives self.now) }
         ensures only_memory { IsOkUnless result CacheError.Memory }
@@ -312,8 +313,7 @@ impl CachePolicy {
         Ok(directives_of_response(alloc, self.stored_headers())?)
     }
 
-    /// How long the stored response stays fresh, and what decides that: the first row of the table
-    /// of lifetimes that applies (RFC 7234, section 4.2.1).
+    /// Returns the freshness lifetime and its source (RFC 7234, section 4.2.1).
     #[tactic(auto, unfolding(crate::specs::Age::time_to_live_at))]
     pub fn freshness(&self) -> Freshness
         ensures value { freshness_seen result ≡ freshness self.now }
@@ -327,15 +327,15 @@ impl CachePolicy {
         }
     }
 
-    /// Whether the response may be stored (RFC 7234, section 3).
+    /// Returns whether the response may be stored (RFC 7234, section 3).
     pub fn is_storable(&self) -> bool
         ensures { result ≡ is_storable self.now }
     {
         self.found.storable
     }
 
-    /// The age at a moment: the received Age and the time since then, which stops at the greatest
-    /// duration (RFC 7234, section 4.2.3).
+    /// Returns the current age: the received Age and the time since then, at most `Duration::MAX`
+    /// (RFC 7234, section 4.2.3).
     pub fn age(&self, now: Timestamp) -> Duration
         ensures value { as_nanos result ≡ age_at self.now now.nanosecond }
         ensures rises { (earlier : ℤ) → earlier ≤ℤ now.nanosecond
@@ -345,7 +345,7 @@ impl CachePolicy {
         received.saturating_add(elapsed_time(self.parts.response_time, now))
     }
 
-    /// How much of the lifetime is left at a moment, or zero (RFC 7234, section 4.2).
+    /// Returns the remaining lifetime at `now`, or zero (RFC 7234, section 4.2).
     #[tactic(auto, unfolding(crate::specs::Age::time_to_live_at))]
     pub fn time_to_live(&self, now: Timestamp) -> Duration
         ensures { as_nanos result ≡ time_to_live_at self.now now.nanosecond }
@@ -353,7 +353,7 @@ impl CachePolicy {
         self.found.lifetime.saturating_sub(self.age(now))
     }
 
-    /// Whether nothing is left of the lifetime at a moment (RFC 7234, section 4.2).
+    /// Returns whether no lifetime remains at `now` (RFC 7234, section 4.2).
     #[tactic(auto, unfolding(crate::specs::Age::is_stale_at, crate::specs::Age::time_to_live_at))]
     pub fn is_stale(&self, now: Timestamp) -> bool
         ensures value { result ≡ is_stale_at self.now now.nanosecond }

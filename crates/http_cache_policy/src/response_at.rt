@@ -1,4 +1,4 @@
-//! A stored response as it may be sent, fresh or not.
+//! Makes a stored response to send, fresh or not.
 ghost use Rattle.std.specs.Prelude.{◌≡◌, ◌⊎◌, ◌↔◌, IfOk, IfErr, OnOk, IsErrOf};
 ghost use Rattle.http_cache_policy.specs.ResponseAt.{RefusesAge, IsResponseAt};
 
@@ -12,17 +12,16 @@ use jiff::Timestamp;
 use std::alloc::Global;
 
 impl CachePolicy {
-    /// Returns what may be sent of the stored response at `now`, fresh or not: its status and every
-    /// line of every stored field, the origin's own Date among them, with Age (RFC 9111, sections
-    /// 4.2.4 and 5.1). Fields that concern one connection and those that Connection lists aren't
-    /// sent.
+    /// Returns the stored response as it may be sent at `now`, fresh or not (RFC 9111, sections
+    /// 4.2.4 and 5.1).
     ///
-    /// `fresh_at` says whether it is fresh; `stored_headers` returns the fields as they are stored.
+    /// It has the status and every line of every stored field, the origin's Date among them, and
+    /// Age. Connection-specific fields and those that Connection lists are left out. Ask `fresh_at`
+    /// whether it is fresh.
     ///
     /// # Errors
     ///
-    /// Returns `HeaderMapFull` if the fields have no room for Age, and `Memory` if there is not
-    /// enough memory.
+    /// `HeaderMapFull` if there is no room for Age, and `Memory`.
     #[tactic(auto, unfolding(crate::specs::ResponseAt::headers_at, crate::specs::ResponseAt::RefusesAge))]
     pub fn response_at(&self, alloc: Global, now: Timestamp) -> Result<response::Parts, CacheError>
         ensures value { IfOk result (IsResponseAt self.now now.nanosecond) }

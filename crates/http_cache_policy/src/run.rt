@@ -1,4 +1,4 @@
-//! What a list of steps makes of a policy.
+//! Runs a list of steps on a policy.
 ghost use Rattle.std.specs.Prelude.{◌≡◌, ◌≢◌, Err, false, map, IfOk, IsErrOf};
 ghost use Rattle.http_cache_policy.specs.Exchange.{Exchange};
 ghost use Rattle.http_cache_policy.specs.Answer.{is_not_modified, policy_in, parts_in};
@@ -15,14 +15,13 @@ use http_cache_fields::CacheError;
 use jiff::Timestamp;
 use std::alloc::Global;
 
-// One place for it, since the prover looks into each policy that is let go.
+// It is done in one function, since the prover examines each policy that is dropped.
 fn set_policy(policy: &mut CachePolicy, next: CachePolicy)
     ensures { policy.new ≡ next }
 {
     *policy = next;
 }
 
-// The policy of an answer takes the place of the old one.
 fn take_over(policy: &mut CachePolicy, answer: AfterResponse) -> Outcome
     ensures policy { policy.new ≡ policy_in answer }
     ensures outcome { IsReceived (λ not_modified parts.
@@ -75,7 +74,7 @@ fn restart(alloc: Global, policy: &mut CachePolicy) -> Result<Outcome, CacheErro
     Ok(Outcome::Restarted)
 }
 
-// After an `Err` the policy is the old one.
+// After an `Err` the policy is unchanged.
 fn take_step<Req: RequestLike, Res: ResponseLike>(
     alloc: Global,
     policy: &mut CachePolicy,
@@ -107,13 +106,16 @@ fn take_step<Req: RequestLike, Res: ResponseLike>(
     }
 }
 
-/// The outcomes of a list of steps, one after the other: a request that asks is answered by
-/// `before_request`, a response by `after_response`, whose policy holds from then on, and a restart
-/// writes the policy by `to_value` and goes on with what `from_value` reads of it.
+/// Returns the outcomes of a list of steps, in order.
 ///
-/// The first step that has no answer refuses the whole list, for its own cause: `HeaderMapFull` and
-/// `DateNotPrintable` come as in these calls, and `Malformed` at a restart whose printed target
-/// can't be read.
+/// A request is answered by `before_request`. A response is taken by `after_response`, whose policy
+/// is used from then on. A restart writes the policy by `to_value` and continues with what
+/// `from_value` reads.
+///
+/// # Errors
+///
+/// The first step that fails ends the run with its error: `HeaderMapFull`, `DateNotPrintable`,
+/// `Malformed` at a restart whose printed target can't be read, or `Memory`.
 pub fn replay<Req: RequestLike, Res: ResponseLike>(
     alloc: Global,
     policy: &CachePolicy,

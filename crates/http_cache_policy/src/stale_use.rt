@@ -1,9 +1,10 @@
-//! Which use of a stale response its origin and the request allow (RFC 5861). It goes by what the
-//! policy has read of the response's directives, and takes no memory.
+//! Decides which stale use the origin server and the request allow (RFC 5861). Nothing here
+//! allocates.
 ghost use Rattle.std.specs.Prelude.{◌≡◌, ◌≤ℤ◌, ◌*◌, ℤ, true, false, List};
 ghost use Rattle.http_cache_fields.specs.Headers.{headers_of};
 ghost use Rattle.http_cache_fields.specs.Directives.{Directive};
-ghost use Rattle.http_cache_rules.specs.Asks.{asks_of, asked_directives, asked_of, has_no_cache};
+ghost use Rattle.http_cache_rules.specs.Asks.{asks_of, asked_directives};
+ghost use Rattle.http_cache_rules.specs.Asks.{requested_by, has_no_cache};
 ghost use Rattle.http_cache_rules.specs.Asks.{is_young_enough, lasts_long_enough};
 ghost use Rattle.http_cache_rules.specs.DeltaSeconds.{number_in};
 ghost use Rattle.http_cache_policy.specs.Age.{is_stale_at};
@@ -15,38 +16,37 @@ use crate::before::verdict::{is_below, nanos};
 use crate::policy::{CachePolicy, RequestLike};
 use http::HeaderMap;
 use http_cache_fields::pragma::pragma_forbids;
-use http_cache_rules::asks::{Asked, asked_by};
+use http_cache_rules::asks::{RequestDirectives, directives_of_request};
 use http_cache_rules::delta_seconds::DeltaSeconds;
 use http_cache_rules::lifetime::has_own_cookies;
 use jiff::Timestamp;
 
-/// Which use of a stale response is allowed.
+/// The allowed uses of a stale response.
 #[derive(Clone, Copy, Debug, PartialEq, Eq)]
 pub struct StaleUse {
     /// Whether it may be used while it is validated (RFC 5861, section 3).
     pub while_revalidate: bool,
-    /// Whether it may be used where the origin server can't be reached or responds with an error
-    /// (RFC 5861, section 4).
+    /// Whether it may be used if the origin server can't be reached or responds with an error (RFC
+    /// 5861, section 4).
     pub if_error: bool,
 }
 
-// Neither use is allowed.
 const NEITHER: StaleUse = StaleUse {
     while_revalidate: false,
     if_error: false,
 };
 
-// Whether a request asks for an answer that is validated first.
-fn asks_validation(asked: &Asked, headers: &HeaderMap) -> bool
-    ensures { asked.now ≡ asked_of (asked_directives (asks_of (headers_of headers.now)))
+fn asks_validation(asked: &RequestDirectives, headers: &HeaderMap) -> bool
+    ensures { asked.now ≡ requested_by (asked_directives (asks_of (headers_of headers.now)))
         → result ≡ has_no_cache (asks_of (headers_of headers.now)) }
 {
     asked.no_cache || pragma_forbids(headers)
 }
 
-// Whether an age is at most the asked max-age (RFC 9111, section 5.2.1.1).
-fn is_young_enough(asked: &Asked, age: u128) -> bool
-    ensures { (ds : List Directive) → asked.now ≡ asked_of ds → result ≡ is_young_enough ds age }
+// RFC 9111, section 5.2.1.1.
+fn is_young_enough(asked: &RequestDirectives, age: u128) -> bool
+    ensures { (ds : List Directive) → asked.now ≡ requested_by ds
+        → result ≡ is_young_enough ds age }
 {
     match asked.max_age.number() {
         Some(most) => age <= nanos(most),
@@ -54,9 +54,9 @@ fn is_young_enough(asked: &Asked, age: u128) -> bool
     }
 }
 
-// Whether the asked min-fresh is left of the lifetime (RFC 9111, section 5.2.1.3).
-fn lasts_long_enough(asked: &Asked, left: u128) -> bool
-    ensures { (ds : List Directive) → asked.now ≡ asked_of ds
+// RFC 9111, section 5.2.1.3.
+fn lasts_long_enough(asked: &RequestDirectives, left: u128) -> bool
+    ensures { (ds : List Directive) → asked.now ≡ requested_by ds
         → result ≡ lasts_long_enough ds left }
 {
     match asked.min_fresh.number() {
@@ -66,15 +66,15 @@ fn lasts_long_enough(asked: &Asked, left: u128) -> bool
 }
 
 impl CachePolicy {
-    /// Returns which use of the stored response is allowed for a request at `now`, once the response
-    /// is stale (RFC 5861, sections 3 and 4).
+    /// Returns which stale use of the response is allowed for a request at `now` (RFC 5861,
+    /// sections 3 and 4).
     ///
-    /// Both uses need that the request matches and that the response may be stored, is stale and
-    /// isn't let out by `max-stale`. Neither message may say `no-cache`, nor the response
-    /// `must-revalidate`. In a shared cache it says neither `proxy-revalidate` nor `s-maxage` either,
-    /// and sets no cookie unless it says `public` or `immutable`. The age is below the lifetime and
-    /// the seconds of `stale-while-revalidate` or `stale-if-error`, where that is a number.
-    /// `while_revalidate` also needs that the request's own `max-age` and `min-fresh` are met.
+    /// Both uses require that the request matches, and that the response is storable, stale and not
+    /// allowed by `max-stale`. Neither message may have `no-cache`, nor the response
+    /// `must-revalidate`. In a shared cache it may have neither `proxy-revalidate` nor `s-maxage`,
+    /// nor Set-Cookie without `public` or `immutable`. The age has to be below the lifetime plus
+    /// the seconds of `stale-while-revalidate` or `stale-if-error`. `while_revalidate` also
+    /// requires that the request's `max-age` and `min-fresh` are met.
     pub fn stale_use<Req: RequestLike>(&self, req: &Req, now: Timestamp) -> StaleUse
         ensures value { result ≡ stale_use self.now (Req.seen req.now) now.nanosecond }
         ensures not_while_fresh { is_fresh_for self.now (Req.seen req.now) now.nanosecond ≡ true
@@ -92,7 +92,7 @@ impl CachePolicy {
             return NEITHER;
         }
         let headers = req.headers();
-        let asked = asked_by(headers);
+        let asked = directives_of_request(headers);
         let age = self.age(now).as_nanos();
         if asks_validation(&asked, headers) || is_below(self.bound(&asked), age) {
             return NEITHER;
@@ -103,7 +103,6 @@ impl CachePolicy {
         }
     }
 
-    // Whether the response is stale and lets itself be used so, for a request that matches.
     fn is_open_to_stale<Req: RequestLike>(&self, req: &Req, now: Timestamp) -> bool
         ensures { result ≡ is_open_to_stale self.now (Req.seen req.now) now.nanosecond }
     {
@@ -113,13 +112,13 @@ impl CachePolicy {
             && !self.forbids_stale()
     }
 
-    /// Returns whether the stored response says that it isn't used stale, whatever the request asks
-    /// (RFC 9111, section 4.2.4): `must-revalidate` or `no-cache`, and in a shared cache
-    /// `proxy-revalidate`, `s-maxage`, or Set-Cookie without `public` or `immutable`.
+    /// Returns whether the stored response forbids stale use, whatever the request asks (RFC 9111,
+    /// section 4.2.4).
     ///
-    /// A request's `max-stale` is met all the same by `before_request`, as in the Rust crate, except
-    /// where the response says `must-revalidate` or `no-cache`. A shared cache that follows RFC 9111
-    /// asks this too.
+    /// `must-revalidate` and `no-cache` forbid it, and in a shared cache `proxy-revalidate`,
+    /// `s-maxage`, and Set-Cookie without `public` or `immutable`. `before_request` obeys a
+    /// request's `max-stale` all the same, as the Rust crate does, unless the response has
+    /// `must-revalidate` or `no-cache`. A shared cache that follows RFC 9111 asks this too.
     pub fn forbids_stale(&self) -> bool
         ensures { result ≡ forbids_stale self.now }
     {
@@ -132,7 +131,6 @@ impl CachePolicy {
                     || has_own_cookies(self.stored_headers(), said)))
     }
 
-    // Whether an age is below the lifetime and the seconds of a directive.
     fn is_within(&self, more: DeltaSeconds, age: u128) -> bool
         ensures { result ≡ is_within self.now (number_in more) age }
     {
@@ -142,9 +140,9 @@ impl CachePolicy {
         }
     }
 
-    // Whether the response lets itself be used at an age while it is validated.
-    fn lets_while_revalidate(&self, asked: &Asked, age: u128) -> bool
-        ensures { (ds : List Directive) → asked.now ≡ asked_of ds
+    // RFC 5861, section 3.
+    fn lets_while_revalidate(&self, asked: &RequestDirectives, age: u128) -> bool
+        ensures { (ds : List Directive) → asked.now ≡ requested_by ds
             → result ≡ lets_while_revalidate self.now ds age }
     {
         self.is_within(self.directives().stale_while_revalidate, age)
@@ -152,9 +150,9 @@ impl CachePolicy {
             && lasts_long_enough(asked, self.lifetime().as_nanos().saturating_sub(age))
     }
 
-    // Whether the response or the request lets it be used at an age where the origin fails.
-    fn lets_if_error(&self, asked: &Asked, age: u128) -> bool
-        ensures { (ds : List Directive) → asked.now ≡ asked_of ds
+    // RFC 5861, section 4.
+    fn lets_if_error(&self, asked: &RequestDirectives, age: u128) -> bool
+        ensures { (ds : List Directive) → asked.now ≡ requested_by ds
             → result ≡ lets_if_error self.now ds age }
     {
         self.is_within(self.directives().stale_if_error, age)

@@ -1,39 +1,39 @@
-//! The steps of a run, and what comes of them.
+//! The steps of a run, and their outcomes.
 use crate::before::BeforeRequest;
 use http::response;
 use jiff::Timestamp;
 
-/// What is done next with a stored response.
+/// The next step with a stored response.
 #[derive(Debug, Drop)]
 pub enum Step<Req, Res> {
-    /// A request asks for it at a moment.
+    /// A request is made at a time.
     Ask {
         /// The request.
         request: Req,
-        /// When it asks.
+        /// The time of the request.
         moment: Timestamp,
     },
-    /// A response came for a request at a moment.
+    /// A response to a request is received at a time.
     Receive {
         /// The request.
         request: Req,
         /// Its response.
         response: Res,
-        /// When the response came.
+        /// The time at which the response was received.
         moment: Timestamp,
     },
     /// The policy is written as a JSON value and read back.
     Restart,
 }
 
-/// What came of a step.
+/// The outcome of a step.
 #[derive(Drop)]
 pub enum Outcome {
     /// The answer to a request.
     Asked(BeforeRequest),
-    /// The stored body still holds, under this head.
+    /// The stored body is still valid, under this head.
     NotModified(response::Parts),
-    /// A new response is stored in place of the old one; this is its head.
+    /// A new response with this head replaces the stored one.
     Modified(response::Parts),
     /// The policy was read back.
     Restarted,

@@ -1,4 +1,4 @@
-//! The stored form of a policy, as a JSON value.
+//! Writes a policy as a JSON value, and reads it back.
 ghost use Rattle.std.specs.Prelude.{◌≡◌, ◌≢◌, ◌≤◌, ◌↔◌, Err, IfOk, IsErrOf, IsOkUnless};
 ghost use Rattle.serde_json.specs.Data.{depth};
 ghost use Rattle.serde_json.specs.View.{view};
@@ -8,13 +8,13 @@ ghost use Rattle.http_cache_policy.specs.Stored.{Reads, ReadsBack, with_target, 
 
 use crate::policy::CachePolicy;
 use http_cache_fields::CacheError;
-pub use http_cache_stored::form::{moment_from_value, options_from_value};
-use http_cache_stored::stored::{parts_from_value, value_of_parts};
+pub use http_cache_json::form::{moment_from_value, options_from_value};
+use http_cache_json::stored::{parts_from_value, value_of_parts};
 use serde_json::Value;
 use std::alloc::Global;
 
 impl CachePolicy {
-    /// The value that a policy is stored as. It is refused for want of memory alone.
+    /// Returns the stored form of the policy. The only error is `Memory`.
     pub fn to_value(&self, alloc: Global) -> Result<Value, CacheError>
         ensures value { IfOk result (λ value. view value ≡ writes self.now) }
         ensures reads_back { IfOk result (λ value. (e : Exchange)
@@ -27,8 +27,12 @@ impl CachePolicy {
         Ok(value_of_parts(alloc, self.parts())?)
     }
 
-    /// The policy of a stored value: what is kept of the exchange that it is of. `Malformed` comes
-    /// only where it isn't of the stored form, and `Memory` may come in its place.
+    /// Returns the policy of a stored form.
+    ///
+    /// # Errors
+    ///
+    /// `Malformed` only if the value isn't a stored form, and `Memory`, which may be returned in
+    /// its place.
     pub fn from_value(alloc: Global, value: &Value) -> Result<CachePolicy, CacheError>
         ensures reads { IfOk result (λ _. (e : Exchange) × Reads (view value.now) e) }
         ensures value { IfOk result (λ policy. (e : Exchange) → Reads (view value.now) e

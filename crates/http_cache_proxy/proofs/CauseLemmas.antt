@@ -20,7 +20,7 @@ use Rattle.http_cache_proxy.specs.declared.failure.Failure.{Failure}
 use Rattle.http_cache_proxy.specs.declared.failure.Failure.TheVariants.{Refused, Unsendable, Memory, Lost, Cut}
 use Rattle.http_cache_proxy.specs.declared.failure.Failure.TheVariants.{NoResponse}
 
--- a request that is sent past what is stored has no answer because it has no response
+-- a request that bypasses the shelf has no answer because it has no response
 pub failure-past : {O E : Type 0} (sent : Sends O) (before after : O) (forwarded : Request (List ℕ))
     (cause : FetchError (NoAnswer E))
     → HasNoResponse (HasSentOwn sent before after forwarded None) cause → IsUnsent (after ≡ before) cause
@@ -30,7 +30,7 @@ failure-past sent before after forwarded fetch.Lost absent unsent = tt
 failure-past sent before after forwarded (fetch.Origin answer.Cut) absent unsent = inl absent
 failure-past sent before after forwarded (fetch.Origin (answer.Missing cause)) absent unsent = inl absent
 
--- what holds of the request as it is sent on holds of the request
+-- what holds of the forwarded request holds of the received one
 cause-forwarded : {O : Type 0} (sent : Sends O) (before after : O) (name : List ℕ)
     (request forwarded : Request (List ℕ)) (cause : Failure) → IsSentOnAs name request forwarded
     → IsFetchFailure sent before after forwarded cause → IsCause sent before after name request cause
@@ -43,7 +43,6 @@ cause-forwarded sent before after name request forwarded Cut is failure =
 cause-forwarded sent before after name request forwarded NoResponse is failure =
     record { forwarded = forwarded; is_forwarded = is; is_sent = failure }
 
--- for each outcome of a fetch
 pub causes-forwarded : {O A : Type 0} (sent : Sends O) (before after : O) (name : List ℕ)
     (request forwarded : Request (List ℕ)) (r : Result A Failure) → IsSentOnAs name request forwarded
     → IfErr r (IsFetchFailure sent before after forwarded)
@@ -62,7 +61,7 @@ kept-forwarded sent before after name old next_before new next_after request for
 kept-forwarded sent before after name old next_before new next_after request forwarded is (inr both) =
     inr (forwarded, both.0, (is, both.1))
 
--- the response that is written is an answer, or says why there is none
+-- the written response is an answer, or says why there is none
 pub answered-by : {O : Type 0} (sent : Sends O) (before after : O) (name : List ℕ)
     (old : StoredByTarget) (next_before : ℕ) (new : StoredByTarget) (next_after : ℕ)
     (time : Option ℤ) (request : Request (List ℕ)) (response : Response) (r : Result (Answer (List ℕ)) Failure)
@@ -79,7 +78,7 @@ answered-by sent before after name old nb new na time request response (Ok answe
 answered-by sent before after name old nb new na time request response (Err e) cause kept failure =
     inr (inl (record { cause = e; is_cause = cause; is_failure = failure; kept = kept }))
 
--- the answer to a request that is refused is that refusal
+-- a refused request is answered with its refusal
 pub refused-by : {O : Type 0} (before after : O) (name method : List ℕ) (time : Option ℤ)
     (response : Response) (r : Result (Answer (List ℕ)) Failure) (refusal : Refusal)
     → IsErrOf r (Refused refusal) × (after ≡ before) → IsOutcome name method r time response

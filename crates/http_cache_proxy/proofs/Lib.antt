@@ -1,2 +1,2 @@
--- The lemmas about what a proxy answers.
+-- Lemmas about what a proxy answers.
 pub mod CauseLemmas

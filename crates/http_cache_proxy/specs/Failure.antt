@@ -1,4 +1,4 @@
--- Why a proxy answers a request itself.
+-- The reasons why a proxy answers a request itself.
 use Rattle.std.specs.Prelude.{ℕ, List, codes}
 use Rattle.http_cache_client.specs.declared.origin.FetchError.{FetchError}
 use Rattle.http_cache_client.specs.declared.origin.FetchError.TheVariants as fetch
@@ -9,7 +9,6 @@ use Rattle.http_cache_proxy.specs.declared.failure.Failure.{Failure}
 use Rattle.http_cache_proxy.specs.declared.failure.Failure.TheVariants.{Refused, Unsendable, Memory, Lost, Cut}
 use Rattle.http_cache_proxy.specs.declared.failure.Failure.TheVariants.{NoResponse}
 
--- the status of the answer
 abbrev pub failure_status : Failure → ℕ
 failure_status (Refused refusal) = status_of refusal
 failure_status Unsendable = 400
@@ -18,7 +17,6 @@ failure_status Lost = 500
 failure_status Cut = 502
 failure_status NoResponse = 504
 
--- the detail of Cache-Status in the answer
 abbrev pub failure_detail : Failure → List ℕ
 failure_detail (Refused refusal) = detail_of refusal
 failure_detail Unsendable = codes "fields"
@@ -27,7 +25,6 @@ failure_detail Lost = codes "out of memory"
 failure_detail Cut = codes "response cut off"
 failure_detail NoResponse = codes "no response"
 
--- what a failed fetch means
 abbrev pub failure_of : {E : Type 0} → FetchError (NoAnswer E) → Failure
 failure_of fetch.Memory = Memory
 failure_of fetch.Lost = Lost

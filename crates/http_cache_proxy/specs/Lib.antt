@@ -1,4 +1,4 @@
--- What a caching proxy sends on, and what it answers.
+-- What a caching proxy forwards, and what it answers.
 pub mod Origin
 pub mod Failure
 pub mod Write

@@ -20,15 +20,14 @@ use Rattle.http_cache_proxy.specs.declared.failure.Failure.TheVariants.{NoRespon
 
 -- ---- what is sent on to the origin server
 
--- a request as the proxy of a name sends it on: its head with Via, Host, one length and the version, and the
--- same body
+-- the request as the proxy forwards it, with the body unchanged
 abbrev pub IsSentOnAs : List ℕ → Request (List ℕ) → Request (List ℕ) → Type 0
 IsSentOnAs name request forwarded =
     IsForwarded name request (Known (length (body_of request))) (head_of forwarded)
     × (body_of forwarded ≡ body_of request)
 
 module _ {O : Type 0} (sent : Sends O) (before after : O) where
-  -- why there is no answer to a request that is sent on
+  -- what each reason says of a request that was forwarded
   abbrev pub IsFetchFailure : Request (List ℕ) → Failure → Type 0
   IsFetchFailure forwarded (Refused refusal) = ⊥
   IsFetchFailure forwarded Unsendable = ⊥
@@ -38,26 +37,25 @@ module _ {O : Type 0} (sent : Sends O) (before after : O) where
   IsFetchFailure forwarded NoResponse = HasSent sent before after forwarded None
 
 module _ {O : Type 0} (sent : Sends O) (before after : O) (name : List ℕ) where
-  -- the origin server was sent what a client sends for the request as it is sent on: nothing, one request, or
-  -- a second one after a 304; and nothing for one that asks for a stored response only
+  -- nothing was sent, or the forwarded request, or a second one after a 304; nothing was sent for
+  -- an `only-if-cached` request
   pub record IsSentOn (request : Request (List ℕ)) : Type 0 where
     pub forwarded : Request (List ℕ)
     pub is_forwarded : IsSentOnAs name request forwarded
     pub twice : HasSentTwiceAtMost sent before after forwarded
     pub only_if_cached : is_looked_up forwarded ≡ true → IsOnlyIfCached (fields_of forwarded) → after ≡ before
 
-  -- it was sent nothing, or that
   abbrev pub IsSentAtMost : Request (List ℕ) → Type 0
   IsSentAtMost request = (after ≡ before) ⊎ IsSentOn request
 
-  -- it was sent the request as it is sent on, and no response was received whole
+  -- the request was forwarded, and no response was received whole
   pub record HasNoAnswer (request : Request (List ℕ)) : Type 0 where
     pub forwarded : Request (List ℕ)
     pub is_forwarded : IsSentOnAs name request forwarded
     pub is_sent : HasSent sent before after forwarded None
 
-  -- what is known of a request for each cause of having no answer: 503 is answered only where nothing was
-  -- sent, 502 and 504 only where the origin server was asked
+  -- what each reason says of a request: 503 is answered only if nothing was sent, 502 and 504 only
+  -- if something was sent
   abbrev pub IsCause : Request (List ℕ) → Failure → Type 0
   IsCause request (Refused refusal) = (refusal_of name request false ≡ Some refusal) × (after ≡ before)
   IsCause request Unsendable = after ≡ before
@@ -66,7 +64,7 @@ module _ {O : Type 0} (sent : Sends O) (before after : O) (name : List ℕ) wher
   IsCause request Cut = HasNoAnswer request
   IsCause request NoResponse = HasNoAnswer request
 
-  -- it was sent two requests, the second after a 304
+  -- two requests were sent, the second after a 304
   abbrev pub IsSentTwice : Request (List ℕ) → Type 0
   IsSentTwice request =
       (forwarded : Request (List ℕ)) × (outcome : Outcome)
@@ -76,25 +74,23 @@ module _ {O : Type 0} (sent : Sends O) (before after : O) (name : List ℕ) wher
 
 module _ {O : Type 0} (sent : Sends O) (before after : O) (name : List ℕ)
     (old : StoredByTarget) (next_before : ℕ) (new : StoredByTarget) (next_after : ℕ) where
-  -- what is stored is as it was, unless the origin server was sent two requests
+  -- what is stored is as it was, unless two requests were sent
   abbrev pub HasKept : Request (List ℕ) → Type 0
   HasKept request = KeepsAll old next_before new next_after ⊎ IsSentTwice sent before after name request
 
-  -- there is no answer, for a cause
+  -- there is no answer, for a reason
   pub record IsUnanswered (time : Option ℤ) (request : Request (List ℕ)) (response : Response) : Type 0 where
     pub cause : Failure
     pub is_cause : IsCause sent before after name request cause
     pub is_failure : IsFailure name (head_of request).method cause time response
     pub kept : HasKept request
 
-  -- the response is an answer as it is written
   pub record IsAnswered (request : Request (List ℕ)) (response : Response) : Type 0 where
     pub answer : Answer (List ℕ)
     pub is_written : IsWritten name (head_of request).method answer response
 
-  -- at the time that the clock showed, a request is sent on and answered, or refused where a rule refuses it.
-  -- Without a time nothing is stored.
-  -- Where there is no memory for an answer, the response has only the status 500
+  -- at the time that the clock showed, a request is forwarded and answered, or refused; without a
+  -- time nothing is stored, and without memory for an answer only the status 500 is sent
   pub record IsProxied {C : Type 0} (shown : C → Option ℤ → C → Type 0) (clock_before clock_after : C)
       (request : Request (List ℕ)) (response : Response) : Type 0 where
     pub time : Option ℤ

@@ -20,15 +20,14 @@ use Rattle.http_cache_proxy.specs.declared.failure.Failure.{Failure}
 abbrev pub written_field : Header → Header
 written_field field = (field.0, trimmed_value field.1)
 
--- the fields of a head in its order
 abbrev pub written_fields : Entries FieldValue → List Header
 written_fields h = map written_field (fields (pairs h))
 
--- the body, if a response of the status to the method has one
+-- the body, if a response with the status to the method has one
 abbrev pub written_body : List ℕ → ℕ → List ℕ → List ℕ
 written_body method status body = if has_content method status then body else []
 
--- an answer to a request of a method, as the proxy of a name writes it
+-- an answer as the proxy writes it
 pub record IsWritten (name method : List ℕ) (answer : Answer (List ℕ)) (response : Response) : Type 0 where
   pub head : Parts
   pub is_sent : IsSent name method (head_of answer) (Known (length (body_of answer))) head
@@ -42,20 +41,20 @@ IsOwn name cause time answer =
     IsGenerated name (failure_status cause) (failure_detail cause) time (head_of answer)
     × (body_of answer ≡ [])
 
--- the response is such an answer
+-- the response is an answer of the proxy's own
 pub record IsWrittenOwn (name method : List ℕ) (cause : Failure) (time : Option ℤ) (response : Response)
     : Type 0 where
   pub answer : Answer (List ℕ)
   pub is_own : IsOwn name cause time answer
   pub is_written : IsWritten name method answer response
 
--- the response is such an answer, or has only its status
+-- the response is an answer of the proxy's own, or has only its status
 abbrev pub IsFailure : List ℕ → List ℕ → Failure → Option ℤ → Response → Type 0
 IsFailure name method cause time response =
     IsWrittenOwn name method cause time response ⊎ IsResponse (failure_status cause) [] [] response
 
--- an answer as it is written, or one of the proxy's own for a cause; where there is no memory for an answer,
--- only the status 500
+-- the response is the answer, or one of the proxy's own; without memory for an answer it has only
+-- the status 500
 abbrev pub IsOutcome : List ℕ → List ℕ → Result (Answer (List ℕ)) Failure → Option ℤ → Response → Type 0
 IsOutcome name method (Ok answer) time response =
     IsWritten name method answer response ⊎ IsResponse 500 [] [] response

@@ -1,4 +1,4 @@
-//! The time of day, as a proxy asks for it.
+//! The source of a proxy's time of day.
 ghost use Rattle.std.specs.Prelude.{ℤ, Option, option_map};
 
 use jiff::Timestamp;
@@ -6,7 +6,7 @@ use std::time::Clock;
 
 /// Shows the time of day.
 pub trait TimeSource {
-    // In the first state it showed a time, or none, and the second state is left.
+    // The first state showed the time, or None, and the second state follows.
     ghost shown: { Self → Option ℤ → Self → Type 0 };
 
     /// Returns the time, or `None` if it can't be read.
@@ -14,7 +14,7 @@ pub trait TimeSource {
         ensures { shown self.old (option_map (λ t. t.nanosecond) result) self.new };
 }
 
-/// The time of a clock of std, such as the runtime. What such a clock shows is no part of any contract.
+/// The time of a clock of std, such as the runtime. No contract says what such a clock shows.
 #[derive(Clone, Copy, Drop)]
 pub struct ClockTime<'a, C> {
     clock: &'a C,

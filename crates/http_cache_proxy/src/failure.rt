@@ -1,4 +1,4 @@
-//! Why a proxy has no response of the origin server to a request.
+//! The reasons why a proxy answers a request itself.
 ghost use Rattle.std.specs.Prelude.{◌≡◌};
 ghost use Rattle.http_cache_proxy.specs.Failure.{failure_status, failure_detail, failure_of};
 
@@ -7,22 +7,23 @@ use http::StatusCode;
 use http_cache_client::FetchError;
 use http_cache_intermediary::Refusal;
 
-/// Why a proxy answers a request itself.
+/// The reason why a proxy answers a request itself.
 #[derive(Clone, Copy, Debug, PartialEq, Eq)]
 pub enum Failure {
-    /// The request isn't sent on. The status is the refusal's.
+    /// The request is refused. The status is the refusal's.
     Refused(Refusal),
-    /// The head of the request can't be sent on, as where it has too many fields. Nothing was sent. The
-    /// status is 400.
+    /// The head of the request can't be forwarded, for instance because of too many fields. Nothing
+    /// was sent. The status is 400.
     Unsendable,
     /// There is not enough memory, and nothing was sent. The status is 503.
     Memory,
-    /// There is not enough memory for an answer, after a request may have been sent. The status is 500.
+    /// There is not enough memory for an answer, after a request may have been sent. The status is
+    /// 500.
     Lost,
-    /// The response was cut off, and no stored response may be used in its place. The status is 502.
+    /// The response was cut off, and no stored response may be used instead. The status is 502.
     Cut,
-    /// The origin server gave no response, and no stored response may be used in its place. The status is
-    /// 504.
+    /// The origin server gave no response, and no stored response may be used instead. The status
+    /// is 504.
     NoResponse,
 }
 
@@ -55,7 +56,6 @@ impl Failure {
     }
 }
 
-// What a failed fetch means.
 pub(crate) fn failure_of<E: Drop>(cause: FetchError<NoAnswer<E>>) -> Failure
     ensures { result ≡ failure_of cause }
 {

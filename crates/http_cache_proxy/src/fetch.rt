@@ -1,4 +1,4 @@
-//! The answer to a request by way of the client, or why there is none.
+//! Answers a request with the client's help, or says why there is no answer.
 ghost use Rattle.std.specs.Prelude.{◌≡◌, ◌⊎◌, true, false, Some, None, IfOk, IfErr, IsErrOf, OnErr};
 ghost use Rattle.http_cache_storage.specs.Shelf.{KeepsAll};
 ghost use Rattle.http_cache_client.specs.Ask.{fields_of, IsOnlyIfCached};
@@ -18,10 +18,10 @@ use http_cache_shelf::Shelf;
 use jiff::Timestamp;
 use std::alloc::Global;
 
-// The detail of Cache-Status where the clock can't be read.
+// The detail of Cache-Status if the clock can't be read.
 const NO_CLOCK: &str = "no clock";
 
-// The request as it is sent on.
+// Returns the request as it is forwarded.
 fn forwarded(
     alloc: Global,
     intermediary: &Intermediary,
@@ -42,7 +42,7 @@ fn forwarded(
     }
 }
 
-// The client's answer at a time.
+// Returns the client's answer at a time.
 fn fetched_at<S: Shelf + Drop, O: Origin>(
     alloc: Global,
     client: &mut Client<S>,
@@ -69,7 +69,7 @@ where
     }
 }
 
-// The origin server's answer, past what the client stores.
+// Returns the origin server's answer to a request that bypasses the shelf.
 fn fetched_past<S: Shelf + Drop, O: Origin>(
     alloc: Global,
     client: &mut Client<S>,
@@ -94,7 +94,7 @@ where
     }
 }
 
-// The answer to a request that is sent on.
+// Returns the answer to a request that is forwarded.
 fn fetched<S: Shelf + Drop, O: Origin>(
     alloc: Global,
     client: &mut Client<S>,
@@ -122,7 +122,7 @@ where
     }
 }
 
-/// Returns the answer to a request: by way of the client, or past what it stores if the time isn't known.
+/// Returns the answer to a request. If the time is unknown, nothing is looked up or stored.
 pub(crate) fn answer_to<S: Shelf + Drop, O: Origin>(
     alloc: Global,
     intermediary: &Intermediary,

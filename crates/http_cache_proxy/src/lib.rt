@@ -1,4 +1,4 @@
-//! A caching proxy, to copy: a service of `http_server` over a client of `http_cache_client`.
+//! A caching proxy: a service of `http_server` over a client of `http_cache_client`.
 #![tactic(auto)]
 
 pub mod clock;

@@ -1,4 +1,4 @@
-//! The origin server of a proxy, whose responses have to be received whole.
+//! The origin server of a proxy, which accepts only complete responses.
 ghost use Rattle.std.specs.Prelude.{◌≡◌};
 ghost use Rattle.http.specs.Response.{head_of, body_of};
 ghost use Rattle.http_cache_proxy.specs.Origin.{is_whole};
@@ -9,23 +9,23 @@ use http_cache_client::Origin;
 use http_cache_messages::complete::is_complete;
 use jiff::Timestamp;
 
-/// Why there is no response that can be sent on.
+/// The reason why there is no response to forward.
 #[derive(Debug, PartialEq, Eq, Drop)]
 pub enum NoAnswer<E> {
-    /// The body isn't as long as its Content-Length says, so it was cut off (RFC 9112, section 8).
+    /// The body isn't as long as its Content-Length, so it was cut off (RFC 9112, section 8).
     Cut,
     /// There is no response.
     Missing(E),
 }
 
-/// An origin server. A response whose body isn't as long as its Content-Length says is taken for none.
+/// An origin server. A response with a body of another length than its Content-Length counts as
+/// none.
 #[derive(Debug, Drop)]
 pub struct WholeOrigin<O> {
     /// The origin server itself.
     pub origin: O,
 }
 
-// Whether a response to a request of a method was received whole.
 fn is_whole(method: &Method, response: &Response<Bytes>) -> bool
     ensures { result ≡ is_whole method.now response.now }
 {

@@ -1,4 +1,4 @@
-//! A caching proxy: a client and its origin server behind a service of `http_server`.
+//! A caching proxy: a client and its origin server as a service of `http_server`.
 ghost use Rattle.std.specs.Prelude.{◌≡◌, string_bytes, IfOk};
 
 use crate::clock::TimeSource;
@@ -13,27 +13,27 @@ use http_cache_shelf::Shelf;
 use http_server::{Response, Service};
 use std::alloc::{AllocError, Global};
 
-/// Answers requests from what a client stores, or by way of an origin server.
+/// Answers requests from stored responses, or by forwarding them to an origin server.
 #[derive(Drop)]
 pub struct Proxy<S: Drop, O, C> {
-    /// Where memory comes from.
+    /// The allocator.
     pub alloc: Global,
     /// The client, with what it stores.
     pub client: Client<S>,
-    /// What answers the requests that the client sends.
+    /// The origin server, which receives the client's requests.
     pub origin: WholeOrigin<O>,
-    /// The clock by which requests are received.
+    /// The clock that dates received requests.
     pub clock: C,
-    /// What the proxy does as an intermediary, under the client's name.
+    /// The intermediary, with the client's name.
     pub intermediary: Intermediary,
 }
 
 impl<S: Shelf + Drop, O: Origin + Drop, C: TimeSource + Drop> Proxy<S, O, C> {
-    /// Returns a proxy over a client, whose name it has, in front of an origin server.
+    /// Returns a proxy with a client's name, over that client and an origin server.
     ///
     /// # Errors
     ///
-    /// Returns `AllocError` when out of memory.
+    /// `AllocError` if there is not enough memory.
     pub fn new(
         alloc: Global,
         client: Client<S>,

@@ -1,4 +1,4 @@
-//! A response as it is written out.
+//! Writes a response out.
 ghost use Rattle.std.specs.Prelude.{◌≡◌, [], option_map, IfOk, OnOk};
 ghost use Rattle.http_server.specs.Response.{IsBlank, fields_of, IsResponse};
 ghost use Rattle.http.specs.Request.{head_of};
@@ -43,7 +43,6 @@ fn add_body(response: &mut Response, method: &Method, body: Bytes) -> Result<(),
     Ok(())
 }
 
-// Writes an answer to a request of a method.
 fn write(
     alloc: Global,
     intermediary: &Intermediary,
@@ -63,7 +62,7 @@ fn write(
     Ok(())
 }
 
-// An answer of the proxy's own.
+// Returns an answer of the proxy's own.
 fn own(
     alloc: Global,
     intermediary: &Intermediary,
@@ -111,7 +110,6 @@ fn write_own(
     }
 }
 
-// Writes only a status.
 fn write_status(response: &mut Response, status: StatusCode)
     ensures { IsResponse status [] [] response.new }
 {
@@ -119,7 +117,7 @@ fn write_status(response: &mut Response, status: StatusCode)
     response.status = status;
 }
 
-/// Writes the answer to a request, or one of the proxy's own in its place.
+/// Writes the answer to a request, or one of the proxy's own instead.
 pub(crate) fn write_outcome(
     alloc: Global,
     intermediary: &Intermediary,

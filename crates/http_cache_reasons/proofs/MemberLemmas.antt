@@ -18,8 +18,6 @@ use Rattle.http_cache_reasons.specs.declared.member.CacheOutcome.TheVariants.{Hi
 use Rattle.http_cache_reasons.specs.declared.member.TimeLeft.{TimeLeft}
 use Rattle.http_cache_reasons.specs.declared.member.TimeLeft.TheVariants.{Left, Past}
 
--- ---- bare items
-
 printable-is : (b : ℕ) → is_printable (printable b) ≡ true
 printable-is b = by (is_printable b) refl
   where
@@ -51,8 +49,6 @@ word-is_token VaryMiss = refl
 word-is_token Miss = refl
 word-is_token Request = refl
 word-is_token Stale = refl
-
--- ---- parameters, each of which may be left out
 
 abbrev MayBeParameter : List ℕ → Type 0
 MayBeParameter text = (text ≡ []) ⊎ IsParameter text
@@ -96,11 +92,9 @@ ttl-may_be None = inl refl
 ttl-may_be (Some (Left seconds)) = left-may_be seconds
 ttl-may_be (Some (Past seconds)) = past-may_be seconds
 
-detail-may_be : (told : Option (List ℕ)) → MayBeParameter (detail_parameter told)
+detail-may_be : (reported : Option (List ℕ)) → MayBeParameter (detail_parameter reported)
 detail-may_be None = inl refl
 detail-may_be (Some text) = inr (has_value (codes "detail") (string_item text) refl (string-is_item text))
-
--- ---- the item
 
 item-with : (front part : List ℕ) → IsItem front → MayBeParameter part → IsItem (front ++ part)
 item-with front part is (inl none) =

@@ -1,4 +1,5 @@
--- The member of Cache-Status of an explanation, before the origin is asked (RFC 9211, section 2).
+-- The member of Cache-Status for an explanation, before the request is forwarded (RFC 9211, section
+-- 2).
 use Rattle.std.specs.Prelude.{ℕ, ◌+◌, ◌-◌, ◌/◌, Bool, false, nat_le, List, ◌++◌, codes, decimal, Option, Some, None}
 use Rattle.std.specs.Prelude.{option_and_then, if◌then◌else◌}
 use Rattle.http_cache_reasons.specs.Reason.{ReasonSeen, other_target, other_host, other_of_get_and_head}
@@ -16,13 +17,12 @@ use Rattle.http_cache_reasons.specs.declared.reason.StaleReason.{StaleReason}
 use Rattle.http_cache_reasons.specs.declared.reason.StaleReason.TheVariants.{NotAsked, NotStorable, MustRevalidate}
 use Rattle.http_cache_reasons.specs.declared.reason.StaleReason.TheVariants.{NoCache, TooStale}
 
--- why a matching response isn't used: it is stale where its lifetime is used up, whatever the
--- request asks; only a fresh one isn't used because of the request (RFC 9211, section 2.2)
+-- why a matching response isn't used: it is stale, or else the request forbids it (RFC 9211,
+-- section 2.2)
 abbrev pub forward_by : Bool → Forward
 forward_by is_used_up = if is_used_up then Stale else Request
 
--- why a request is forwarded, by whether the lifetime is used up (RFC 9211, section 2.2); another
--- Host is another target URI
+-- by whether the lifetime is used up; another Host is another target URI (RFC 9211, section 2.2)
 abbrev pub forward : Bool → ReasonSeen → Forward
 forward is_used_up other_target = UriMiss
 forward is_used_up other_host = UriMiss
@@ -35,30 +35,26 @@ forward is_used_up (asks_max_age seconds) = forward_by is_used_up
 forward is_used_up (asks_min_fresh seconds) = forward_by is_used_up
 forward is_used_up (is_stale why) = Stale
 
--- a hit, or why the request is forwarded, at an age
 abbrev pub outcome_by : Option ReasonSeen → ℕ → ℕ → CacheOutcome
 outcome_by None lifetime age = Hit
 outcome_by (Some reason) lifetime age = Forwarded (forward (nat_le lifetime age) reason)
 
--- what a cache does before the origin is asked
 abbrev pub outcome : ExplanationSeen → CacheOutcome
 outcome x = outcome_by x.reason x.freshness.1 x.age
 
--- the whole seconds that are left of a lifetime at an age, both in nanoseconds, rounded down, so
--- that no more is told than is left (RFC 9211, section 2.4)
+-- whole seconds, rounded down, so that the member doesn't claim more than remains (RFC 9211,
+-- section 2.4)
 abbrev pub time_left : ℕ → ℕ → TimeLeft
 time_left lifetime age =
     if nat_le age lifetime
     then Left ((lifetime - age) / 1_000_000_000)
     else Past ((age - lifetime + 999_999_999) / 1_000_000_000)
 
--- what is left of the response that is sent, which before the origin is asked is known only for a
--- hit (RFC 9211, section 2.4)
+-- before the request is forwarded, only a hit has a response to be sent (RFC 9211, section 2.4)
 abbrev pub left_for : CacheOutcome → ℕ → ℕ → Option TimeLeft
 left_for Hit lifetime age = Some (time_left lifetime age)
 left_for _ lifetime age = None
 
--- why max-stale doesn't let a stale response out
 abbrev pub stale_detail : StaleReason → Option (List ℕ)
 stale_detail NotAsked = None
 stale_detail NotStorable = Some (codes "not storable")
@@ -66,7 +62,7 @@ stale_detail MustRevalidate = Some (codes "must-revalidate")
 stale_detail NoCache = Some (codes "no-cache")
 stale_detail (TooStale seconds) = Some (codes "max-stale=" ++ decimal seconds)
 
--- which header or directive a reason goes by (RFC 9211, section 2.8)
+-- RFC 9211, section 2.8
 abbrev pub detail : ReasonSeen → Option (List ℕ)
 detail other_target = None
 detail other_host = Some (codes "host")
@@ -79,11 +75,10 @@ detail (asks_max_age seconds) = Some (codes "max-age=" ++ decimal seconds)
 detail (asks_min_fresh seconds) = Some (codes "min-fresh=" ++ decimal seconds)
 detail (is_stale why) = stale_detail why
 
--- which header or directive an explanation goes by
-abbrev pub detail_told : ExplanationSeen → Option (List ℕ)
-detail_told x = option_and_then detail x.reason
+abbrev pub reported_detail : ExplanationSeen → Option (List ℕ)
+reported_detail x = option_and_then detail x.reason
 
--- what a cache of a name says before the origin is asked: nothing is received, and nothing stored
+-- before the request is forwarded, nothing is received or stored
 abbrev pub member_of : List ℕ → ExplanationSeen → MemberSeen
 member_of cache x = record {
   cache = cache;
@@ -91,9 +86,8 @@ member_of cache x = record {
   forward_status = None;
   stored = false;
   left = left_for (outcome x) x.freshness.1 x.age;
-  detail = detail_told x;
+  detail = reported_detail x;
 }
 
--- the member of a cache's name
 abbrev pub cache_status : List ℕ → ExplanationSeen → List ℕ
 cache_status cache x = member_text (member_of cache x)

@@ -1,4 +1,4 @@
--- A member of Cache-Status: what a cache did with a request (RFC 9211, section 2).
+-- A member of Cache-Status: how a cache handled a request (RFC 9211, section 2).
 use Rattle.std.specs.Prelude.{ℕ, Bool, nat_le, List, [], ◌++◌, codes, decimal, Option, Some, None, option_map}
 use Rattle.std.specs.Prelude.{if◌then◌else◌}
 use Rattle.http_cache_reasons.specs.StructuredField.{string_item, name_item}
@@ -11,7 +11,7 @@ use Rattle.http_cache_reasons.specs.declared.member.TimeLeft.{TimeLeft}
 use Rattle.http_cache_reasons.specs.declared.member.TimeLeft.TheVariants.{Left, Past}
 use Rattle.http_cache_reasons.specs.declared.member.Member.{Member}
 
--- why a request is forwarded (RFC 9211, section 2.2)
+-- RFC 9211, section 2.2
 abbrev pub forward_word : Forward → List ℕ
 forward_word Bypass = codes "bypass"
 forward_word Method = codes "method"
@@ -21,38 +21,37 @@ forward_word Miss = codes "miss"
 forward_word Request = codes "request"
 forward_word Stale = codes "stale"
 
--- a hit (RFC 9211, section 2.1), or why the request is forwarded (section 2.2), or neither
+-- RFC 9211, sections 2.1 and 2.2
 abbrev pub outcome_parameter : CacheOutcome → List ℕ
 outcome_parameter Hit = codes "; hit"
 outcome_parameter (Forwarded why) = codes "; fwd=" ++ forward_word why
 outcome_parameter Generated = []
 
--- the status of the response to the forwarded request (RFC 9211, section 2.3)
+-- RFC 9211, section 2.3
 abbrev pub status_parameter : Option ℕ → List ℕ
 status_parameter None = []
 status_parameter (Some status) = codes "; fwd-status=" ++ decimal status
 
--- that the response is stored (RFC 9211, section 2.5)
+-- RFC 9211, section 2.5
 abbrev pub stored_parameter : Bool → List ℕ
 stored_parameter stored = if stored then codes "; stored" else []
 
--- a number of seconds after a text, unless it has more than 15 digits (RFC 8941, section 3.3.1)
+-- it is left out if it has more than 15 digits (RFC 8941, section 3.3.1)
 abbrev pub seconds_parameter : List ℕ → ℕ → List ℕ
 seconds_parameter front seconds =
     if nat_le seconds 999_999_999_999_999 then front ++ decimal seconds else []
 
--- what is left of the lifetime of the response, less than 0 where it is stale (RFC 9211, section 2.4)
+-- negative for a stale response (RFC 9211, section 2.4)
 abbrev pub ttl_parameter : Option TimeLeft → List ℕ
 ttl_parameter None = []
 ttl_parameter (Some (Left seconds)) = seconds_parameter (codes "; ttl=") seconds
 ttl_parameter (Some (Past seconds)) = seconds_parameter (codes "; ttl=-") seconds
 
--- what else is said, as a string (RFC 9211, section 2.8)
+-- RFC 9211, section 2.8
 abbrev pub detail_parameter : Option (List ℕ) → List ℕ
 detail_parameter None = []
 detail_parameter (Some text) = codes "; detail=" ++ string_item text
 
--- the name of a cache, what it did, and what it says of that
 pub record MemberSeen : Type 0 where
   pub cache : List ℕ
   pub outcome : CacheOutcome
@@ -61,7 +60,6 @@ pub record MemberSeen : Type 0 where
   pub left : Option TimeLeft
   pub detail : Option (List ℕ)
 
--- what is seen of a member
 abbrev pub member_seen : Member → MemberSeen
 member_seen x = record {
   cache = x.cache.now;
@@ -72,7 +70,7 @@ member_seen x = record {
   detail = option_map (λ text. text.now) x.detail;
 }
 
--- the member: the name of the cache as a token, else as a string, and its parameters in this order
+-- the name of the cache as a token if it is one, otherwise as a string, and the parameters in order
 unfoldable pub member_text : MemberSeen → List ℕ
 member_text x =
     name_item x.cache

@@ -1,4 +1,4 @@
--- Why a stored response isn't used for a request without validation, as it is seen.
+-- Why a stored response isn't used without validation, as contracts see it.
 use Rattle.std.specs.Prelude.{ℕ, Bool, true, false, List, Option, option_map}
 use Rattle.std.specs.Duration.{as_nanos}
 use Rattle.http_cache_rules.specs.Freshness.{Sourced, freshness_seen}
@@ -8,9 +8,7 @@ use Rattle.http_cache_reasons.specs.declared.reason.Reason.TheVariants.{Target, 
 use Rattle.http_cache_reasons.specs.declared.reason.Reason.TheVariants.{NoCache, Pragma, MaxAge, MinFresh, Stale}
 use Rattle.http_cache_reasons.specs.declared.reason.Explanation.{Explanation}
 
--- another target, Host or method, where GET and HEAD are told apart from the others; another value
--- under a name that the response varies by; what the request asks, with its seconds; a stale
--- response that isn't let out
+-- GET and HEAD are distinguished from other methods; what the request asks has its seconds
 pub data ReasonSeen : Type 0 where
   other_target : ReasonSeen
   other_host : ReasonSeen
@@ -23,7 +21,6 @@ pub data ReasonSeen : Type 0 where
   asks_min_fresh : ℕ → ReasonSeen
   is_stale : StaleReason → ReasonSeen
 
--- what is seen of a reason
 abbrev pub reason_seen : Reason → ReasonSeen
 reason_seen Target = other_target
 reason_seen Host = other_host
@@ -36,7 +33,7 @@ reason_seen (MaxAge seconds) = asks_max_age seconds
 reason_seen (MinFresh seconds) = asks_min_fresh seconds
 reason_seen (Stale why) = is_stale why
 
--- the stored response isn't the answer to the request, fresh or not
+-- the stored response doesn't match the request
 abbrev pub is_mismatch : ReasonSeen → Bool
 is_mismatch other_target = true
 is_mismatch other_host = true
@@ -49,13 +46,12 @@ is_mismatch (asks_max_age seconds) = false
 is_mismatch (asks_min_fresh seconds) = false
 is_mismatch (is_stale why) = false
 
--- the reason, if there is one, the age in nanoseconds, and the lifetime behind what gives it
+-- the reason, if there is one, the age in nanoseconds, and the lifetime with its source
 pub record ExplanationSeen : Type 0 where
   pub reason : Option ReasonSeen
   pub age : ℕ
   pub freshness : Sourced
 
--- what is seen of an explanation
 abbrev pub explanation_seen : Explanation → ExplanationSeen
 explanation_seen x = record {
   reason = option_map reason_seen x.reason;

@@ -8,7 +8,6 @@ use Rattle.http_cache_reasons.specs.declared.reason.StaleReason.{StaleReason}
 use Rattle.http_cache_reasons.specs.declared.reason.StaleReason.TheVariants.{NotAsked, NotStorable, MustRevalidate}
 use Rattle.http_cache_reasons.specs.declared.reason.StaleReason.TheVariants.{NoCache, TooStale}
 
--- why max-stale doesn't let a stale response out
 abbrev pub stale_text : StaleReason → List ℕ
 stale_text NotAsked = codes "stale"
 stale_text NotStorable = codes "stale, max-stale but not storable"
@@ -16,7 +15,6 @@ stale_text MustRevalidate = codes "stale, max-stale but must-revalidate"
 stale_text NoCache = codes "stale, max-stale but no-cache"
 stale_text (TooStale seconds) = codes "stale past max-stale=" ++ decimal seconds
 
--- why a stored response isn't used
 abbrev pub reason_text : ReasonSeen → List ℕ
 reason_text other_target = codes "other target"
 reason_text other_host = codes "other Host"
@@ -29,12 +27,11 @@ reason_text (asks_max_age seconds) = codes "request max-age=" ++ decimal seconds
 reason_text (asks_min_fresh seconds) = codes "request min-fresh=" ++ decimal seconds
 reason_text (is_stale why) = stale_text why
 
--- a hit, or why there is none
 abbrev pub verdict_text : Option ReasonSeen → List ℕ
 verdict_text None = codes "hit"
 verdict_text (Some reason) = reason_text reason
 
--- a verdict, the age in whole seconds, and what the lifetime goes by
+-- the age is in whole seconds
 abbrev pub explanation_text : ExplanationSeen → List ℕ
 explanation_text x =
     verdict_text x.reason

@@ -1,4 +1,4 @@
--- Worked rows, each computed.
+-- Computed examples.
 use Rattle.std.specs.Prelude.{◌≡◌, ℕ, [], ◌++◌, true, false, codes, decimal, Option, Some, None, refl}
 use Rattle.http_header.specs.Token.{is_token_byte}
 use Rattle.http_cache_rules.specs.declared.freshness.LifetimeSource.TheVariants.{MaxAge}
@@ -12,11 +12,11 @@ use Rattle.http_cache_reasons.specs.Member.{member_text}
 use Rattle.http_cache_reasons.specs.CacheStatus.{cache_status}
 use Rattle.http_cache_reasons.specs.ReasonText.{explanation_text}
 
--- ten seconds by max-age, at an age
+-- max-age=10, at an age
 at_age : Option ReasonSeen → ℕ → ExplanationSeen
 at_age reason age = record { reason = reason; age = age; freshness = (MaxAge, 10_000_000_000) }
 
--- ---- before the origin is asked
+-- ---- before the request is forwarded
 
 row_hit : cache_status (codes "ExampleCache") (at_age None 3_500_000_000)
     ≡ codes "ExampleCache; hit; ttl=" ++ decimal 6 ++ []
@@ -61,7 +61,7 @@ row_head : cache_status (codes "a") (at_age (Some other_of_get_and_head) 0) ≡ 
 unfolding at_age member_text is_token_byte
 row_head = refl
 
--- ---- once the origin has answered, and for a response of the cache's own
+-- ---- after the response, and for one that the cache generates
 
 row_validated : member_text
     (record {

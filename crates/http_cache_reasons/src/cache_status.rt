@@ -1,11 +1,12 @@
-//! The member of Cache-Status of an explanation, before the origin is asked (RFC 9211, section 2).
+//! Makes the Cache-Status member of an explanation, before the request is forwarded (RFC 9211,
+//! section 2).
 ghost use Rattle.std.specs.Prelude.{◌≡◌, false, None, string_bytes, option_map, IfOk, IsOkUnless};
 ghost use Rattle.std.specs.Duration.{as_nanos};
 ghost use Rattle.http_cache_reasons.specs.Reason.{reason_seen, explanation_seen};
 ghost use Rattle.http_cache_reasons.specs.StructuredField.{IsItem};
 ghost use Rattle.http_cache_reasons.specs.Member.{member_seen};
 ghost use Rattle.http_cache_reasons.specs.CacheStatus.{forward, outcome, time_left, stale_detail, detail};
-ghost use Rattle.http_cache_reasons.specs.CacheStatus.{detail_told, cache_status};
+ghost use Rattle.http_cache_reasons.specs.CacheStatus.{reported_detail, cache_status};
 
 use crate::member::{CacheOutcome, Forward, Member, TimeLeft};
 use crate::reason::{Explanation, Reason, StaleReason};
@@ -15,7 +16,7 @@ use std::time::Duration;
 
 const NANOS_A_SECOND: u128 = 1_000_000_000;
 
-// Why a request is forwarded for a reason, by whether the lifetime is used up.
+// RFC 9211, section 2.2.
 fn forward_for(reason: Reason<'_>, is_used_up: bool) -> Forward
     ensures { result ≡ forward is_used_up (reason_seen reason.entry) }
 {
@@ -35,9 +36,8 @@ fn forward_for(reason: Reason<'_>, is_used_up: bool) -> Forward
     }
 }
 
-// Why max-stale doesn't let a stale response out.
 fn stale_detail(alloc: Global, why: StaleReason) -> Result<Option<String>, AllocError>
-    ensures { IfOk result (λ told. option_map string_bytes told ≡ stale_detail why) }
+    ensures { IfOk result (λ reported. option_map string_bytes reported ≡ stale_detail why) }
 {
     let text = match why {
         StaleReason::NotAsked => return Ok(None),
@@ -49,9 +49,8 @@ fn stale_detail(alloc: Global, why: StaleReason) -> Result<Option<String>, Alloc
     Ok(Some(text))
 }
 
-// Which header or directive a reason goes by.
 fn detail_of(alloc: Global, reason: Reason<'_>) -> Result<Option<String>, AllocError>
-    ensures { IfOk result (λ told. option_map string_bytes told
+    ensures { IfOk result (λ reported. option_map string_bytes reported
         ≡ detail (reason_seen reason.entry)) }
 {
     let text = match reason {
@@ -67,7 +66,7 @@ fn detail_of(alloc: Global, reason: Reason<'_>) -> Result<Option<String>, AllocE
     Ok(Some(text))
 }
 
-// What a cache says before the origin is asked: nothing is received, and nothing is stored.
+// Nothing is received or stored yet.
 fn member_before<'b>(
     cache: &'b str,
     outcome: CacheOutcome,
@@ -94,8 +93,9 @@ fn member_before<'b>(
 }
 
 impl TimeLeft {
-    /// Returns what is left of a lifetime at an age: for a response that a cache has stored, its
-    /// `freshness().lifetime` and its `age(now)` (RFC 9211, section 2.4).
+    /// Returns what remains of a lifetime at an age (RFC 9211, section 2.4).
+    ///
+    /// For a stored response pass `freshness().lifetime` and `age(now)`.
     pub fn of(lifetime: Duration, age: Duration) -> TimeLeft
         ensures value { result ≡ time_left (as_nanos lifetime) (as_nanos age) }
     {
@@ -109,10 +109,9 @@ impl TimeLeft {
 }
 
 impl<'a> Explanation<'a> {
-    /// Returns what a cache does with the request before it asks the origin: a hit, or why it
-    /// forwards the request (RFC 9211, sections 2.1 and 2.2).
+    /// Returns a hit, or why the request is forwarded (RFC 9211, sections 2.1 and 2.2).
     ///
-    /// Where the stored response matches and its lifetime is used up, that is `Forward::Stale`,
+    /// If the stored response matches and its lifetime is used up, that is `Forward::Stale`,
     /// whatever the request asks.
     pub fn outcome(&self) -> CacheOutcome
         ensures value { result ≡ outcome (explanation_seen self.now) }
@@ -124,7 +123,7 @@ impl<'a> Explanation<'a> {
         CacheOutcome::Forwarded(forward_for(reason, is_used_up))
     }
 
-    /// Returns what is left of the lifetime of the stored response (RFC 9211, section 2.4).
+    /// Returns what remains of the stored response's lifetime (RFC 9211, section 2.4).
     pub fn time_left(&self) -> TimeLeft
         ensures value { result
             ≡ time_left (explanation_seen self.now).freshness.1 (explanation_seen self.now).age }
@@ -132,15 +131,12 @@ impl<'a> Explanation<'a> {
         TimeLeft::of(self.freshness.lifetime, self.age)
     }
 
-    /// Returns which header or directive the reason goes by, as `no-cache`, `max-age=5` or a name of
-    /// Vary, if it goes by one (RFC 9211, section 2.8).
-    ///
-    /// # Errors
-    ///
-    /// `CacheError::Memory` if there is no memory for the text.
+    /// Returns the field or directive that the reason is about, such as `no-cache`, `max-age=5` or
+    /// a name of Vary, if there is one (RFC 9211, section 2.8). The only error is
+    /// `CacheError::Memory`.
     pub fn detail(&self, alloc: Global) -> Result<Option<String>, CacheError>
         ensures value { IfOk result (λ text. option_map string_bytes text
-            ≡ detail_told (explanation_seen self.now)) }
+            ≡ reported_detail (explanation_seen self.now)) }
         ensures only_memory { IsOkUnless result CacheError.Memory }
     {
         let Some(reason) = self.reason else {
@@ -149,17 +145,13 @@ impl<'a> Explanation<'a> {
         Ok(detail_of(alloc, reason)?)
     }
 
-    /// Returns the member of Cache-Status for a cache of a name, as it is known before the origin is
-    /// asked: `ExampleCache; hit; ttl=30`, or `ExampleCache; fwd=stale` (RFC 9211, section 2).
+    /// Returns the Cache-Status member of a cache before it forwards the request, such as
+    /// `ExampleCache; hit; ttl=30` or `ExampleCache; fwd=stale` (RFC 9211, section 2).
     ///
-    /// It has `ttl` only for a hit, since `ttl` is of the response that carries the member. What a
-    /// cache knows later is a `Member` of its own. The name is a token where it can be one, else a
-    /// string; a byte that a string may not hold is `?`, and `ttl` is left out where it has more
-    /// than 15 digits.
-    ///
-    /// # Errors
-    ///
-    /// `CacheError::Memory` if there is no memory for the text.
+    /// Only a hit has `ttl`, which is about the response that carries the member. Make a `Member`
+    /// for what is known later. The name is a token if it can be one, otherwise a string with `?`
+    /// for each byte that a string can't have. A `ttl` of more than 15 digits is left out. The only
+    /// error is `CacheError::Memory`.
     pub fn cache_status(&self, alloc: Global, cache: &str) -> Result<String, CacheError>
         ensures value { IfOk result (λ text. string_bytes text
             ≡ cache_status cache.now (explanation_seen self.now)) }

@@ -1,5 +1,5 @@
-//! Why a stored response isn't used for a request, as lines and as members of Cache-Status,
-//! and the members of Cache-Status that say what a cache did with a request (RFC 9211).
+//! Why a stored response isn't used for a request, as text and as Cache-Status members, and members
+//! for how a cache handled a request (RFC 9211).
 #![tactic(auto)]
 
 pub mod cache_status;

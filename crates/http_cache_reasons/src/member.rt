@@ -1,4 +1,4 @@
-//! A member of Cache-Status: what a cache did with a request (RFC 9211, section 2).
+//! Writes a Cache-Status member: how a cache handled a request (RFC 9211, section 2).
 ghost use Rattle.std.specs.Prelude.{◌≡◌, ◌≤◌, ◌++◌, string_bytes, option_map, IfOk, OnOk, IfSome, IsOkUnless};
 ghost use Rattle.http_cache_reasons.specs.StructuredField.{IsItem};
 ghost use Rattle.http_cache_reasons.specs.Member.{forward_word, outcome_parameter, status_parameter};
@@ -13,7 +13,7 @@ use std::fmt::Write;
 
 const GREATEST_INTEGER: u128 = 999_999_999_999_999;
 
-// Room for the bytes of most members, so that the text doesn't grow.
+// Most members fit, so the text doesn't grow.
 const USUAL_LENGTH: usize = 64;
 
 /// Why a cache forwards a request (RFC 9211, section 2.2).
@@ -25,35 +25,34 @@ pub enum Forward {
     Method,
     /// Nothing is stored for the target URI: `uri-miss`.
     UriMiss,
-    /// Something is stored for the target URI, but for other values under the names of Vary:
-    /// `vary-miss`.
+    /// No stored variant of the target URI matches Vary: `vary-miss`.
     VaryMiss,
     /// Nothing that is stored can be used, and no other word says why: `miss`.
     Miss,
-    /// The stored response is fresh, but the request doesn't allow to use it: `request`.
+    /// The stored response is fresh, but the request doesn't allow its use: `request`.
     Request,
     /// The stored response is stale: `stale`.
     Stale,
 }
 
-/// What a cache did with a request (RFC 9211, sections 2.1 and 2.2).
+/// How a cache handled a request (RFC 9211, sections 2.1 and 2.2).
 #[derive(Clone, Copy, Debug, PartialEq, Eq)]
 pub enum CacheOutcome {
-    /// It answered from its store, and didn't forward the request.
+    /// The cache answered from its store: `hit`.
     Hit,
-    /// It forwarded the request.
+    /// The cache forwarded the request: `fwd`.
     Forwarded(Forward),
-    /// It made the response itself, as where the origin can't be reached: neither `hit` nor `fwd`.
+    /// The cache generated the response, as if the origin server can't be reached: neither `hit`
+    /// nor `fwd`.
     Generated,
 }
 
-/// What is left of the lifetime of a response, in whole seconds, rounded down (RFC 9211, section
-/// 2.4).
+/// The rest of a response's lifetime, in whole seconds, rounded down (RFC 9211, section 2.4).
 #[derive(Clone, Copy, Debug, PartialEq, Eq)]
 pub enum TimeLeft {
-    /// So many seconds of the lifetime are left.
+    /// The seconds that are left.
     Left(u128),
-    /// The lifetime has been used up for so many seconds: at least 1.
+    /// The seconds since the lifetime was used up, at least 1.
     Past(u128),
 }
 
@@ -62,20 +61,19 @@ pub enum TimeLeft {
 pub struct Member<'a> {
     /// The name of the cache.
     pub cache: &'a str,
-    /// What it did: `hit` or `fwd`.
+    /// How the cache handled the request: `hit` or `fwd`.
     pub outcome: CacheOutcome,
     /// The status of the response to the forwarded request: `fwd-status` (RFC 9211, section 2.3).
     pub forward_status: Option<StatusCode>,
     /// Whether the cache stored that response: `stored` (RFC 9211, section 2.5).
     pub stored: bool,
-    /// What is left of the lifetime of the response that carries the member: `ttl` (RFC 9211,
-    /// section 2.4).
+    /// The rest of the lifetime of the response that carries the member: `ttl` (RFC 9211, section
+    /// 2.4).
     pub left: Option<TimeLeft>,
-    /// What else there is to say: `detail` (RFC 9211, section 2.8).
+    /// Further information: `detail` (RFC 9211, section 2.8).
     pub detail: Option<&'a str>,
 }
 
-// The word for it.
 fn forward_word(why: Forward) -> &'static str
     ensures { result.now ≡ forward_word why }
 {
@@ -90,7 +88,6 @@ fn forward_word(why: Forward) -> &'static str
     }
 }
 
-// Writes `hit`, or `fwd` and why, or nothing.
 fn push_outcome(text: &mut String, outcome: CacheOutcome) -> Result<(), AllocError>
     ensures { OnOk result
         (string_bytes text.new ≡ string_bytes text.old ++ outcome_parameter outcome) }
@@ -105,7 +102,7 @@ fn push_outcome(text: &mut String, outcome: CacheOutcome) -> Result<(), AllocErr
     }
 }
 
-// Writes a status, which has three digits, if there is one.
+// A status has three digits.
 fn push_status(text: &mut String, status: Option<StatusCode>) -> Result<(), AllocError>
     ensures text { OnOk result
         (string_bytes text.new ≡ string_bytes text.old ++ status_parameter status) }
@@ -118,7 +115,6 @@ fn push_status(text: &mut String, status: Option<StatusCode>) -> Result<(), Allo
     write!(text, "; fwd-status={code}")
 }
 
-// Writes whether the response is stored.
 fn push_stored(text: &mut String, stored: bool) -> Result<(), AllocError>
     ensures { OnOk result
         (string_bytes text.new ≡ string_bytes text.old ++ stored_parameter stored) }
@@ -130,7 +126,7 @@ fn push_stored(text: &mut String, stored: bool) -> Result<(), AllocError>
     }
 }
 
-// Writes a number of seconds after a text, unless it has more than 15 digits.
+// More than 15 digits are no integer (RFC 8941, section 3.3.1).
 fn push_seconds(text: &mut String, front: &str, seconds: u128) -> Result<(), AllocError>
     ensures { OnOk result (string_bytes text.new
         ≡ string_bytes text.old ++ seconds_parameter front.now seconds) }
@@ -141,7 +137,6 @@ fn push_seconds(text: &mut String, front: &str, seconds: u128) -> Result<(), All
     write!(text, "{front}{seconds}")
 }
 
-// Writes what is left of a lifetime, if that is known.
 fn push_ttl(text: &mut String, left: Option<TimeLeft>) -> Result<(), AllocError>
     ensures { OnOk result (string_bytes text.new ≡ string_bytes text.old ++ ttl_parameter left) }
 {
@@ -152,7 +147,6 @@ fn push_ttl(text: &mut String, left: Option<TimeLeft>) -> Result<(), AllocError>
     }
 }
 
-// Writes a detail, if there is one.
 fn push_detail(text: &mut String, detail: Option<&str>) -> Result<(), AllocError>
     ensures { OnOk result (string_bytes text.new
         ≡ string_bytes text.old ++ detail_parameter (option_map (λ t. t.now) detail.entry)) }
@@ -165,14 +159,12 @@ fn push_detail(text: &mut String, detail: Option<&str>) -> Result<(), AllocError
 }
 
 impl Member<'_> {
-    /// Returns the text of the member, as `ExampleCache; fwd=stale; fwd-status=304; stored; ttl=60`.
+    /// Returns the text of the member, such as `ExampleCache; fwd=stale; fwd-status=304; stored;
+    /// ttl=60`.
     ///
-    /// The name is a token where it can be one, else a string. A byte that a string may not hold is
-    /// `?` (RFC 8941, section 3.3.3). `ttl` is left out where it has more than 15 digits.
-    ///
-    /// # Errors
-    ///
-    /// `CacheError::Memory` if there is no memory for the text.
+    /// The name is a token if it can be one, otherwise a string with `?` for each byte that a
+    /// string can't have (RFC 8941, section 3.3.3). A `ttl` of more than 15 digits is left out. The
+    /// only error is `CacheError::Memory`.
     #[tactic(auto, unfolding(crate::specs::Member::member_text))]
     pub fn text(&self, alloc: Global) -> Result<String, CacheError>
         ensures value { IfOk result (λ text. string_bytes text ≡ member_text (member_seen self.now)) }

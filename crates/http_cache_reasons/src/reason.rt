@@ -3,61 +3,59 @@ use http_cache_rules::freshness::Freshness;
 use std::fmt;
 use std::time::Duration;
 
-/// Why a stored response isn't used for a request without validation: the first of these that
-/// applies, in this order.
+/// Why a stored response isn't used without validation: the first of these reasons that applies.
 #[derive(Clone, Copy, Debug, PartialEq, Eq)]
 pub enum Reason<'a> {
-    /// The request has another target.
+    /// The request has another target URI.
     Target,
-    /// It has another Host, or one of the two requests has none.
+    /// The request has another Host, or one of the two requests has none.
     Host,
-    /// The method of one of the two requests is GET, and that of the other HEAD.
+    /// One of the two methods is GET, and the other HEAD.
     OtherOfGetAndHead,
-    /// It has another method.
+    /// The request has another method.
     Method,
-    /// The response varies by this name, under which the request has another first value, or Vary
-    /// says `*` (RFC 7234, section 4.1).
+    /// The request has another first value under this name of Vary, or Vary has `*` (RFC 7234,
+    /// section 4.1).
     Vary(&'a str),
-    /// The request says `no-cache` (RFC 7234, section 5.2.1.4).
+    /// The request has `no-cache` (RFC 7234, section 5.2.1.4).
     NoCache,
-    /// Its first Pragma says `no-cache` (RFC 7234, section 5.4).
+    /// The request's first Pragma has `no-cache` (RFC 7234, section 5.4).
     Pragma,
-    /// The age exceeds the seconds of its `max-age` (RFC 7234, section 5.2.1.1).
+    /// The age exceeds the seconds of the request's `max-age` (RFC 7234, section 5.2.1.1).
     MaxAge(u64),
-    /// Less is left of the lifetime than the seconds of its `min-fresh` (RFC 7234, section
-    /// 5.2.1.3).
+    /// The remaining lifetime is less than the request's `min-fresh` (RFC 7234, section 5.2.1.3).
     MinFresh(u64),
-    /// The response is stale, and `max-stale` doesn't let it out (RFC 7234, section 4.2.4).
+    /// The response is stale, and `max-stale` doesn't allow it (RFC 7234, section 4.2.4).
     Stale(StaleReason),
 }
 
-/// Why `max-stale` doesn't let a stale response out: the first of these that applies, in this
-/// order.
+/// Why `max-stale` doesn't allow a stale response: the first of these reasons that applies.
 #[derive(Clone, Copy, Debug, PartialEq, Eq)]
 pub enum StaleReason {
-    /// The request doesn't say it.
+    /// The request has no `max-stale`.
     NotAsked,
     /// The response may not be stored.
     NotStorable,
-    /// The response says `must-revalidate` (RFC 7234, section 5.2.2.1).
+    /// The response has `must-revalidate` (RFC 7234, section 5.2.2.1).
     MustRevalidate,
-    /// The response says `no-cache` (RFC 7234, section 5.2.2.2).
+    /// The response has `no-cache` (RFC 7234, section 5.2.2.2).
     NoCache,
-    /// The response is stale for so many seconds, which `max-stale` says, or for more (RFC 7234,
-    /// section 5.2.1.2).
+    /// The response has been stale for at least these seconds of `max-stale` (RFC 7234, section
+    /// 5.2.1.2).
     TooStale(u64),
 }
 
-/// Whether a stored response is used for a request without validation at a moment, and why not. Its
-/// text has the age in whole seconds and what the lifetime goes by, as
-/// `stale: age 12 s, max-age=10`.
+/// Whether a stored response is used without validation at a time, and why not.
+///
+/// Its text has the age in whole seconds and the source of the lifetime: `stale: age 12 s,
+/// max-age=10`.
 #[derive(Clone, Copy, Debug, PartialEq, Eq)]
 pub struct Explanation<'a> {
-    /// Why it isn't used, or `None` for a hit.
+    /// Why the response isn't used, or `None` for a hit.
     pub reason: Option<Reason<'a>>,
-    /// The age of the response at the moment.
+    /// The age of the response at that time.
     pub age: Duration,
-    /// How long it stays fresh, and what decides that.
+    /// The freshness lifetime and its source.
     pub freshness: Freshness,
 }
 

@@ -1,4 +1,4 @@
-//! Items of structured fields (RFC 8941).
+//! Writes items of structured fields (RFC 8941).
 ghost use Rattle.std.specs.Prelude.{◌≡◌, ◌++◌, false, slice_get, string_bytes, OnOk};
 ghost use Rattle.std.specs.Option.{option_map_or};
 ghost use Rattle.std.specs.List.{list_all};
@@ -8,14 +8,12 @@ ghost use Rattle.http_cache_reasons.specs.StructuredField.{begins_token, name_it
 use http_header::is_token_char;
 use std::alloc::AllocError;
 
-// Whether a token may hold a byte.
 fn is_in_token(b: u8) -> bool
     ensures { result ≡ is_in_token b }
 {
     is_token_char(b) || b == b':' || b == b'/'
 }
 
-// Whether the first byte of a text is one that a token begins with.
 fn begins_as_token(text: &str) -> bool
     ensures { result ≡ option_map_or begins_token (slice_get text.now 0) false }
 {
@@ -25,21 +23,19 @@ fn begins_as_token(text: &str) -> bool
     }
 }
 
-// Whether a token may hold each byte of a text.
 fn is_all_in_token(text: &str) -> bool
     ensures { result ≡ list_all is_in_token text.now }
 {
     text.as_bytes().iter().all(|b| is_in_token(*b))
 }
 
-// Whether a text is a token (RFC 8941, section 3.3.4).
+// RFC 8941, section 3.3.4.
 fn is_bare_token(text: &str) -> bool
     ensures { result ≡ is_bare_token text.now }
 {
     begins_as_token(text) && is_all_in_token(text)
 }
 
-// Writes what a string holds in the place of a byte.
 fn push_byte(text: &mut String, byte: u8) -> Result<(), AllocError>
     ensures { OnOk result
         (string_bytes text.new ≡ string_bytes text.old ++ escaped (printable byte)) }
@@ -53,7 +49,7 @@ fn push_byte(text: &mut String, byte: u8) -> Result<(), AllocError>
     text.push(char::from(byte))
 }
 
-/// Writes a text as a string, with `?` for each byte that a string may not hold (RFC 8941, section
+/// Writes a text as a string, with `?` for each byte that a string can't have (RFC 8941, section
 /// 3.3.3).
 pub(crate) fn push_string(text: &mut String, value: &str) -> Result<(), AllocError>
     ensures { OnOk result
@@ -66,7 +62,7 @@ pub(crate) fn push_string(text: &mut String, value: &str) -> Result<(), AllocErr
     text.push('"')
 }
 
-/// Writes a text as a token where it is one, else as a string.
+/// Writes a text as a token if it is one, otherwise as a string.
 pub(crate) fn push_name(text: &mut String, name: &str) -> Result<(), AllocError>
     ensures { OnOk result (string_bytes text.new ≡ string_bytes text.old ++ name_item name.now) }
 {

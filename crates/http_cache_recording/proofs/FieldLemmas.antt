@@ -1,4 +1,4 @@
--- What a test lets through.
+-- A test that decides a fact.
 use Rattle.std.proofs.Common.{◌≡◌, ℕ, List, length, Bool, Some, None, Decides, ap}
 use Rattle.std.proofs.lemmas.Bool.{false_from_ne_true, true_from_ne_false, leb-true, le-leb}
 use Rattle.std.proofs.lemmas.Bool.Decides.{not_from_Decides, Decides-and, Decides-ltb}
@@ -6,12 +6,11 @@ use Rattle.std.proofs.lemmas.List.Sums.{AllPass-from_list_all, list_all-from_All
 use Rattle.http_header.specs.Token.{is_value_byte, is_token_byte, IsToken}
 use Rattle.http_header.specs.FieldName.{is_field_name, IsFieldName}
 use Rattle.http_header.specs.FieldValue.{IsFieldValue}
-use Rattle.http_cache_stored.specs.Form.{given}
+use Rattle.http_cache_json.specs.Form.{given}
 use Rattle.http_cache_recording.specs.Fields.{is_value}
 use Rattle.http_cache_recording.specs.Element.{is_token}
 
 module _ {P : Type 0} (b : Bool) (is : Decides b P) where
-  -- what doesn't fail holds
   pub holds : ((P → ⊥) → ⊥) → P
   holds good = is.0 (true_from_ne_false b (λ n. good (not_from_Decides b is n)))
 

@@ -1,3 +1,2 @@
--- The lemmas of recordings.
 pub mod FieldLemmas
 pub mod MendLemmas

@@ -41,12 +41,10 @@ lone_alone : (t : List ℕ) → is_lone t ≡ true → is_pair t ≡ false
 unfolding is_lone
 lone_alone t h = not-true (is_pair t) (and_parts (not (is_pair t)) _ h).0
 
--- a lone surrogate is six bytes long
 pub unit_len-lone : (t : List ℕ) → is_lone t ≡ true → unit_len t ≡ 6
 unfolding unit_len
 unit_len-lone t h = rw (lone_alone t h, h) refl
 
--- a unit has a byte, and ends within the text
 abbrev Fits : List ℕ → ℕ → Type 0
 Fits t n = (0 < n) × (n ≤ length t)
 
@@ -66,7 +64,7 @@ pub unit-kept : (t : List ℕ) → is_lone t ≡ false → unit t ≡ take (unit
 unfolding unit
 unit-kept t h = rw h refl
 
--- what becomes of a unit is as long as the unit
+-- mending keeps the length of a unit
 pub length-unit : (t : List ℕ) → 0 < length t → length (unit t) ≡ unit_len t
 unfolding unit
 length-unit t has =
@@ -86,7 +84,7 @@ begun : (u : List ℕ) (b : ℕ) (bs : List ℕ) → 0 < length u → length u �
 begun [] b bs some h = absurd (omega arith)
 begun (p ∷ ps) b bs some h = ap (λ l. p ∷ l) (planned ps bs (omega arith))
 
--- a text is what becomes of the unit in front, and then the rest mended
+-- a text is its first unit mended, and then the rest mended
 pub mended_step : (t : List ℕ) → 0 < length t → mended t ≡ unit t ++ mended (drop (unit_len t) t)
 unfolding mended
 mended_step [] has = absurd (omega arith)
@@ -96,7 +94,6 @@ mended_step (b ∷ bs) has =
     begun (unit (b ∷ bs)) b bs (omega arith) (omega arith)
     ∙ ap (λ n. unit (b ∷ bs) ++ mended (drop n (b ∷ bs))) long
 
--- what doesn't begin with a backslash begins with no escape
 plain_escape : (t : List ℕ) → get_or t 0 0 ≢ 92 → is_escape t ≡ false
 unfolding is_escape
 plain_escape t plain = grind (arith, nat_tests)
@@ -105,7 +102,7 @@ plain_alone : (t : List ℕ) → get_or t 0 0 ≢ 92 → is_lone t ≡ false
 unfolding is_lone is_pair is_high is_low
 plain_alone t plain = rw (plain_escape t plain) refl
 
--- it is a unit of one byte, and stays
+-- a byte that is no backslash is a unit of its own
 pub plain_len : (t : List ℕ) → get_or t 0 0 ≢ 92 → unit_len t ≡ 1
 unfolding unit_len is_pair is_high
 plain_len t plain =

@@ -1,4 +1,4 @@
--- What an element of the list of entries holds.
+-- What an element of the list of entries says.
 use Rattle.std.specs.Prelude.{◌≡◌, ℕ, ◌==◌, ◌||◌, ◌&&◌, not, nat_lt, ℤ, Bool, true, false, List, ◌++◌, length, bytes_eq, codes, unwrap_or}
 use Rattle.std.specs.Prelude.{is_some, is_none, Option, Some, option_map, if◌then◌else◌, MatchOption}
 use Rattle.std.specs.List.{list_all}
@@ -9,7 +9,7 @@ use Rattle.serde_json.specs.Data.{Data}
 use Rattle.serde_json.specs.Find.{get, as_bool}
 use Rattle.http_cache_fields.specs.Headers.{Headers, contains_key}
 use Rattle.http_cache_rules.specs.Messages.{ResponseSeen}
-use Rattle.http_cache_stored.specs.Form.{◌>>=◌, given}
+use Rattle.http_cache_json.specs.Form.{◌>>=◌, given}
 use Rattle.http_cache_recording.specs.declared.element.Reader.{Reader}
 use Rattle.http_cache_recording.specs.declared.entry.Kind.{Kind}
 use Rattle.http_cache_recording.specs.declared.entry.Kind.TheVariants as kind
@@ -24,111 +24,104 @@ use Rattle.http_cache_recording.specs.Printed.{IsSkippedUrl}
 
 -- ---- why it isn't audited
 
--- a token (RFC 9110, section 5.6.2)
+-- RFC 9110, section 5.6.2
 abbrev pub is_token : List ℕ → Bool
 is_token text = nat_lt 0 (length text) && list_all is_token_byte text
 
--- the method of the request, if it is a token (RFC 9110, section 9.1)
+-- if it is a token (RFC 9110, section 9.1)
 unfoldable pub method_in : Data → Option (List ℕ)
 method_in d = request_text (codes "method") d >>= (λ m. given (is_token m) m)
 
--- what Chromium says of an answer of a service worker
+-- Chromium's mark of an answer from a service worker
 abbrev pub worker_flag : Data → Option Bool
 worker_flag d = member_of (codes "response") (codes "_fetchedViaServiceWorker") d >>= as_bool
 
--- a service worker answered, by Chromium's word or by Safari's
+-- a service worker answered, as Chromium or Safari records
 unfoldable pub is_by_worker : Data → Bool
 is_by_worker d =
     unwrap_or (worker_flag d) false
     || option_map_or (λ t. bytes_eq t (codes "Service Worker")) (text_in (codes "_fetchType") d) false
 
--- why what is asked by http or https isn't audited, whatever its target
+-- why an element for http or https isn't audited, whatever its target
 unfoldable pub other_reason : List ℕ → Data → Option (List ℕ)
 other_reason method d =
     if bytes_eq method (codes "CONNECT") then Some (codes "connect")
     else (if status_of d == 101 then Some (codes "upgrade") else given (is_by_worker d) (codes "service worker"))
 
--- why what is asked for at a url isn't audited
 abbrev pub url_reason : List ℕ → Data → List ℕ → Option (List ℕ)
 url_reason method d url =
     option_or (given (has_user url) (codes "no target"))
     (option_or (option_map (λ s. codes "scheme " ++ s) (other_scheme url))
     (option_or (given (is_none (url_parts url)) (codes "no target")) (other_reason method d)))
 
--- why an element isn't audited, but for its method and its time: the first reason that holds
+-- the first reason that applies, apart from its method and its time
 unfoldable pub reason_of : List ℕ → Data → Option (List ℕ)
 reason_of method d = option_map_or (url_reason method d) (request_text (codes "url") d) (Some (codes "no request"))
 
--- ---- what it holds
+-- ---- what it says
 
--- the target of an element that has one
 unfoldable pub target_in : Data → Option (List ℕ)
 target_in d = option_map target_text (request_text (codes "url") d >>= url_parts)
 
--- when the request was sent
 unfoldable pub started_of : Data → Option ℤ
 started_of d = text_in (codes "startedDateTime") d >>= moment_of_text
 
--- the headers of the request, without `no-cache` if that is ignored
+-- without `no-cache` if that is ignored
 unfoldable pub request_headers : Bool → Data → Headers
 request_headers ignores d =
     let all = headers_in (member_of (codes "request") (codes "headers") d) in
     if ignores then without_no_cache all else all
 
--- the response of an element with a status
 abbrev pub response_of : Data → ResponseSeen
 response_of d = record {
   status = status_of d;
   headers = headers_in (member_of (codes "response") (codes "headers") d);
 }
 
--- no whole response was received: an error, or no status
+-- there is an error, or no status
 abbrev pub is_failed : Data → Bool
 is_failed d = is_some (error_of d) || not (is_in_range 100 999 (status_of d))
 
--- the response to the request, and where it is from
 unfoldable pub answer_of : Data → AnswerSeen
 answer_of d =
     if is_failed d then failed
     else (if is_some (browser_of d) then cached (response_of d) else received (response_of d))
 
--- the body of the response, if it was recorded: a 304 has none
+-- a 304 has none
 unfoldable pub body_of : Data → Option BodySeen
 body_of d = do
   content ← member_of (codes "response") (codes "content") d
   text ← some_text_in (codes "text") content
   given (not (status_of d == 304)) (record { text = text; encoding = some_text_in (codes "encoding") content })
 
--- ---- what it is counted as
+-- ---- how it is counted
 
--- the browser redirected the request by itself
+-- the browser made the redirection itself
 abbrev pub is_internal : AnswerSeen → Bool
 is_internal failed = false
 is_internal (cached r) = contains_key r.headers (codes "non-authoritative-reason")
 is_internal (received r) = contains_key r.headers (codes "non-authoritative-reason")
 
--- the request asks if another origin may be asked (CORS)
+-- the request is a CORS preflight
 abbrev pub is_preflight : Data → List ℕ → Headers → Bool
 is_preflight d method h =
     bytes_eq method (codes "OPTIONS")
     && (contains_key h (codes "access-control-request-method")
     || option_map_or (λ t. bytes_eq t (codes "preflight")) (some_text_in (codes "_resourceType") d) false)
 
--- a store can answer requests of the method
 abbrev pub is_answered_by_store : List ℕ → Bool
 is_answered_by_store method = bytes_eq method (codes "GET") || bytes_eq method (codes "HEAD")
 
--- the request asks for a range, or got one
+-- the request asks for a range, or received one
 abbrev pub is_range : Data → Headers → Bool
 is_range d h = status_of d == 206 || contains_key h (codes "range")
 
--- no response was received
 abbrev pub has_failed : AnswerSeen → Bool
 has_failed failed = true
 has_failed (cached r) = false
 has_failed (received r) = false
 
--- what a request is counted as: the first that holds
+-- the first kind that applies
 unfoldable pub kind_of : Data → List ℕ → Headers → AnswerSeen → Kind
 kind_of d method h a =
     if is_internal a then kind.Internal
@@ -138,7 +131,6 @@ kind_of d method h a =
 
 -- ---- all of it
 
--- the entry of a request that was sent at a time
 unfoldable pub entry_of : Bool → List ℕ → ℤ → Data → EntrySeen
 entry_of ignores method started d = record {
   kind = kind_of d method (request_headers ignores d) (answer_of d);
@@ -150,13 +142,12 @@ entry_of ignores method started d = record {
   body = body_of d;
 }
 
--- the row of an element that isn't audited
 abbrev pub IsSkipped : Reader → Data → List ℕ → RecordedSeen → Type 0
 IsSkipped reader d reason r =
     (url : Option (List ℕ)) × IsSkippedUrl d url
     × (r ≡ record { printed = printed_of reader url d; reading = skipped reason })
 
--- the row of an element with a method, and a target and a time, or without
+-- an element with a method may lack a target or a time
 abbrev pub IsRecordedBy : Reader → Data → List ℕ → RecordedSeen → Type 0
 IsRecordedBy reader d method r =
     MatchOption (reason_of method d)
@@ -167,7 +158,7 @@ IsRecordedBy reader d method r =
     }))
     (λ reason. IsSkipped reader d reason r)
 
--- the row of an element: its entry, or the first reason why it isn't audited
+-- its entry, or the first reason why it isn't audited
 abbrev pub IsRecorded : Reader → Data → RecordedSeen → Type 0
 IsRecorded reader d r =
     MatchOption (method_in d) (IsSkipped reader d (codes "no request") r) (λ method. IsRecordedBy reader d method r)

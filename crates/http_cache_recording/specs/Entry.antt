@@ -1,4 +1,4 @@
--- What is seen of the entries of a recording.
+-- The entries of a recording, as contracts see them.
 use Rattle.std.specs.Prelude.{ℕ, ℤ, List, Option, option_map, String, string_bytes}
 use Rattle.std.specs.declared.alloc.Global.{Global}
 use Rattle.http_cache_fields.specs.Headers.{Headers, headers_of}
@@ -13,11 +13,9 @@ use Rattle.http_cache_recording.specs.declared.entry.Answer.{Answer}
 use Rattle.http_cache_recording.specs.declared.entry.Answer.TheVariants as answer
 use Rattle.http_cache_recording.specs.declared.entry.Body.{Body}
 
--- the bytes of a text, if there is one
 abbrev pub text_seen : Option (String Global) → Option (List ℕ)
 text_seen t = option_map string_bytes t
 
--- what may be printed of an entry
 pub record PrintedSeen : Type 0 where
   pub method : Option (List ℕ)
   pub url : Option (List ℕ)
@@ -40,7 +38,7 @@ printed_seen p = record {
   page = text_seen p.page;
 }
 
--- the response to a request: none, from the browser's own cache, or from the network
+-- no response, one from the browser's own cache, or one from the network
 pub data AnswerSeen : Type 0 where
   failed : AnswerSeen
   cached : ResponseSeen → AnswerSeen
@@ -51,7 +49,7 @@ answer_seen answer.Failed = failed
 answer_seen (answer.Cached r) = cached (response_seen r)
 answer_seen (answer.Received r) = received (response_seen r)
 
--- the text of a body, and how that encodes it
+-- the text of a body, and its encoding
 pub record BodySeen : Type 0 where
   pub text : List ℕ
   pub encoding : Option (List ℕ)
@@ -59,7 +57,7 @@ pub record BodySeen : Type 0 where
 abbrev pub body_seen : Body → BodySeen
 body_seen b = record { text = string_bytes b.text; encoding = text_seen b.encoding }
 
--- a request and the response to it; times in nanoseconds since 1970
+-- times are in nanoseconds since 1970
 pub record EntrySeen : Type 0 where
   pub kind : Kind
   pub started : ℤ
@@ -80,7 +78,6 @@ entry_seen e = record {
   body = option_map body_seen e.body;
 }
 
--- what an entry holds, or why it isn't audited
 pub data ReadingSeen : Type 0 where
   entry : EntrySeen → ReadingSeen
   skipped : List ℕ → ReadingSeen
@@ -89,7 +86,6 @@ abbrev pub reading_seen : Reading → ReadingSeen
 reading_seen (reading.Entry e) = entry (entry_seen e)
 reading_seen (reading.Skipped reason) = skipped (string_bytes reason)
 
--- an entry of a recording
 pub record RecordedSeen : Type 0 where
   pub printed : PrintedSeen
   pub reading : ReadingSeen

@@ -5,34 +5,28 @@ use Rattle.std.specs.Option.{option_or, option_map_or}
 use Rattle.std.specs.Str.{IsCharBoundary}
 use Rattle.serde_json.specs.Data.{Data}
 use Rattle.serde_json.specs.Find.{get, as_str, as_number, as_object, as_u64}
-use Rattle.http_cache_stored.specs.Form.{◌>>=◌, given}
+use Rattle.http_cache_json.specs.Form.{◌>>=◌, given}
 use Rattle.http_cache_recording.specs.declared.element.Reader.{Reader}
 use Rattle.http_cache_recording.specs.Entry.{PrintedSeen}
 use Rattle.http_cache_recording.specs.Number.{whole}
 use Rattle.http_cache_recording.specs.Target.{user_len}
 
--- the member of a member
 abbrev pub member_of : List ℕ → List ℕ → Data → Option Data
 member_of outer inner d = get outer d >>= get inner
 
--- a text that isn't empty
 abbrev pub some_text : List ℕ → Option (List ℕ)
 some_text [] = None
 some_text (b ∷ bs) = Some (b ∷ bs)
 
--- the text under a name
 abbrev pub text_in : List ℕ → Data → Option (List ℕ)
 text_in name d = get name d >>= as_str
 
--- the same, if it isn't empty
 abbrev pub some_text_in : List ℕ → Data → Option (List ℕ)
 some_text_in name d = text_in name d >>= some_text
 
--- the text of the request under a name
 unfoldable pub request_text : List ℕ → Data → Option (List ℕ)
 request_text name d = get (codes "request") d >>= text_in name
 
--- the method of the request
 unfoldable pub method_of : Data → Option (List ℕ)
 method_of d = request_text (codes "method") d >>= some_text
 
@@ -40,7 +34,7 @@ method_of d = request_text (codes "method") d >>= some_text
 unfoldable pub without_credentials : List ℕ → List ℕ
 without_credentials text = drop (user_len 63 35 text) text
 
--- the longest front of at most 200 bytes that cuts no character
+-- the longest beginning of at most 200 bytes that ends between characters
 abbrev pub IsFront : List ℕ → List ℕ → Type 0
 IsFront text front =
     (n : ℕ) × (n ≤ 200) × IsCharBoundary text n × ((i : ℕ) → n < i → i ≤ 200 → ¬ (IsCharBoundary text i))
@@ -52,40 +46,37 @@ IsSkippedUrl d shown =
     MatchOption (request_text (codes "url") d) (shown ≡ None)
     (λ url. IsSomeAnd shown (IsFront (without_credentials url)))
 
--- the status of the response, or 0
+-- or 0
 unfoldable pub status_of : Data → ℕ
 status_of d = unwrap_or (whole (member_of (codes "response") (codes "status") d)) 0
 
--- the size of the headers of a message, if it is a whole number
+-- if it is a whole number
 abbrev pub size_of_headers : List ℕ → Data → Option ℕ
 size_of_headers message d =
     member_of message (codes "headersSize") d >>= (λ size. option_and_then as_u64 (as_number size))
 
--- the size of the headers of a message is 0
 unfoldable pub has_no_size : List ℕ → Data → Bool
 has_no_size message d = unwrap_or (option_map (λ n. n == 0) (size_of_headers message d)) false
 
--- Firefox had the response: messages without a size, of a server without an address
+-- Firefox answered from its cache: messages without a size, of a server without an address
 unfoldable pub is_by_firefox : Data → Bool
 is_by_firefox d =
     nat_lt 0 (status_of d) && has_no_size (codes "request") d && has_no_size (codes "response") d
     && not (is_some (some_text_in (codes "serverIPAddress") d))
 
--- a size of the response
 abbrev pub response_size : List ℕ → Data → Option ℕ
 response_size name d = whole (member_of (codes "response") name d)
 
--- the name for one of Safari's own caches
 abbrev pub safari_name : List ℕ → Option (List ℕ)
 safari_name t =
     if bytes_eq t (codes "Memory Cache") then Some (codes "memory")
     else (if bytes_eq t (codes "Disk Cache") then Some (codes "disk") else None)
 
--- what Safari says of its own caches
 unfoldable pub safari_cache : Data → Option (List ℕ)
 safari_cache d = text_in (codes "_fetchType") d >>= safari_name
 
--- the response was stored before the request (`cache.beforeRequest`), and nothing was sent of its body
+-- the response was stored before the request (`cache.beforeRequest`), and no byte of its body was
+-- sent
 unfoldable pub is_by_state : Data → Bool
 is_by_state d =
     option_map_or (λ state. is_some (as_object state)) (member_of (codes "cache") (codes "beforeRequest") d) false
@@ -93,57 +84,52 @@ is_by_state d =
     && option_map_or (λ n. n == 0) (response_size (codes "bodySize") d) false
     && (unwrap_or (response_size (codes "_transferSize") d) 0 == 0)
 
--- what the browser calls its own cache, if that answered
+-- the browser's name for its own cache, if that answered
 unfoldable pub browser_of : Data → Option (List ℕ)
 browser_of d =
     option_or (some_text_in (codes "_fromCache") d) (option_or (safari_cache d)
     (option_or (given (is_by_firefox d) (codes "firefox")) (given (is_by_state d) (codes "cache"))))
 
--- the error of a response, by the browser or by Playwright
+-- by the browser or by Playwright
 abbrev pub error_in : Data → Option (List ℕ)
 error_in response = option_or (some_text_in (codes "_error") response) (some_text_in (codes "_failureText") response)
 
 unfoldable pub error_of : Data → Option (List ℕ)
 error_of d = get (codes "response") d >>= error_in
 
--- ---- bytes
-
--- a number of the content, or 0
+-- or 0
 abbrev pub content_number : List ℕ → Data → ℕ
 content_number name content = unwrap_or (whole (get name content)) 0
 
--- how long the content is, as it was sent
+-- as it was sent
 unfoldable pub content_size : Data → ℕ
 content_size d =
     option_map_or (λ content. content_number (codes "size") content - content_number (codes "compression") content)
     (member_of (codes "response") (codes "content") d) 0
 
--- how long the body is: nothing after HEAD, and of a 304 (RFC 9110, sections 9.3.2 and 15.4.5)
+-- a response to HEAD and a 304 have no body (RFC 9110, sections 9.3.2 and 15.4.5)
 unfoldable pub body_size : Data → ℕ
 body_size d =
     if (status_of d == 304) || option_map_or (λ m. bytes_eq m (codes "HEAD")) (method_of d) false then 0
     else unwrap_or (response_size (codes "bodySize") d) (content_size d)
 
--- what headers and body take; Firefox counts the headers in the size of a body
+-- Firefox includes the headers in the size of a body
 unfoldable pub sent_by : Bool → Data → ℕ
 sent_by is_firefox d =
     if not is_firefox then unwrap_or (response_size (codes "headersSize") d) 0 + body_size d
     else (if status_of d == 304 then unwrap_or (response_size (codes "headersSize") d) 0
     else unwrap_or (response_size (codes "bodySize") d) 0)
 
--- how many bytes were sent over the network: none if the browser answered
+-- none if the browser answered
 unfoldable pub sent_of : Bool → Data → ℕ
 sent_of is_firefox d =
     if is_some (browser_of d) then 0
     else unwrap_or (response_size (codes "_transferSize") d) (sent_by is_firefox d)
 
--- ---- all of it
-
--- the name of the page for which it was loaded, in a recording that lists pages
+-- only in a recording that lists pages
 unfoldable pub page_of : Bool → Data → Option (List ℕ)
 page_of has_pages d = if has_pages then some_text_in (codes "pageref") d else None
 
--- what may be printed of an entry, with that url
 unfoldable pub printed_of : Reader → Option (List ℕ) → Data → PrintedSeen
 printed_of reader url d = record {
   method = method_of d;

@@ -1,4 +1,4 @@
-//! Entries from the elements of their list.
+//! Reads the elements of the list of entries.
 ghost use Rattle.std.specs.Prelude.{◌≡◌, option_map, string_bytes, IfOk};
 ghost use Rattle.http_cache_fields.specs.Headers.{headers_of};
 ghost use Rattle.serde_json.specs.View.{view};
@@ -20,7 +20,7 @@ use crate::target::{has_user, other_scheme, target_text, url_parts};
 use http::method::MethodError;
 use http::{HeaderMap, Method, Version, response};
 use http_cache_fields::headers::contains_key;
-use http_cache_stored::texts::status_from_number;
+use http_cache_json::texts::status_from_number;
 use jiff::Timestamp;
 use serde_json::Value;
 use std::alloc::{AllocError, Global};
@@ -28,15 +28,15 @@ use std::alloc::{AllocError, Global};
 /// How the elements of a recording are read.
 #[derive(Clone, Copy)]
 pub(crate) struct Reader {
-    /// Firefox wrote the recording.
+    /// Whether Firefox wrote the recording.
     pub is_firefox: bool,
-    /// Requests are read without their `no-cache`.
+    /// Whether requests are read without their `no-cache`.
     pub ignores_no_cache: bool,
-    /// The recording lists pages, so that an entry may be of one of them.
+    /// Whether the recording lists pages, to which entries may belong.
     pub has_pages: bool,
 }
 
-// The method of the request, if it is a token (RFC 9110, section 9.1).
+// RFC 9110, section 9.1.
 #[tactic(auto, unfolding(crate::specs::Element::method_in))]
 fn method_in(alloc: Global, value: &Value) -> Result<Option<Method>, AllocError>
     ensures { IfOk result (λ method. method ≡ method_in (view value.now)) }
@@ -51,14 +51,14 @@ fn method_in(alloc: Global, value: &Value) -> Result<Option<Method>, AllocError>
     }
 }
 
-// What Chromium says of an answer of a service worker.
+// Chromium's mark of an answer from a service worker.
 fn worker_flag(value: &Value) -> Option<bool>
     ensures { result ≡ worker_flag (view value.now) }
 {
     member(value, "response", "_fetchedViaServiceWorker")?.as_bool()
 }
 
-// Whether a service worker answered, by Chromium's word or by Safari's.
+// Chromium and Safari record it differently.
 #[tactic(auto, unfolding(crate::specs::Element::is_by_worker))]
 fn is_by_worker(value: &Value) -> bool
     ensures { result ≡ is_by_worker (view value.now) }
@@ -66,7 +66,7 @@ fn is_by_worker(value: &Value) -> bool
     worker_flag(value).unwrap_or(false) || text_in(value, "_fetchType") == Some("Service Worker")
 }
 
-// Why what is asked by http or https isn't audited, whatever its target.
+// It holds whatever the target is.
 #[tactic(auto, unfolding(crate::specs::Element::other_reason))]
 fn other_reason(value: &Value, method: &str) -> Option<&'static str>
     ensures { option_map (λ t. t.now) result ≡ other_reason method.now (view value.now) }
@@ -84,7 +84,7 @@ fn other_reason(value: &Value, method: &str) -> Option<&'static str>
     }
 }
 
-// Why an element isn't audited, but for its method and its time.
+// The method and the time are checked elsewhere.
 #[tactic(auto, unfolding(crate::specs::Element::reason_of))]
 fn reason_of(alloc: Global, value: &Value, method: &str) -> Result<Option<String>, AllocError>
     ensures { IfOk result (λ reason. text_seen reason ≡ reason_of method.now (view value.now)) }
@@ -104,7 +104,6 @@ fn reason_of(alloc: Global, value: &Value, method: &str) -> Result<Option<String
     copied(alloc, other_reason(value, method))
 }
 
-// The target of an element that has one.
 #[tactic(auto, unfolding(crate::specs::Element::target_in))]
 fn target_in(alloc: Global, value: &Value) -> Result<Option<String>, AllocError>
     ensures { IfOk result (λ target. text_seen target ≡ target_in (view value.now)) }
@@ -141,7 +140,7 @@ fn request_headers(alloc: Global, value: &Value, reader: Reader) -> Result<Heade
     Ok(headers)
 }
 
-// The response to the request: none after an error, and without a status.
+// There is no answer after an error, or without a status.
 #[tactic(auto, unfolding(crate::specs::Element::answer_of))]
 fn answer_of(alloc: Global, value: &Value) -> Result<Answer, AllocError>
     ensures { IfOk result (λ a. answer_seen a ≡ answer_of (view value.now)) }
@@ -163,7 +162,7 @@ fn answer_of(alloc: Global, value: &Value) -> Result<Answer, AllocError>
     }
 }
 
-// The body of the response, if it was recorded: a 304 has none.
+// A 304 has no body.
 #[tactic(auto, unfolding(crate::specs::Element::body_of))]
 fn body_of(alloc: Global, value: &Value) -> Result<Option<Body>, AllocError>
     ensures { IfOk result (λ body. option_map body_seen body ≡ body_of (view value.now)) }
@@ -182,7 +181,6 @@ fn body_of(alloc: Global, value: &Value) -> Result<Option<Body>, AllocError>
     Ok(Some(Body { text, encoding }))
 }
 
-// Whether the browser redirected the request by itself.
 fn is_internal(answer: &Answer) -> bool
     ensures { result ≡ is_internal (answer_seen answer.now) }
 {
@@ -194,7 +192,7 @@ fn is_internal(answer: &Answer) -> bool
     }
 }
 
-// Whether the request asks if another origin may be asked (CORS).
+// A CORS preflight.
 fn is_preflight(value: &Value, method: &Method, headers: &HeaderMap) -> bool
     ensures { result ≡ is_preflight (view value.now) method.now (headers_of headers.now) }
 {
@@ -203,21 +201,18 @@ fn is_preflight(value: &Value, method: &Method, headers: &HeaderMap) -> bool
             || some_text_in(value, "_resourceType") == Some("preflight"))
 }
 
-// Whether a store can answer requests of the method.
 fn is_answered_by_store(method: &Method) -> bool
     ensures { result ≡ is_answered_by_store method.now }
 {
     method.as_str() == "GET" || method.as_str() == "HEAD"
 }
 
-// Whether the request asks for a range, or got one.
 fn is_range(value: &Value, headers: &HeaderMap) -> bool
     ensures { result ≡ is_range (view value.now) (headers_of headers.now) }
 {
     status_of(value) == 206 || contains_key(headers, "range")
 }
 
-// What a request is counted as.
 #[tactic(auto, unfolding(crate::specs::Element::kind_of))]
 fn kind_of(value: &Value, method: &Method, headers: &HeaderMap, answer: &Answer) -> Kind
     ensures { result ≡ kind_of (view value.now) method.now (headers_of headers.now)
@@ -238,7 +233,6 @@ fn kind_of(value: &Value, method: &Method, headers: &HeaderMap, answer: &Answer)
     }
 }
 
-// The entry of a request that was sent at a time.
 #[tactic(auto, unfolding(crate::specs::Element::entry_of))]
 fn entry_of(
     alloc: Global,
@@ -264,7 +258,6 @@ fn entry_of(
     })
 }
 
-// The row of an element that isn't audited.
 fn skipped(
     alloc: Global,
     value: &Value,
@@ -281,7 +274,6 @@ fn skipped(
     })
 }
 
-// The row of an element with a method that is a token.
 fn recorded_by(
     alloc: Global,
     value: &Value,
@@ -304,7 +296,7 @@ fn recorded_by(
     })
 }
 
-/// Returns the row of an element: what may be printed of it, and its entry or why it isn't audited.
+/// Returns what may be printed of an element, and its entry or why it isn't audited.
 pub(crate) fn recorded(alloc: Global, value: &Value, reader: Reader) -> Result<Recorded, AllocError>
     ensures { IfOk result (λ r. IsRecorded reader (view value.now) (recorded_seen r)) }
 {

@@ -1,13 +1,13 @@
-//! What a recording holds: one row for each entry.
+//! The entries of a recording.
 use http::{HeaderMap, Method, response};
 use jiff::Timestamp;
 
-/// An entry of a recording: what may be printed of it, and what it holds or why it isn't audited.
+/// An entry of a recording.
 #[derive(Drop)]
 pub struct Recorded {
-    /// What may be printed of it. Nothing in it is a credential.
+    /// What may be printed of the entry. Nothing in it is a credential.
     pub printed: Printed,
-    /// What it holds, or why it isn't audited.
+    /// What the entry says, or why it isn't audited.
     pub reading: Reading,
 }
 
@@ -16,72 +16,73 @@ pub struct Recorded {
 pub struct Printed {
     /// The method, if it is a text that isn't empty.
     pub method: Option<String>,
-    /// The target, in the form by which targets are compared. Of an entry that isn't audited, the
-    /// front of its url, after user and password.
+    /// The target, in the form by which targets are compared.
+    ///
+    /// For an entry that isn't audited, the beginning of its url, after user and password.
     pub url: Option<String>,
     /// The status, or 0.
     pub status: u64,
-    /// What the browser calls its own cache that answered, as `disk`, or `firefox`.
+    /// The browser's name for its own cache that answered, such as `disk` or `firefox`.
     pub browser: Option<String>,
     /// The browser's error, if it is a text that isn't empty.
     pub error: Option<String>,
-    /// How many bytes were sent over the network for the response.
+    /// The bytes that were sent over the network for the response.
     pub sent: u64,
-    /// How many bytes its status line and headers took, or 0 if that isn't recorded.
+    /// The bytes of its status line and headers, or 0 if they aren't recorded.
     pub head: u64,
-    /// The page for which it was loaded, by the name that the recording has for it.
+    /// The recording's name for the page for which it was loaded.
     pub page: Option<String>,
 }
 
-/// What an entry holds, or why it isn't audited.
+/// The content of an entry, or why it isn't audited.
 #[derive(Drop)]
 pub enum Reading {
     /// A request, and the response to it.
     Entry(Entry),
-    /// Why it isn't audited, as `scheme data` or `no request`.
+    /// Why the entry isn't audited, such as `scheme data` or `no request`.
     Skipped(String),
 }
 
 /// A request, and the response to it.
 #[derive(Drop)]
 pub struct Entry {
-    /// What the request is counted as.
+    /// How the request is counted.
     pub kind: Kind,
-    /// When the request was sent.
+    /// The time at which the request was sent.
     pub started: Timestamp,
-    /// When the response was received.
+    /// The time at which the response was received.
     pub received: Timestamp,
     /// The method of the request.
     pub method: Method,
     /// The headers of the request, without Host.
     pub headers: HeaderMap,
-    /// The response, and where it is from.
+    /// The response, and its origin.
     pub answer: Answer,
     /// The body of the response, if it was recorded.
     pub body: Option<Body>,
 }
 
-/// What a request is counted as: the first of these that applies.
+/// How a request is counted: the first of these that applies.
 #[derive(Clone, Copy, PartialEq, Eq)]
 pub enum Kind {
-    /// The browser redirected it by itself: the response has `Non-Authoritative-Reason`.
+    /// The browser made the redirection: the response has `Non-Authoritative-Reason`.
     Internal,
-    /// It asks whether another origin may be asked (CORS).
+    /// A CORS preflight.
     Preflight,
-    /// Its method is neither GET nor HEAD, so it goes to the origin.
+    /// The method is neither GET nor HEAD, so the request is forwarded.
     Passed,
-    /// It asks for a range, or got one.
+    /// The request asks for a range, or received one.
     Range,
     /// No whole response was received.
     Failed,
-    /// A store could have answered it.
+    /// A store could have answered the request.
     Asked,
 }
 
-/// The response to a request, and where it is from.
+/// The response to a request, and its origin.
 #[derive(Drop)]
 pub enum Answer {
-    /// No response, or a part of one.
+    /// No response, or only a part of one.
     Failed,
     /// A response from the browser's own cache.
     Cached(response::Parts),
@@ -89,11 +90,11 @@ pub enum Answer {
     Received(response::Parts),
 }
 
-/// The body of a response, as it is recorded.
+/// The recorded body of a response.
 #[derive(Drop)]
 pub struct Body {
     /// Its text, which isn't empty.
     pub text: String,
-    /// How the text encodes its bytes, as `base64`, if that is said.
+    /// The encoding of the bytes in the text, such as `base64`, if it is recorded.
     pub encoding: Option<String>,
 }

@@ -1,14 +1,14 @@
-//! Why no recording was read.
+//! Why a recording can't be read.
 ghost use Rattle.std.specs.Prelude.{◌≡◌};
 ghost use Rattle.http_cache_recording.specs.declared.error.ReadingError.TheVariants.{Memory};
 
 use std::alloc::{AllocError, AllocFailed};
 use thiserror::Error;
 
-/// Why no recording was read.
+/// Why a recording can't be read.
 #[derive(Clone, Copy, Debug, PartialEq, Eq, Error)]
 pub enum ReadingError {
-    /// The allocator had no memory.
+    /// The allocator is out of memory.
     #[error("recording: out of memory")]
     Memory,
     /// There are no bytes.
@@ -31,12 +31,12 @@ pub enum ReadingError {
     /// The text nests more than 127 lists and objects.
     #[error("recording: nested too deeply at line {line}, column {column}")]
     TooDeep {
-        /// The line at which it does, from 1.
+        /// The line at which it nests too deeply, from 1.
         line: usize,
         /// The byte of that line, from 1.
         column: usize,
     },
-    /// A number of the text is greater than any that can be read.
+    /// A number is too great to be read.
     #[error("recording: a number out of range at line {line}, column {column}")]
     NumberOutOfRange {
         /// The line of the number, from 1.
@@ -44,7 +44,7 @@ pub enum ReadingError {
         /// The byte of that line, from 1.
         column: usize,
     },
-    /// It has no list of entries.
+    /// The text has no list of entries.
     #[error("recording: no list of entries at log.entries, nor at entries")]
     NoEntries,
 }

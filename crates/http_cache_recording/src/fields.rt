@@ -1,4 +1,4 @@
-//! Headers of a recording.
+//! Reads the header fields of a recording.
 ghost use Rattle.std.specs.Prelude.{◌≡◌, ◌≤◌, ◌-◌, true, length, fold, option_map, string_bytes, IfOk, IfSome, OnOk};
 ghost use Rattle.std.specs.List.{prefix_len, suffix_len};
 ghost use Rattle.http_header.specs.FieldName.{IsHeaderName};
@@ -19,7 +19,7 @@ use http_header::{
 use serde_json::Value;
 use std::alloc::{AllocError, Global};
 
-/// Returns whether one header more fits, whatever its name.
+/// Returns whether one more field fits, whatever its name.
 pub fn has_room(headers: &HeaderMap) -> bool
     ensures value { result ≡ has_room (headers_of headers.now) }
     ensures room { result ≡ true → ¬ (IsFull (headers_of headers.now)) }
@@ -33,7 +33,6 @@ fn is_blank(b: u8) -> bool
     b == b' ' || b == b'\t' || b == b'\r'
 }
 
-// How many blanks come first.
 fn blanks_len(bytes: &[u8]) -> usize
     ensures value { result ≡ prefix_len is_blank bytes.now }
     ensures within { result ≤ length bytes.now }
@@ -41,7 +40,6 @@ fn blanks_len(bytes: &[u8]) -> usize
     bytes.iter().take_while(|b| is_blank(**b)).count()
 }
 
-// How many bytes come before the blanks at the end.
 fn len_without_blanks(bytes: &[u8]) -> usize
     ensures value { result ≡ length bytes.now - suffix_len is_blank bytes.now }
     ensures within { result ≤ length bytes.now }
@@ -53,7 +51,6 @@ fn len_without_blanks(bytes: &[u8]) -> usize
     len
 }
 
-// The line without the blanks at both ends.
 #[tactic(auto, unfolding(crate::specs::Fields::trimmed))]
 fn trimmed(line: &[u8]) -> &[u8]
     ensures { result.now ≡ trimmed line.now }
@@ -62,7 +59,8 @@ fn trimmed(line: &[u8]) -> &[u8]
     &rest[..len_without_blanks(rest)]
 }
 
-/// Returns what a line holds without the blanks at both ends, if it is a value (RFC 9110, section 5.5).
+/// Returns the content of a line without blanks at both ends, if it is a value (RFC 9110, section
+/// 5.5).
 #[tactic(auto, unfolding(crate::specs::Fields::value_of_line))]
 pub fn value_of_line(alloc: Global, line: &[u8]) -> Result<Option<HeaderValue>, AllocError>
     ensures { IfOk result (λ v. option_map (λ w. w.bytes) v ≡ value_of_line line.now) }
@@ -74,7 +72,7 @@ pub fn value_of_line(alloc: Global, line: &[u8]) -> Result<Option<HeaderValue>, 
     }
 }
 
-/// Returns the header name that a text is, in lower case, if it is one (RFC 9110, section 5.1).
+/// Returns a text as a field name, in lower case, if it is one (RFC 9110, section 5.1).
 #[tactic(auto, unfolding(crate::specs::Fields::field_name))]
 pub fn field_name(alloc: Global, text: &str) -> Result<Option<HeaderName>, AllocError>
     ensures value { IfOk result (λ name. name ≡ field_name text.now) }
@@ -87,7 +85,7 @@ pub fn field_name(alloc: Global, text: &str) -> Result<Option<HeaderName>, Alloc
     }
 }
 
-// The name of a header, in lower case. Host isn't read: each target has its own.
+// Host isn't read, since each target has its own.
 #[tactic(auto, unfolding(crate::specs::Fields::header_name))]
 fn header_name(alloc: Global, header: &Value) -> Result<Option<HeaderName>, AllocError>
     ensures value { IfOk result (λ name. name ≡ header_name (view header.now)) }
@@ -106,7 +104,7 @@ fn header_name(alloc: Global, header: &Value) -> Result<Option<HeaderName>, Allo
     }
 }
 
-// Adds a value under a name, if there is room for it.
+// A value without room is left out.
 fn add_value(
     headers: &mut HeaderMap,
     name: &HeaderName,
@@ -119,7 +117,7 @@ fn add_value(
     if !has_room(headers) {
         return Ok(());
     }
-    // What has room is refused only by the allocator.
+    // Since there is room, the only error is out of memory.
     match append(headers, name, value) {
         Ok(()) => Ok(()),
         Err(_) => Err(AllocError),
@@ -159,7 +157,7 @@ fn add_lines(
     Ok(())
 }
 
-// What a header's value writes: a text, or a whole number.
+// A text, or a whole number.
 fn value_text(alloc: Global, value: &Value) -> Result<Option<String>, AllocError>
     ensures { IfOk result (λ text. option_map string_bytes text ≡ value_text (view value.now)) }
 {
@@ -202,8 +200,8 @@ fn add_headers(alloc: Global, headers: &mut HeaderMap, list: &[Value]) -> Result
     Ok(())
 }
 
-/// Returns the headers of a list, without Host. Those that a header map has no room for are left out,
-/// and what is no list has none.
+/// Returns the headers of a list, without Host. Fields without room are left out, and a value that
+/// is no list has none.
 #[tactic(auto, unfolding(crate::specs::Fields::headers_in))]
 pub(crate) fn headers_in(alloc: Global, list: Option<&Value>) -> Result<HeaderMap, AllocError>
     ensures { IfOk result (λ headers. headers_of headers
@@ -220,7 +218,7 @@ pub(crate) fn headers_in(alloc: Global, list: Option<&Value>) -> Result<HeaderMa
     Ok(headers)
 }
 
-/// Removes Cache-Control and Pragma, if they say `no-cache` (RFC 7234, sections 5.2.1.4 and 5.4).
+/// Removes Cache-Control and Pragma, if they have `no-cache` (RFC 7234, sections 5.2.1.4 and 5.4).
 #[tactic(auto, unfolding(crate::specs::Fields::without_no_cache))]
 pub(crate) fn remove_no_cache(headers: &mut HeaderMap)
     ensures { headers_of headers.new ≡ without_no_cache (headers_of headers.old) }

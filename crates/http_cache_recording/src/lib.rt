@@ -1,6 +1,4 @@
-//! A recorded session (HAR 1.2), entry by entry, from its bytes.
-//!
-//! It says nothing of caching: what a cache would answer is for the crates above.
+//! Reads a recorded session (HAR 1.2), entry by entry. It knows nothing of caching.
 #![tactic(auto)]
 
 mod element;

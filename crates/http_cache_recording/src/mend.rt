@@ -1,4 +1,4 @@
-//! Lone surrogates of a JSON text, mended in place.
+//! Mends lone surrogates of a JSON text in place.
 ghost use Rattle.std.specs.Prelude.{◌≡◌, ◌<◌, ◌≤◌, ◌++◌, length, drop, IsTrue};
 ghost use Rattle.http_cache_recording.specs.Mend.{is_hex, is_high_digit, is_low_digit, is_escape, is_high, is_low};
 ghost use Rattle.http_cache_recording.specs.Mend.{is_pair, is_lone, unit_len, unit, mended, without_mark};
@@ -21,7 +21,6 @@ fn is_low_digit(b: u8) -> bool
     matches!(b, b'C'..=b'F' | b'c'..=b'f')
 }
 
-// Whether the text begins with `\ud` and three bytes of which the last two are digits.
 #[tactic(auto, unfolding(crate::specs::Mend::is_escape))]
 fn is_escape(text: &[u8]) -> bool
     ensures value { result ≡ is_escape text.now }
@@ -84,7 +83,7 @@ fn unit_len(text: &[u8]) -> usize
     }
 }
 
-// Mends the unit in front, and returns its length. Most bytes are a unit of their own.
+// It returns the length of the unit; most bytes are units.
 fn mend_unit(text: &mut [u8]) -> usize
     requires { 0 < length text.old }
     ensures len { result ≡ unit_len text.old }
@@ -102,13 +101,13 @@ fn mend_unit(text: &mut [u8]) -> usize
     len
 }
 
-/// Replaces each lone surrogate by U+FFFD. Nothing else is changed.
+/// Replaces each lone surrogate by U+FFFD, and changes nothing else.
 pub(crate) fn mend(text: &mut [u8])
     ensures { text.new ≡ mended text.old }
 {
-    let mut place = 0;
-    while place < text.len() {
-        place += mend_unit(&mut text[place..]);
+    let mut position = 0;
+    while position < text.len() {
+        position += mend_unit(&mut text[position..]);
     }
 }
 

@@ -1,4 +1,4 @@
-//! When a request was sent, and when the response to it was received.
+//! Reads when a request was sent, and when its response was received.
 ghost use Rattle.std.specs.Prelude.{◌≡◌, ◌≤◌, length, ◌*◌, ◌+ℤ◌, pos, option_map, IfOk, OnOk, ◌++◌};
 ghost use Rattle.std.specs.List.{list_any, prefix_len, position_or_len};
 ghost use Rattle.std.specs.Char.{is_ascii_digit};
@@ -9,8 +9,8 @@ use jiff::Timestamp;
 use jiff_fmt::temporal::parse_timestamp;
 use std::alloc::{AllocError, Global};
 
-// The index of the mark of a fraction, or the length.
-fn mark_place(text: &[u8]) -> usize
+// Without a mark, the length.
+fn mark_position(text: &[u8]) -> usize
     ensures value { result ≡ position_or_len is_mark text.now }
     ensures within { result ≤ length text.now }
 {
@@ -19,7 +19,6 @@ fn mark_place(text: &[u8]) -> usize
         .count()
 }
 
-// How many digits come first.
 fn digits_len(text: &[u8]) -> usize
     ensures value { result ≡ prefix_len is_ascii_digit text.now }
     ensures within { result ≤ length text.now }
@@ -57,7 +56,7 @@ fn push_nine_digits(out: &mut Vec<u8>, rest: &[u8]) -> Result<(), AllocError>
 fn push_shortened(out: &mut Vec<u8>, text: &[u8]) -> Result<(), AllocError>
     ensures { OnOk result (out.new.items ≡ out.old.items ++ shortened text.now) }
 {
-    let mark = mark_place(text);
+    let mark = mark_position(text);
     if mark == text.len() {
         return out.extend_from_slice(text);
     }
@@ -65,7 +64,7 @@ fn push_shortened(out: &mut Vec<u8>, text: &[u8]) -> Result<(), AllocError>
     push_nine_digits(out, &text[mark + 1..])
 }
 
-// The text as it is read.
+// A text without a zone is in UTC.
 #[tactic(auto, unfolding(crate::specs::Moment::full_text))]
 fn full_text(alloc: Global, text: &[u8]) -> Result<Vec<u8>, AllocError>
     ensures { IfOk result (λ full. full.items ≡ full_text text.now) }
@@ -78,7 +77,6 @@ fn full_text(alloc: Global, text: &[u8]) -> Result<Vec<u8>, AllocError>
     Ok(full)
 }
 
-// The moment that a text writes, if it isn't before 1970.
 #[tactic(auto, unfolding(crate::specs::Moment::moment_of_written))]
 fn moment_of_written(text: &[u8]) -> Option<Timestamp>
     ensures { option_map (λ t. t.nanosecond) result ≡ moment_of_written text.now }
@@ -94,8 +92,9 @@ fn moment_of_written(text: &[u8]) -> Option<Timestamp>
     }
 }
 
-/// Returns the moment of a text, if it isn't before 1970. The digits of its fraction after the ninth
-/// are left out, and a text without a zone is in UTC.
+/// Returns the time of a text, if it isn't before 1970.
+///
+/// A fraction keeps nine digits, and a text without a zone is in UTC.
 #[tactic(auto, unfolding(crate::specs::Moment::moment_of_text))]
 pub(crate) fn moment_of_text(alloc: Global, text: &str) -> Result<Option<Timestamp>, AllocError>
     ensures { IfOk result (λ moment. option_map (λ t. t.nanosecond) moment
@@ -105,14 +104,13 @@ pub(crate) fn moment_of_text(alloc: Global, text: &str) -> Result<Option<Timesta
     Ok(moment_of_written(full.as_slice()))
 }
 
-// The nanosecond so many milliseconds after a moment.
 fn nanosecond_after(started: Timestamp, millis: u64) -> i128
     ensures { result ≡ started.nanosecond +ℤ pos (millis * 1_000_000) }
 {
     started.as_nanosecond() + millis as i128 * 1_000_000
 }
 
-/// Returns the moment so many milliseconds after another, or the other if there is none.
+/// Returns the time so many milliseconds later, or the time itself if there is none.
 #[tactic(auto, unfolding(crate::specs::Moment::received_at))]
 pub(crate) fn received_at(started: Timestamp, millis: u64) -> Timestamp
     ensures { result.nanosecond ≡ received_at started.nanosecond millis }

@@ -1,4 +1,4 @@
-//! Numbers of a recording.
+//! Reads the numbers of a recording.
 ghost use Rattle.std.specs.Prelude.{◌≡◌, ◌<◌, ◌^◌, option_map, IfSome};
 ghost use Rattle.serde_json.specs.View.{view, number_view};
 ghost use Rattle.http_cache_recording.specs.Number.{whole_of_number, whole};
@@ -6,7 +6,7 @@ ghost use Rattle.http_cache_recording.specs.Number.{whole_of_number, whole};
 use serde_json::{Number, Value};
 use std::num::saturating_f64_to_u64;
 
-// The number without its fraction, if it isn't below 0.
+// A negative number has none.
 fn whole_of_number(number: &Number) -> Option<u64>
     ensures { result ≡ whole_of_number (number_view number.now) }
 {
@@ -24,7 +24,7 @@ fn whole_of_number(number: &Number) -> Option<u64>
     }
 }
 
-/// Returns a number without its fraction, if there is one from 0 to 2^53 - 1.
+/// Returns a number without its fraction, if it is from 0 to 2^53 - 1.
 #[tactic(auto, unfolding(crate::specs::Number::whole))]
 pub(crate) fn whole(value: Option<&Value>) -> Option<u64>
     ensures value { result ≡ whole (option_map (λ v. view v.now) value.entry) }

@@ -1,4 +1,4 @@
-//! What may be printed of an entry, and what it says of its response.
+//! Reads what may be printed of an entry, and what it says of its response.
 ghost use Rattle.std.specs.Prelude.{◌≡◌, ◌<◌, ◌≤◌, ◌^◌, length, option_map, string_bytes, IfOk, IfSome};
 ghost use Rattle.serde_json.specs.View.{view};
 ghost use Rattle.http_cache_recording.specs.Entry.{text_seen, printed_seen};
@@ -29,7 +29,6 @@ pub(crate) fn text_in<'a>(value: &'a Value, name: &str) -> Option<&'a str>
     value.get(name)?.as_str()
 }
 
-// A text that isn't empty.
 fn some_text(text: &str) -> Option<&str>
     ensures { option_map (λ t. t.now) result ≡ some_text text.now }
 {
@@ -68,7 +67,7 @@ fn method_of(value: &Value) -> Option<&str>
     some_text(request_text(value, "method")?)
 }
 
-// The text after the last `@` before its first `?` or `#`.
+// Credentials end at the last `@` before the first `?` or `#`.
 #[tactic(auto, unfolding(crate::specs::Printed::without_credentials))]
 fn without_credentials(text: &str) -> &str
     ensures { result.now ≡ without_credentials text.now }
@@ -108,7 +107,7 @@ fn has_no_size(value: &Value, message: &str) -> bool
     }
 }
 
-// Firefox had the response: messages without a size, of a server without an address.
+// Firefox answered from its cache: messages without a size, of a server without an address.
 #[tactic(auto, unfolding(crate::specs::Printed::is_by_firefox))]
 fn is_by_firefox(value: &Value) -> bool
     ensures { result ≡ is_by_firefox (view value.now) }
@@ -119,7 +118,6 @@ fn is_by_firefox(value: &Value) -> bool
         && some_text_in(value, "serverIPAddress").is_none()
 }
 
-// What Safari says of its own caches.
 #[tactic(auto, unfolding(crate::specs::Printed::safari_cache))]
 fn safari_cache(value: &Value) -> Option<&'static str>
     ensures { option_map (λ t. t.now) result ≡ safari_cache (view value.now) }
@@ -131,7 +129,8 @@ fn safari_cache(value: &Value) -> Option<&'static str>
     }
 }
 
-// The response was stored before the request (`cache.beforeRequest`), and nothing was sent of its body.
+// The response was stored before the request (`cache.beforeRequest`), and no byte of its body was
+// sent.
 #[tactic(auto, unfolding(crate::specs::Printed::is_by_state))]
 fn is_by_state(value: &Value) -> bool
     ensures { result ≡ is_by_state (view value.now) }
@@ -146,7 +145,7 @@ fn is_by_state(value: &Value) -> bool
         && response_size(value, "_transferSize").unwrap_or(0) == 0
 }
 
-/// Returns what the browser calls its own cache, if that answered.
+/// Returns the browser's name for its own cache, if that answered.
 #[tactic(auto, unfolding(crate::specs::Printed::browser_of))]
 pub(crate) fn browser_of(value: &Value) -> Option<&str>
     ensures { option_map (λ t. t.now) result ≡ browser_of (view value.now) }
@@ -185,7 +184,7 @@ fn response_size(value: &Value, name: &str) -> Option<u64>
     whole(member(value, "response", name))
 }
 
-// How long the content is, as it was sent.
+// As it was sent.
 #[tactic(auto, unfolding(crate::specs::Printed::content_size))]
 fn content_size(value: &Value) -> u64
     ensures value { result ≡ content_size (view value.now) }
@@ -198,7 +197,7 @@ fn content_size(value: &Value) -> u64
     size.saturating_sub(whole(content.get("compression")).unwrap_or(0))
 }
 
-// How long the body is: nothing after HEAD, and of a 304 (RFC 9110, sections 9.3.2 and 15.4.5).
+// A response to HEAD and a 304 have no body (RFC 9110, sections 9.3.2 and 15.4.5).
 #[tactic(auto, unfolding(crate::specs::Printed::body_size))]
 fn body_size(value: &Value) -> u64
     ensures value { result ≡ body_size (view value.now) }
@@ -213,7 +212,7 @@ fn body_size(value: &Value) -> u64
     }
 }
 
-// What headers and body take. Firefox counts the headers in the size of a body.
+// Firefox includes the headers in the size of a body.
 #[tactic(auto, unfolding(crate::specs::Printed::sent_by))]
 fn sent_by(value: &Value, is_firefox: bool) -> u64
     ensures { result ≡ sent_by is_firefox (view value.now) }
@@ -229,7 +228,6 @@ fn sent_by(value: &Value, is_firefox: bool) -> u64
     }
 }
 
-// How many bytes were sent over the network.
 #[tactic(auto, unfolding(crate::specs::Printed::sent_of))]
 fn sent_of(value: &Value, is_firefox: bool) -> u64
     ensures { result ≡ sent_of is_firefox (view value.now) }
@@ -243,7 +241,7 @@ fn sent_of(value: &Value, is_firefox: bool) -> u64
     }
 }
 
-// The name of the page for which it was loaded, in a recording that lists pages.
+// Only in a recording that lists pages.
 #[tactic(auto, unfolding(crate::specs::Printed::page_of))]
 fn page_of(value: &Value, has_pages: bool) -> Option<&str>
     ensures { option_map (λ t. t.now) result ≡ page_of has_pages (view value.now) }
@@ -255,7 +253,7 @@ fn page_of(value: &Value, has_pages: bool) -> Option<&str>
     }
 }
 
-/// Returns what may be printed of an entry, with that url.
+/// Returns what may be printed of an entry with the given url.
 #[tactic(auto, unfolding(crate::specs::Printed::printed_of))]
 pub(crate) fn printed_of(
     alloc: Global,

@@ -1,4 +1,4 @@
-//! Recorded sessions from bytes.
+//! Reads recorded sessions from bytes.
 ghost use Rattle.std.specs.Prelude.{◌≡◌, ◌≤◌, map, option_map, IsTrue, IfOk, IfErr, IfSome};
 ghost use Rattle.std.specs.List.{AllZip};
 ghost use Rattle.serde_json.specs.View.{view, items_view};
@@ -16,8 +16,7 @@ use crate::mend::{mend, without_mark};
 use serde_json::{Error, Value};
 use std::alloc::{AllocError, Global};
 
-/// The length of the longest recording, in bytes. It is for those who read the bytes: nothing here
-/// tests it.
+/// The length of the longest recording, in bytes. The caller who reads the bytes has to check it.
 pub const LONGEST: usize = 1_073_741_824;
 
 fn list_of_log(log: &Value) -> Option<&Vec<Value>>
@@ -32,7 +31,7 @@ fn list_in_log(value: &Value) -> Option<&Vec<Value>>
     list_of_log(value.get("log")?)
 }
 
-// The list of entries of a recording: its log's, its own if it is the log, or itself.
+// The log's list, the list of a log by itself, or the value as a list.
 #[tactic(auto, unfolding(crate::specs::Recording::entries_of))]
 fn entries_of(value: &Value) -> Option<&Vec<Value>>
     ensures { option_map (λ vs. items_view vs.now.items) result ≡ entries_of (view value.now) }
@@ -46,14 +45,12 @@ fn entries_of(value: &Value) -> Option<&Vec<Value>>
     }
 }
 
-// The log of a recording, or all of it.
 fn log_of(value: &Value) -> &Value
     ensures { view result.now ≡ log_of (view value.now) }
 {
     value.get("log").unwrap_or(value)
 }
 
-// The name of the program that wrote the recording.
 #[tactic(auto, unfolding(crate::specs::Recording::creator_of))]
 fn creator_of(value: &Value) -> Option<&str>
     ensures { option_map (λ t. t.now) result ≡ creator_of (view value.now) }
@@ -67,7 +64,6 @@ fn pages_of(value: &Value) -> Option<&Vec<Value>>
     log_of(value).get("pages")?.as_array()
 }
 
-// Whether the recording lists pages.
 fn has_pages(value: &Value) -> bool
     ensures { result ≡ has_pages (view value.now) }
 {
@@ -108,7 +104,7 @@ fn recorded_all(
     Ok(all)
 }
 
-// Whether gzip or zlib compressed the bytes (RFC 1952, section 2.3.1; RFC 1950, section 2.2).
+// RFC 1952, section 2.3.1, and RFC 1950, section 2.2.
 fn is_compressed(bytes: &[u8]) -> bool
     ensures { result ≡ is_compressed bytes.now }
 {
@@ -119,7 +115,6 @@ fn is_compressed(bytes: &[u8]) -> bool
         || bytes.starts_with(b"\x78\xda")
 }
 
-// Whether the bytes are an object in UTF-16, or begin with the mark of that.
 fn is_utf16(bytes: &[u8]) -> bool
     ensures { result ≡ is_utf16 bytes.now }
 {
@@ -129,7 +124,6 @@ fn is_utf16(bytes: &[u8]) -> bool
         || bytes.starts_with(b"\x00{")
 }
 
-// What the bytes are, if they can't be text in UTF-8.
 #[tactic(auto, unfolding(crate::specs::Recording::other_form))]
 fn other_form(bytes: &[u8]) -> Option<ReadingError>
     ensures value { result ≡ other_form bytes.now }
@@ -146,10 +140,9 @@ fn other_form(bytes: &[u8]) -> Option<ReadingError>
     }
 }
 
-// How many lists and objects the reader of JSON opens in one another.
+// The reader of JSON opens no more lists and objects within each other.
 const DEPTH: usize = 127;
 
-// What is open after some bytes of a JSON text.
 #[derive(Clone, Copy)]
 struct Nesting {
     depth: usize,
@@ -158,7 +151,6 @@ struct Nesting {
 }
 
 impl Nesting {
-    // After one byte more.
     fn after(self, b: u8) -> Nesting
         requires { self.depth ≤ 127 }
         ensures { result ≡ nesting_after self b }
@@ -180,7 +172,7 @@ impl Nesting {
     }
 }
 
-// Whether a text opens too many lists and objects in one another, up to a line and a column.
+// Only bytes up to the line and column are counted.
 fn is_too_deep(text: &[u8], line: usize, column: usize) -> bool
     ensures { IsTrue result → IsTooDeep text.now }
 {
@@ -209,7 +201,7 @@ fn is_too_deep(text: &[u8], line: usize, column: usize) -> bool
     nesting.depth > DEPTH
 }
 
-// Why a text is no JSON. Only its words tell when the reader of JSON met a number out of range.
+// Only the message of the JSON reader shows that a number was out of range.
 fn fault_of(alloc: Global, text: &[u8], e: &Error) -> Result<ReadingError, AllocError>
     ensures { IfOk result (IsFault text.now) }
 {
@@ -224,7 +216,6 @@ fn fault_of(alloc: Global, text: &[u8], e: &Error) -> Result<ReadingError, Alloc
     Ok(ReadingError::NotJson { line, column })
 }
 
-// The value of bytes that are text.
 fn value_of(alloc: Global, bytes: Vec<u8>) -> Result<Value, ReadingError>
     ensures found { IfOk result (λ v. IsJson bytes.items (view v)) }
     ensures cause { IfErr result (IsCause bytes.items) }
@@ -242,19 +233,18 @@ fn value_of(alloc: Global, bytes: Vec<u8>) -> Result<Value, ReadingError>
     }
 }
 
-/// Returns the entries of a recorded session (HAR 1.2), in the order of the file: of
-/// `{"log": {"entries": [..]}}`, of the log, or of the list. A byte order mark at the front is
-/// skipped, and a surrogate without its other half is read as U+FFFD. What can't be read in one
-/// entry harms no other.
+/// Returns the entries of a recorded session (HAR 1.2), in the order of the file.
 ///
-/// If `no-cache` is ignored, the requests are read without their Cache-Control and Pragma that say
-/// it, as after a reload.
+/// The bytes are `{"log": {"entries": [..]}}`, the log or the list. A byte order mark is skipped,
+/// and a surrogate without its other half is read as U+FFFD. A part that can't be read only affects
+/// its own entry. If `no-cache` is ignored, requests are read without the Cache-Control and Pragma
+/// that have it, as after a reload.
 ///
 /// # Errors
 ///
-/// Returns `Empty`, `Compressed` or `Utf16` if the bytes are such, `NotJson`, `TooDeep` or
-/// `NumberOutOfRange` if they are no JSON text in UTF-8 that can be read, and `NoEntries` if that
-/// has no list of entries.
+/// `Empty`, `Compressed` or `Utf16` if the bytes are such; `NotJson`, `TooDeep` or
+/// `NumberOutOfRange` if they can't be read as JSON in UTF-8; `NoEntries` without a list of
+/// entries; and `Memory`.
 pub fn recording_from_bytes(
     alloc: Global,
     bytes: Vec<u8>,

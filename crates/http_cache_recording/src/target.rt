@@ -1,4 +1,4 @@
-//! Targets of requests from urls.
+//! Makes the targets of requests from urls.
 ghost use Rattle.std.specs.Prelude.{◌≡◌, ◌<◌, ◌≤◌, ◌-◌, ◌++◌, length, slice_index, option_map, string_bytes, IfOk, OnOk};
 ghost use Rattle.std.specs.List.{position_or_len, prefix_len};
 ghost use Rattle.http_cache_recording.specs.Target.{without_fragment, is_end, user_len, has_user, without_user, is_web};
@@ -7,11 +7,9 @@ ghost use Rattle.http_cache_recording.specs.Target.{is_scheme_byte, scheme_shown
 use percent_encoding::{AsciiSet, CONTROLS, ascii_set, percent_encode};
 use std::alloc::{AllocError, Global};
 
-// The bytes that a target escapes beside those outside ASCII: no request can have them (RFC 3986,
-// section 2).
+// No request can have these bytes, nor those outside ASCII, unescaped (RFC 3986, section 2).
 const ESCAPED: AsciiSet = ascii_set!(CONTROLS.add(b' ').add(b'"').add(b'<').add(b'>').add(b'`'));
 
-// The url up to its fragment.
 fn without_fragment(url: &str) -> &str
     ensures { result.now ≡ without_fragment url.now }
 {
@@ -21,7 +19,6 @@ fn without_fragment(url: &str) -> &str
     }
 }
 
-// Where an authority ends: at the first of the two bytes.
 fn end_of(text: &[u8], end: u8, other_end: u8) -> usize
     ensures value { result ≡ position_or_len (is_end end other_end) text.now }
     ensures within { result ≤ length text.now }
@@ -31,8 +28,8 @@ fn end_of(text: &[u8], end: u8, other_end: u8) -> usize
         .count()
 }
 
-/// Returns how many bytes user, password and the `@` after them take of a text that begins with
-/// them: up to its first byte that ends an authority.
+/// Returns how many bytes user, password and the `@` after them take at the begin of a text, before
+/// the first byte that ends an authority.
 #[tactic(auto, unfolding(crate::specs::Target::user_len))]
 pub(crate) fn user_len(text: &[u8], end: u8, other_end: u8) -> usize
     ensures value { result ≡ user_len end other_end text.now }
@@ -47,14 +44,14 @@ pub(crate) fn user_len(text: &[u8], end: u8, other_end: u8) -> usize
     len
 }
 
-/// Returns whether a url begins with a user, where others have a scheme.
+/// Returns whether a url begins with a user instead of a scheme.
 pub(crate) fn has_user(url: &str) -> bool
     ensures { result ≡ has_user url.now }
 {
     user_len(url.as_bytes(), b'/', b'?') > 0
 }
 
-// Whether a scheme is http or https, in any letter case.
+// In any letter case.
 fn is_web(scheme: &str) -> bool
     ensures { result ≡ is_web scheme.now }
 {
@@ -67,15 +64,13 @@ fn is_scheme_byte(b: u8) -> bool
     b.is_ascii_alphanumeric() || b == b'+' || b == b'-' || b == b'.'
 }
 
-// How many bytes that a scheme may have come first.
 fn scheme_len(bytes: &[u8]) -> usize
     ensures { result ≡ prefix_len is_scheme_byte bytes.now }
 {
     bytes.iter().take_while(|b| is_scheme_byte(**b)).count()
 }
 
-// The text, if it can be a scheme (RFC 3986, section 3.1), else `none`: it is printed, and an address may
-// hold what is secret.
+// The text is printed, and might be secret if it is no scheme (RFC 3986, section 3.1).
 #[tactic(auto, unfolding(crate::specs::Target::scheme_shown))]
 fn scheme_shown(text: &str) -> &str
     ensures { result.now ≡ scheme_shown text.now }
@@ -111,14 +106,12 @@ pub(crate) struct UrlParts<'a> {
     pub path: &'a [u8],
 }
 
-// The text without user and password.
 fn without_user(text: &[u8]) -> &[u8]
     ensures { result.now ≡ without_user text.now }
 {
     &text[user_len(text, b'/', b'?')..]
 }
 
-// The parts of a url with that scheme, by what follows the scheme and its colon.
 fn parts_after<'a>(scheme: &'a str, rest: &'a [u8]) -> Option<UrlParts<'a>>
     ensures { option_map (λ p. record {
       scheme = p.scheme.now;
@@ -141,8 +134,8 @@ fn parts_after<'a>(scheme: &'a str, rest: &'a [u8]) -> Option<UrlParts<'a>>
     })
 }
 
-/// Returns the parts of a url, if `//` and an authority follow its scheme. Fragment, user and
-/// password are left out.
+/// Returns the parts of a url, without fragment, user and password, if `//` and an authority follow
+/// its scheme.
 #[tactic(auto, unfolding(crate::specs::Target::url_parts))]
 pub(crate) fn url_parts(url: &str) -> Option<UrlParts<'_>>
     ensures { option_map (λ p. record {
@@ -155,7 +148,7 @@ pub(crate) fn url_parts(url: &str) -> Option<UrlParts<'_>>
     parts_after(scheme, rest.as_bytes())
 }
 
-// Adds an authority with each letter in lower case, and escaped.
+// It is in lower case, and escaped.
 #[tactic(auto, unfolding(crate::specs::Target::host_of))]
 fn push_host(alloc: Global, out: &mut String, authority: &[u8]) -> Result<(), AllocError>
     ensures { OnOk result (string_bytes out.new ≡ string_bytes out.old ++ host_of authority.now) }
@@ -165,7 +158,7 @@ fn push_host(alloc: Global, out: &mut String, authority: &[u8]) -> Result<(), Al
     percent_encode(bytes.as_slice(), ESCAPED).append_to(out)
 }
 
-// Adds the path and query; an empty path is `/`.
+// An empty path is `/`.
 #[tactic(auto, unfolding(crate::specs::Target::path_of))]
 fn push_path(out: &mut String, path: &[u8]) -> Result<(), AllocError>
     ensures { OnOk result (string_bytes out.new ≡ string_bytes out.old ++ path_of path.now) }

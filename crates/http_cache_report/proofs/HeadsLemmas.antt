@@ -1,4 +1,4 @@
--- Heads that follow one another, and what is recorded of them.
+-- Consecutive heads, and what they record.
 use Rattle.std.proofs.Common.{◌≡◌, ◌∙◌, sym, ap, refl, subst, arith, ℕ, zero, suc, ◌+◌, ◌<◌, ℤ, Bool, true, false, cond}
 use Rattle.std.proofs.Common.{List, [], ◌∷◌, ◌++◌, length, map, drop}
 use Rattle.std.specs.List.{prefix_len, filter, enumerate_from}
@@ -11,10 +11,6 @@ use Rattle.http_cache_report.specs.Heads.{is_heads, is_end, front_of, is_last, t
 use Rattle.http_cache_report.specs.Heads.{is_kept, recorded_of, recorded_all, with_head, IsFault, IsCause}
 
 -- ---- lengths
-
-pub text_len-here : (bytes : List ℕ) → is_last bytes ≡ true → text_len bytes ≡ 1
-text_len-here [] here = cc
-text_len-here (b ∷ bytes) here = rw here refl
 
 pub text_len-next : (bytes : List ℕ) (i : ℕ) → i < length bytes → is_last (drop i bytes) ≡ false
     → text_len (drop i bytes) ≡ text_len (drop (suc i) bytes) + 1
@@ -50,7 +46,6 @@ next-shorter front begins =
 
 -- ---- heads
 
--- one more head
 pub heads-push : (front : List ℕ) (hs : List Head) (mid : List ℕ) (h : Head) → AreHeads front hs mid → is_heads mid ≡ true
     → IsHead mid h → AreHeads front (hs ++ h ∷ []) (next_of mid)
 heads-push front [] mid h are begins one =
@@ -79,21 +74,19 @@ one-more now true xs h =
     (sym (mapped-length (recorded_of now) 1 xs))
 one-more now false xs h = ap (λ l. map (recorded_of now) (enumerate_from 1 l)) (append-nil xs)
 
--- what is recorded of one more head
 pub recorded-push : (now : ℤ) (hs : List Head) (h : Head)
     → recorded_all now (hs ++ h ∷ []) ≡ with_head now (recorded_all now hs) h
 recorded-push now hs h =
     ap (λ l. map (recorded_of now) (enumerate_from 1 l)) (filter-append is_kept hs (h ∷ []))
     ∙ one-more now (is_kept h) (filter is_kept hs) h
 
--- nothing is recorded of nothing
 pub none-recorded : (now : ℤ) (hs : List Head) → map (recorded_of now) (enumerate_from 1 hs) ≡ [] → hs ≡ []
 none-recorded now [] none = refl
 none-recorded now (h ∷ hs) none = cc
 
 -- ---- errors
 
--- what is wrong with a head after others is the cause of its error
+-- a fault in a head after others is the cause of its error
 pub cause : (bytes : List ℕ) (hs : List Head) (front : List ℕ) (e : HeadsError) → AreHeads (front_of bytes) hs front
     → is_heads front ≡ true → IsFault bytes front e → IsCause bytes e
 cause bytes hs front (NotAHead line) are begins fault =

@@ -1,4 +1,4 @@
--- The lemmas about a report.
+-- Lemmas about a report.
 pub mod HeadsLemmas
 pub mod ReadLemmas
 pub mod ReportLemmas

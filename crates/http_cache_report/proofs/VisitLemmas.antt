@@ -10,7 +10,6 @@ use Rattle.http_cache_audit.proofs.CountsLemmas.{written_next}
 use Rattle.http_cache_audit.proofs.StoredLemmas.{take-at}
 use Rattle.http_cache_report.specs.Visit.{later, received_in, last_received}
 
--- one pair more
 pub zip-next : {X Y : Type 0} (R : X → Y → Type 0) (xs : List X) (ys : List Y) (x : X) (y : Y) → AllZip R xs ys → R x y
     → AllZip R (xs ++ x ∷ []) (ys ++ y ∷ [])
 zip-next R [] [] x y all one = (one, tt)
@@ -18,7 +17,6 @@ zip-next R [] (b ∷ ys) x y all one = absurd all
 zip-next R (a ∷ xs) [] x y all one = absurd all
 zip-next R (a ∷ xs) (b ∷ ys) x y all one = (all.0, zip-next R xs ys x y all.1 one)
 
--- what is made for one more of a list
 pub made-next : {X Y Z : Type 0} (R : X → Z → Type 0) (seen : Y → Z) (xs : List X) (k : ℕ) (x : X) (made : List Y) (y : Y)
     → slice_get xs k ≡ Some x → AllZip R (take k xs) (map seen made) → R x (seen y)
     → AllZip R (take (k + 1) xs) (map seen (made ++ y ∷ []))
@@ -32,7 +30,6 @@ latest-next [] (Some x) = refl
 latest-next (y ∷ ys) None = ap (λ l. reduce int_max (y ∷ l)) (append-nil ys)
 latest-next (y ∷ ys) (Some x) = ap Some (fold-append int_max y ys (x ∷ []))
 
--- the latest time of one response more
 pub last-next : {X : Type 0} (seen : X → RecordedSeen) (xs : List X) (k : ℕ) (x : X) (last new : Option ℤ)
     → slice_get xs k ≡ Some x → last ≡ last_received (map seen (take k xs)) → new ≡ later last (received_in (seen x))
     → new ≡ last_received (map seen (take (k + 1) xs))

@@ -1,4 +1,4 @@
--- What to send instead, by what a response says of caching.
+-- What to send instead of a response's headers.
 use Rattle.std.specs.Prelude.{ℕ, ◌==◌, nat_le, nat_eq, ◌&&◌, ◌||◌, not, Bool, true, false, List, length, codes, if◌then◌else◌}
 use Rattle.std.specs.List.{list_any, list_all, starts_with, slice_split}
 use Rattle.std.specs.Option.{option_map_or}
@@ -9,14 +9,13 @@ use Rattle.http_cache_report.specs.declared.advice.Term.{Term}
 use Rattle.http_cache_report.specs.declared.advice.Term.TheVariants.{NoCache, Day, Week, Year}
 use Rattle.http_cache_report.specs.declared.advice.Advice.{Advice}
 
--- the Cache-Control of a term
 abbrev pub term_text : Term → List ℕ
 term_text NoCache = codes "no-cache"
 term_text Day = codes "max-age=86400"
 term_text Week = codes "max-age=604800"
 term_text Year = codes "max-age=31536000, immutable"
 
--- the same, for one user's cache
+-- the Cache-Control of a term for a private cache
 abbrev pub private_text : Term → List ℕ
 private_text NoCache = codes "private, no-cache"
 private_text Day = codes "private, max-age=86400"
@@ -27,28 +26,26 @@ private_text Year = codes "private, max-age=31536000, immutable"
 abbrev pub control_of : Advice → List ℕ
 control_of a = if a.is_private then private_text a.term else term_text a.term
 
--- a type begins with a text
 abbrev pub is_type : List ℕ → List ℕ → Bool
 is_type t front = starts_with nat_eq t front
 
--- a type is of an image, a font, a sound or a film
+-- the type is an image, a font, a sound or a film
 abbrev pub is_media_type : List ℕ → Bool
 is_media_type t =
     is_type t (codes "image/") || is_type t (codes "font/") || is_type t (codes "audio/") || is_type t (codes "video/")
 
--- a type is of a style, or of a script as most servers call it
+-- the type is a style sheet, or a script under its usual type
 abbrev pub is_text_type : List ℕ → Bool
 is_text_type t = is_type t (codes "text/css") || is_type t (codes "text/javascript")
 
--- a type is of a script as some servers call it, or of WebAssembly
+-- the type is a script under another type, or WebAssembly
 abbrev pub is_program_type : List ℕ → Bool
 is_program_type t = is_type t (codes "application/javascript") || is_type t (codes "application/wasm")
 
--- a type is of what a page is made of, in place of a page or its data
+-- the type is a part of pages, and neither a page nor its data
 abbrev pub is_part_type : List ℕ → Bool
 is_part_type t = is_media_type t || is_text_type t || is_program_type t
 
--- a response is a part of pages
 abbrev pub is_part : Headers → Bool
 is_part h = option_map_or is_part_type (first_text h (codes "content-type")) false
 
@@ -64,24 +61,24 @@ is_letter b = nat_le 97 b && nat_le b 102
 abbrev pub is_hex_digit : ℕ → Bool
 is_hex_digit b = is_digit b || is_letter b
 
--- a piece of a name is a hash: eight or more digits of base 16 in lower case, of which some are letters, and some aren't
+-- the piece is at least eight digits of base 16 in lower case, some of them letters and some not
 abbrev pub is_hash : List ℕ → Bool
 is_hash piece =
     nat_le 8 (length piece) && list_all is_hex_digit piece && list_any is_letter piece && list_any is_digit piece
 
--- `.`, `-`, `_` and `/` are between the pieces of a url
+-- `.`, `-`, `_` and `/` separate the pieces of a url
 abbrev pub is_separator : ℕ → Bool
 is_separator b = b == 46 || b == 45 || b == 95 || b == 47
 
--- the name of a url has a hash in it, before its query
+-- the name in the url has a hash before its query
 abbrev pub is_hashed : List ℕ → Bool
 is_hashed url = list_any is_hash (slice_split is_separator (shown_url true url))
 
--- a response is one user's
+-- the response is for one user
 abbrev pub is_own : Headers → Bool
 is_own h = says h (codes "private") || contains_key h (codes "set-cookie")
 
--- a no-store is meant: what it is beside says so, or it is a page or its data
+-- a no-store is meant: another directive confirms it, or it is on a page or its data
 abbrev pub is_no_store_meant : Headers → Bool
 is_no_store_meant h = says h (codes "no-cache") || says h (codes "private") || not (is_part h)
 
@@ -97,7 +94,7 @@ advice_for_no_store h = record {
   answers_304 = false;
 }
 
--- what to send instead of another one
+-- what to send instead of other headers
 abbrev pub advice_for : Headers → List ℕ → Bool → Advice
 advice_for h url in_full = record {
   term = term_of h url;
@@ -106,6 +103,7 @@ advice_for h url in_full = record {
   answers_304 = in_full;
 }
 
--- what to send, by the headers of a response, its url, and whether its server answers its own validator in full
+-- what to send, by the headers, the url, and whether the server answers the response's own
+-- validator in full
 unfoldable pub advice_of : Headers → List ℕ → Bool → Advice
 advice_of h url in_full = if says h (codes "no-store") then advice_for_no_store h else advice_for h url in_full

@@ -1,4 +1,4 @@
--- What a browser's cache and a CDN's do with a url, where they differ.
+-- The differences between a browser's cache and a CDN's.
 use Rattle.std.specs.Prelude.{◌≡◌, ℕ, ◌-◌, not, Bool, true, false, List, [], ◌∷◌, ◌++◌, fold, length, map, take, slice_get, codes, bytes_eq, unwrap_or}
 use Rattle.std.specs.List.{flat_map}
 use Rattle.std.specs.Option.{option_map_or}
@@ -6,7 +6,7 @@ use Rattle.http_uri.specs.declared.uri.Uri.{Uri}
 use Rattle.http_cache_rules.specs.declared.storability.Obstacles.{Obstacles}
 use Rattle.http_cache_semantics.specs.Options.{Options}
 use Rattle.http_cache_recording.specs.Entry.{RecordedSeen, PrintedSeen}
-use Rattle.http_cache_audit.specs.Row.{RowSeen, VerdictSeen, KeptSeen, ReceivedSeen}
+use Rattle.http_cache_audit.specs.Row.{RowSeen, AuditVerdictSeen, KeptSeen, ReceivedSeen}
 use Rattle.http_cache_audit.specs.Row as got
 use Rattle.http_cache_audit.specs.Walk.{AreRows}
 use Rattle.http_cache_audit.specs.Members.{reasons}
@@ -17,11 +17,9 @@ use Rattle.http_cache_report.specs.BySize.{IsOrder, rest_text}
 
 -- ---- what a cache does with a response
 
--- a lifetime, and what gives it
 abbrev pub kept_text : KeptSeen → List ℕ
 kept_text k = duration k.lifetime.seconds ++ (codes " by " ++ k.lifetime.by)
 
--- why a response isn't stored
 abbrev pub obstacle_text : PrintedSeen → Obstacles → List ℕ
 obstacle_text p o = codes "not stored: " ++ fold with_piece [] (reasons (unwrap_or p.method []) p.status o)
 
@@ -37,16 +35,16 @@ received_text p got.nothing_stored = []
 received_text p got.not_selected = []
 received_text p got.passed = []
 
--- what a cache does with the response of a row, or nothing if it received none
+-- what a cache does with the response of a row, or an empty text if it received none
 abbrev pub row_text : RowSeen → List ℕ
-row_text r = option_map_or (λ (v : VerdictSeen). received_text r.recorded.printed v.received) r.verdict []
+row_text r = option_map_or (λ (v : AuditVerdictSeen). received_text r.recorded.printed v.received) r.verdict []
 
 abbrev pub text_of : List RowSeen → ℕ → List ℕ
 text_of rows index = option_map_or row_text (slice_get rows index) []
 
 -- ---- where two caches differ
 
--- both say something, and not the same
+-- both texts say something, and differ
 abbrev pub do_differ : List ℕ → List ℕ → Bool
 do_differ [] y = false
 do_differ (a ∷ x) [] = false
@@ -58,7 +56,6 @@ differs own other u = do_differ (text_of own u.row) (text_of other u.row)
 abbrev pub differing : List RowSeen → List RowSeen → List Url → List Bool
 differing own other us = map (differs own other) us
 
--- the line of a url
 abbrev pub both_line : StyleSeen → List RecordedSeen → List RowSeen → List RowSeen → Url → List ℕ
 both_line s rs own other u =
     codes "  " ++ (left 34 (url_text s rs u.entry) ++ (left 26 (text_of own u.row) ++ (text_of other u.row ++ codes "\n")))
@@ -73,16 +70,13 @@ abbrev pub both_head : Bool → List ℕ
 both_head true = codes "\nCDN AND BROWSER\n"
 both_head false = codes "\nBROWSER AND CDN\n"
 
--- the section, if they differ
 abbrev pub both_section : StyleSeen → Bool → List RecordedSeen → List RowSeen → List RowSeen → List Url → List (ℕ × ℕ) → List ℕ
 both_section s is_shared rs own other us [] = []
 both_section s is_shared rs own other us (k ∷ ks) = both_head is_shared ++ both_lines s rs own other us (k ∷ ks)
 
--- the other kind of cache
 abbrev pub other_cache : Options → Options
 other_cache o = record o { shared = not o.shared }
 
--- the text of where this cache and the other differ
 pub record IsBoth (s : StyleSeen) (rs : List RecordedSeen) (options : Options) (target : Uri) (us : List Url)
     (text : List ℕ) : Type 0 where
   pub own : List RowSeen

@@ -1,4 +1,4 @@
--- Urls by how many bytes were sent for their full responses.
+-- The order of urls by the bytes of their full responses.
 use Rattle.std.specs.Prelude.{ℕ, ◌-◌, ◌^◌, nat_lt, Bool, false, List, [], ◌∷◌, ◌++◌, slice_get, codes, decimal, unwrap_or, if◌then◌else◌}
 use Rattle.std.specs.List.{flat_map, enumerate_from}
 use Rattle.std.specs.List.Sorted.{IsPermutation, IsSorted}
@@ -7,7 +7,7 @@ use Rattle.http_cache_report.specs.declared.urls.Url.{Url}
 use Rattle.http_cache_report.specs.Later.{size_at}
 use Rattle.http_cache_report.specs.Picks.{by_key}
 
--- where a url is in the order, if it is listed: before those with fewer bytes
+-- the key of a listed url, which is before the keys of urls with fewer bytes
 abbrev pub key_by : ℕ → ℕ → Bool → List (ℕ × ℕ)
 key_by index size is_listed = if is_listed then (2 ^ 64 - 1 - size, index) ∷ [] else []
 
@@ -17,11 +17,12 @@ key_at rs listed at = key_by at.0 (size_at rs at.1.full) (unwrap_or (slice_get l
 abbrev pub keys_of : List RecordedSeen → List Bool → List Url → List (ℕ × ℕ)
 keys_of rs listed us = flat_map (key_at rs listed) (enumerate_from 0 us)
 
--- the listed urls in their order: most bytes first, and of as many in the order of their first requests
+-- the listed urls, most bytes first, and in the order of their first requests if the bytes are
+-- equal
 pub record IsOrder (rs : List RecordedSeen) (us : List Url) (listed : List Bool) (order : List (ℕ × ℕ)) : Type 0 where
   pub each_once : IsPermutation (keys_of rs listed us) order
   pub ascending : IsSorted by_key order
 
--- how many urls aren't listed, beyond the first twelve
+-- the number of listed urls beyond the first twelve
 abbrev pub rest_text : ℕ → List ℕ
 rest_text n = if nat_lt 0 n then codes "  and " ++ (decimal n ++ codes " more: --lines has all\n") else []

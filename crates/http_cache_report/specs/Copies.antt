@@ -16,33 +16,31 @@ use Rattle.http_cache_report.specs.declared.visit.Repeat.{Repeat}
 
 -- ---- times
 
--- there is a time at so many nanoseconds since 1970
+-- a time can be so many nanoseconds after 1970
 abbrev pub is_time : ℤ → Bool
 is_time n =
     int_le (neg_ℤ (pos 377_705_023_201_000_000_000)) n && int_le n (pos 253_402_207_200_999_999_999)
 
--- a time moved by so many nanoseconds, or the time itself if there is none
+-- the time moved by so many nanoseconds, or itself if the result is out of range
 unfoldable pub moved : ℤ → ℤ → ℤ
 moved shift at = if is_time (at +ℤ shift) then at +ℤ shift else at
 
 -- ---- dates
 
--- the value is the date of a time, or there is none before 1900
+-- the value is the date of the time; there is none only before 1900
 abbrev pub IsDateValue : ℤ → Option FieldValue → Type 0
 IsDateValue at None = IsPrintable at → ⊥
 IsDateValue at (Some value) = IsHttpDate at value.bytes
 
--- headers with the date of a time under a name, if it has one
 abbrev pub IsDated : ℤ → List ℕ → Headers → Headers → Type 0
 IsDated at name old new =
     (value : Option FieldValue) × IsDateValue at value × (new ≡ option_map_or (λ v. set old name v.bytes) value old)
 
--- headers of which the date under a name is moved, if the first line there is one
+-- if the first line of the name is a date, it is moved
 abbrev pub IsMovedUnder : ℤ → List ℕ → Headers → Headers → Type 0
 IsMovedUnder shift name old new =
     MatchOption (first_date old name) (new ≡ old) (λ at. IsDated (moved shift at) name old new)
 
--- headers with Date and Expires moved
 pub record AreMovedHeaders (shift : ℤ) (old new : Headers) : Type 0 where
   pub between : Headers
   pub date : IsMovedUnder shift (codes "date") old between
@@ -54,7 +52,7 @@ pub record IsMovedResponse (shift : ℤ) (old new : ResponseSeen) : Type 0 where
   pub status : new.status ≡ old.status
   pub headers : AreMovedHeaders shift old.headers new.headers
 
--- the same answer, with the dates of its response moved
+-- the answer is unchanged, except that the dates of its response are moved
 abbrev pub IsMovedAnswer : ℤ → AnswerSeen → AnswerSeen → Type 0
 IsMovedAnswer shift failed new = new ≡ failed
 IsMovedAnswer shift (cached r) failed = ⊥
@@ -66,11 +64,12 @@ IsMovedAnswer shift (received r) (received s) = IsMovedResponse shift r s
 
 -- ---- entries
 
--- the headers of a request, without its conditions for what was stored before
+-- the headers of a request without conditions, which are for what was stored before
 abbrev pub unconditional : Headers → Headers
 unconditional h = fin.remove (fin.remove h (codes "if-none-match")) (codes "if-modified-since")
 
--- a request once more, at its own times moved, with the request headers and the answer of another entry
+-- the copy has the request's own times, moved, and the request headers and the answer of another
+-- entry
 pub record IsCopiedEntry (shift : ℤ) (own full copy : EntrySeen) : Type 0 where
   pub kind : copy.kind ≡ Asked
   pub started : copy.started ≡ moved shift own.started
@@ -80,11 +79,10 @@ pub record IsCopiedEntry (shift : ℤ) (own full copy : EntrySeen) : Type 0 wher
   pub answer : IsMovedAnswer shift full.answer copy.answer
   pub body : copy.body ≡ None
 
--- what isn't audited, without a reason
 abbrev pub IsNoCopy : ReadingSeen → Type 0
 IsNoCopy copy = copy ≡ skipped []
 
--- a request once more, or what isn't audited if either entry isn't
+-- the copy of a request, or an entry that isn't audited if either entry isn't
 abbrev pub IsCopiedReading : ℤ → Option EntrySeen → Option EntrySeen → ReadingSeen → Type 0
 IsCopiedReading shift None full copy = IsNoCopy copy
 IsCopiedReading shift (Some own) None copy = IsNoCopy copy
@@ -93,7 +91,7 @@ IsCopiedReading shift (Some own) (Some full) (skipped reason) = ⊥
 
 -- ---- what is printed
 
--- a url with one parameter more in its query
+-- the url with one more parameter in its query
 abbrev pub marked : List ℕ → List ℕ
 marked url = url ++ (if list_any (λ b. nat_eq b 63) url then codes "&visit" else codes "?visit")
 
@@ -101,7 +99,6 @@ abbrev pub copied_url : Bool → Option (List ℕ) → Option (List ℕ)
 copied_url true url = option_map marked url
 copied_url false url = url
 
--- the same, of no page
 abbrev pub copied_printed : Bool → PrintedSeen → PrintedSeen
 copied_printed other_query p = record p { url = copied_url other_query p.url; page = None }
 
@@ -119,16 +116,14 @@ nothing_printed = record {
 
 -- ---- copies
 
--- what is printed of a request once more
 abbrev pub printed_at : List RecordedSeen → ℕ → Bool → PrintedSeen
 printed_at rs index other_query =
     option_map_or (λ (r : RecordedSeen). copied_printed other_query r.printed) (slice_get rs index) nothing_printed
 
--- the entry at an index of a recording
 abbrev pub entry_at : List RecordedSeen → ℕ → Option EntrySeen
 entry_at rs index = option_and_then (λ (r : RecordedSeen). entry_in r.reading) (slice_get rs index)
 
--- a request of a recording once more, with the full response to it
+-- the copy of a recorded request, with the full response to it
 pub record IsCopy (rs : List RecordedSeen) (shift : ℤ) (r : Repeat) (copy : RecordedSeen) : Type 0 where
   pub printed : copy.printed ≡ printed_at rs r.entry r.other_query
   pub reading : IsCopiedReading shift (entry_at rs r.entry) (entry_at rs r.full) copy.reading

@@ -1,4 +1,4 @@
--- What a report knows of a recording, and of the same with what is advised.
+-- The facts that a report has about a recording, and what the recording costs with what is advised.
 use Rattle.std.specs.Prelude.{◌≡◌, Vec, ◌+◌, ◌/◌, ◌-ℤ◌, nat_abs, ℕ, ℤ, Bool, List, map, Option, option_map, string_bytes, length}
 use Rattle.std.specs.Option.{option_map_or}
 use Rattle.std.specs.declared.alloc.Global.{Global}
@@ -26,21 +26,19 @@ use Rattle.http_cache_report.specs.Words.{host_of}
 use Rattle.http_cache_report.specs.Later.{AreVisits}
 use Rattle.http_cache_report.specs.declared.later.Visits.{Visits}
 
--- the seconds between two times, rounded
 abbrev pub seconds_between : ℤ → ℤ → ℕ
 seconds_between a b = (nat_abs (a -ℤ b) + 500_000_000) / 1_000_000_000
 
--- how many seconds a recording took
 abbrev pub took : Option SpanSeen → ℕ
 took s = option_map_or (λ (t : SpanSeen). seconds_between t.ended t.begun) s 0
 
--- what a later visit makes once more, by the bases of urls
+-- the requests that a later visit repeats, by the bases of urls
 pub record AreRepeats (rs : List RecordedSeen) (rows : List RowSeen) (known : List Known) (us : List Url)
     (made : Vec Repeat Global × Counts) : Type 0 where
   pub are_bases : HoldsCounts (bases_of rs us) made.1
   pub are_repeats : made.0.items ≡ repeats_of (length rs) known (changing_of (total_in made.1) rs rows) rows
 
--- what is known of a recording, by its rows
+-- the facts about a recording, by its rows
 pub record AreFactsBy (rs : List RecordedSeen) (rows : List RowSeen) (is_shared : Bool) (f : Facts) : Type 0 where
   pub bases : Counts
   pub are_changing : map changing_seen f.changing.items ≡ changing_in bases
@@ -53,14 +51,13 @@ pub record AreFactsBy (rs : List RecordedSeen) (rows : List RowSeen) (is_shared 
   pub is_line : IsFirstLine rows (loads_of rows) (took (span_of rs rows)) is_shared f.line
   pub is_host : string_bytes f.host ≡ host_of (page_url rows (loads_of rows))
 
--- what is known of a recording, by its walk
+-- the facts about a recording, by its walk
 pub record AreFacts (rs : List RecordedSeen) (options : Options) (target : Uri) (is_shared : Bool) (f : Facts) : Type 0 where
   pub rows : List RowSeen
   pub are_rows : AreRows (record { recorded = rs; options = options; target = target }) rows
   pub are_facts : AreFactsBy rs rows is_shared f
 
--- what is known of each row of a recording if urls do as they are advised, and what it costs if they only answer
--- a 304 where that is advised
+-- the facts about each row if urls follow their advice, and the costs if they only answer a 304
 pub record AreAlone (rs : List RecordedSeen) (options : Options) (target : Uri) (ms : List RemedySeen) (known after : List Known) (costs : Counts)
     : Type 0 where
   pub rows : List RowSeen
@@ -68,14 +65,13 @@ pub record AreAlone (rs : List RecordedSeen) (options : Options) (target : Uri) 
   pub are_known : after ≡ known_after ms rows known
   pub are_costs : HoldsCounts (url_costs rs after rows) costs
 
--- what the requests of each url of a recording cost, by what is known of its rows
+-- the costs of the requests for each url, by the facts about the rows
 pub record AreUrlCosts (rs : List RecordedSeen) (options : Options) (target : Uri) (known : List Known) (costs : Counts)
     : Type 0 where
   pub rows : List RowSeen
   pub are_rows : AreRows (record { recorded = rs; options = options; target = target }) rows
   pub are_costs : HoldsCounts (url_costs rs known rows) costs
 
--- what is known of a repeated request, if urls do as they are advised
 abbrev pub known_repeat : List RecordedSeen → List RemedySeen → Repeat → Repeat
 known_repeat rs ms r =
     record r { known = record r.known { in_full = is_still_in_full ms (text_at rs r.entry) r.known.in_full } }
@@ -83,7 +79,7 @@ known_repeat rs ms r =
 abbrev pub repeats_after : List RecordedSeen → List RemedySeen → List Repeat → List Repeat
 repeats_after rs ms repeats = map (known_repeat rs ms) repeats
 
--- what a recording costs by what is known of its rows: its requests, the same without the queries that change, and later
+-- the costs of a recording, the costs without the queries that change, and the costs of later
 -- visits
 pub record AreCostsWith (rs : List RecordedSeen) (options : Options) (target : Uri) (known : List Known) (changing : List (List ℕ × ℕ))
     (repeats : List Repeat) (s : SpanSeen) (made : Counts × Counts × Visits) : Type 0 where
@@ -91,7 +87,7 @@ pub record AreCostsWith (rs : List RecordedSeen) (options : Options) (target : U
   pub plain : AreUrlCosts (map (plain_recorded changing) rs) options target known made.1
   pub visits : AreVisits rs repeats s options target made.2
 
--- what a recording costs if urls do as they are advised: if they only answer a 304, and if they send all that
+-- the costs of a recording if urls only answer a 304, and if they follow their whole advice
 pub record IsAfter (rs : List RecordedSeen) (options : Options) (target : Uri) (ms : List RemedySeen) (known : List Known)
     (changing : List (List ℕ × ℕ)) (repeats : List Repeat) (s : SpanSeen) (a : After) : Type 0 where
   pub after : List Known

@@ -1,4 +1,4 @@
--- The lines of what to change first.
+-- The lines about what to change first.
 use Rattle.std.specs.Prelude.{ℕ, ◌+◌, ◌-◌, ◌^◌, min, nat_lt, Bool, List, [], ◌++◌, map, fold, take, codes, decimal, string_bytes, if◌then◌else◌}
 use Rattle.std.specs.Fmt.{styled_decimal, format_spec}
 use Rattle.std.specs.List.{flat_map}
@@ -29,7 +29,7 @@ abbrev pub send_text : Advice → List ℕ
 send_text a =
     codes "      -> Cache-Control: " ++ (control_of a ++ (tag_words a.adds_tag ++ (answer_words a.answers_304 ++ codes "\n")))
 
--- a number at the right of a column, with blanks before it
+-- a number at the right of a column, after blanks
 abbrev pub right_number : ℕ → ℕ → List ℕ
 right_number width n = styled_decimal (format_spec 32 3 0 width 18446744073709551615) n
 
@@ -38,7 +38,7 @@ now_text s rs p =
     codes "  " ++ (left 34 (url_text s rs p.entry) ++ (right_number 5 p.requests ++ (codes " req " ++ (right 10 (kilobytes p.bytes)
     ++ (codes "  " ++ (said_at rs p.full ++ codes "\n"))))))
 
--- the url, its requests and bytes, what it says now, and what to send
+-- the url, its requests and bytes, its present headers, and what to send
 abbrev pub pick_text : StyleSeen → List RecordedSeen → Pick → List ℕ
 pick_text s rs p = now_text s rs p ++ send_text p.advice
 
@@ -47,16 +47,16 @@ pick_text s rs p = now_text s rs p ++ send_text p.advice
 abbrev pub less : Counts → Counts → List ℕ → List ℕ → ℕ
 less before after name url = total_in before (label_of name url) - total_in after (label_of name url)
 
--- in the later loads, or at the visit a day later
+-- the saving in the later loads, or at the visit a day later
 abbrev pub saved_by : Base → Counts → Visits → After → List ℕ → ℕ
 saved_by Later costs v a url = less costs a.costs (codes "later_cost") url
 saved_by Visit costs v a url = less v.day a.visits.day (codes "bytes") url
 
--- in the first load
+-- the saving in the first load
 abbrev pub saved_first : Counts → After → List ℕ → ℕ
 saved_first costs a url = less costs a.costs (codes "first_cost") url
 
--- by answering a 304, without other headers
+-- the saving by answering a 304, without other headers
 abbrev pub saved_alone : Counts → After → List ℕ → ℕ
 saved_alone costs a url = less costs a.alone (codes "later_cost") url
 
@@ -77,7 +77,6 @@ saved_text base costs v a url =
 abbrev pub more_bytes : ℕ → Pick → ℕ
 more_bytes sum p = min (sum + p.bytes) (2 ^ 64 - 1)
 
--- the bytes of the first three
 abbrev pub three_bytes : List Pick → ℕ
 three_bytes ps = fold more_bytes 0 (take 3 ps)
 
@@ -85,7 +84,7 @@ abbrev pub base_words : Base → List ℕ
 base_words Later = codes "later loads send"
 base_words Visit = codes "a visit a day later costs"
 
--- kilobytes, and how many in a hundred they are of all
+-- kilobytes, and their percentage of all bytes
 abbrev pub share_text : ℕ → ℕ → List ℕ
 share_text bytes all =
     decimal (rounded bytes 1000) ++ (codes " kB (" ++ (decimal (percent bytes all) ++ codes " %)\n"))
@@ -94,11 +93,9 @@ abbrev pub first_head : Base → List Pick → ℕ → List ℕ
 first_head base ps all =
     codes "\nCHANGE FIRST, by what " ++ (base_words base ++ (codes ": the first three are " ++ share_text (three_bytes ps) all))
 
--- the lines of a url, with the url
 abbrev pub line_seen : Line → List ℕ × List ℕ
 line_seen l = (string_bytes l.url, string_bytes l.text)
 
--- a url with what it saves
 abbrev pub line_text : Base → Counts → Visits → After → List ℕ × List ℕ → List ℕ
 line_text base costs v a line = line.1 ++ saved_text base costs v a line.0
 

@@ -1,4 +1,4 @@
--- Heads of responses, as curl prints them, and what was recorded of them.
+-- Heads of responses, as curl prints them, and what they record.
 use Rattle.std.specs.Prelude.{◌≡◌, ℕ, ◌+◌, ◌-◌, ◌^◌, min, ℤ, nat_eq, nat_lt, ◌==◌, ◌||◌, ◌&&◌, not, Bool, true, false, if◌then◌else◌}
 use Rattle.std.specs.Prelude.{List, [], ◌∷◌, ◌++◌, length, map, take, drop, count_by, Option, Some, None, unwrap_or, codes, decimal, ⊤}
 use Rattle.std.specs.List.{starts_with, ends_with, prefix_len, list_all, filter, enumerate_from}
@@ -18,7 +18,6 @@ use Rattle.http_cache_report.specs.declared.heads.HeadsError.TheVariants.{NotAHe
 
 -- ---- where heads are
 
--- the bytes begin with a head
 abbrev pub is_heads : List ℕ → Bool
 is_heads bytes = starts_with nat_eq bytes (codes "HTTP/")
 
@@ -26,15 +25,15 @@ is_heads bytes = starts_with nat_eq bytes (codes "HTTP/")
 abbrev pub is_end : ℕ → Bool
 is_end b = b == 13 || b == 10
 
--- the bytes without the line ends at the front
 abbrev pub front_of : List ℕ → List ℕ
 front_of bytes = drop (prefix_len is_end bytes) bytes
 
--- the bytes begin with the LF of a line that an empty one follows
+-- the bytes begin with the LF of a line that an empty line follows
 abbrev pub is_last : List ℕ → Bool
 is_last bytes = starts_with nat_eq bytes (codes "\n\n") || starts_with nat_eq bytes (codes "\n\r\n")
 
--- how many bytes there are up to the first line that an empty one follows, with that line; all, if none does
+-- the number of bytes up to the first line that an empty line follows, with that line, or of all
+-- bytes
 abbrev pub text_len : List ℕ → ℕ
 text_len [] = 0
 text_len (b ∷ bytes) = if is_last (b ∷ bytes) then 1 else text_len bytes + 1
@@ -43,40 +42,37 @@ text_len (b ∷ bytes) = if is_last (b ∷ bytes) then 1 else text_len bytes + 1
 abbrev pub text_of : List ℕ → List ℕ
 text_of front = take (text_len front) front
 
--- how long the line end at the front is
 abbrev pub end_len : List ℕ → ℕ
 end_len bytes =
     if starts_with nat_eq bytes (codes "\r\n") then 2 else (if starts_with nat_eq bytes (codes "\n") then 1 else 0)
 
--- how long the head at the front is, with its empty line
+-- the length of the head at the front, with its empty line
 abbrev pub head_len : List ℕ → ℕ
 head_len front = text_len front + end_len (drop (text_len front) front)
 
--- where the next head would begin
+-- the position at which the next head would begin
 abbrev pub next_of : List ℕ → List ℕ
 next_of front = front_of (drop (head_len front) front)
 
 -- ---- a head as one of HTTP/1.1
 
--- what follows a text at the front
 abbrev pub after : List ℕ → List ℕ → Option (List ℕ)
 after prefix bytes = if starts_with nat_eq bytes prefix then Some (drop (length prefix) bytes) else None
 
--- what follows the version, if that is HTTP/2 or HTTP/3
+-- the text after the version, if that is HTTP/2 or HTTP/3
 abbrev pub after_version : List ℕ → Option (List ℕ)
 after_version text =
     option_or (after (codes "HTTP/2.0") text) (option_or (after (codes "HTTP/2") text) (after (codes "HTTP/3") text))
 
--- the text with HTTP/1.1 as its version, if that is HTTP/2 or HTTP/3
+-- the text, in which HTTP/1.1 replaces HTTP/2 or HTTP/3
 unfoldable pub as_http1 : List ℕ → List ℕ
 as_http1 text = option_map_or (λ rest. codes "HTTP/1.1" ++ rest) (after_version text) text
 
--- what ends a head after its text: an empty line, or the rest of one that is cut off
+-- the end of a head after its text: an empty line, or the rest of one that is cut off
 unfoldable pub closing : List ℕ → List ℕ
 closing text =
     if ends_with nat_eq text (codes "\n") || ends_with nat_eq text (codes "\n\r") then codes "\n" else codes "\n\n"
 
--- the head of HTTP/1.1 for the text of a head
 abbrev pub whole : List ℕ → List ℕ
 whole text = as_http1 text ++ closing text
 
@@ -88,7 +84,7 @@ pub record IsHead (front : List ℕ) (h : Head) : Type 0 where
   pub length : h.length ≡ head_len front
   pub followed : h.followed ≡ is_heads (next_of front)
 
--- heads follow one another from here, and this is left
+-- consecutive heads begin here, and this is left
 abbrev pub AreHeads : List ℕ → List Head → List ℕ → Type 0
 AreHeads front [] rest = front ≡ rest
 AreHeads front (h ∷ hs) rest = (is_heads front ≡ true) × IsHead front h × AreHeads (next_of front) hs rest
@@ -101,30 +97,27 @@ pub record HasHeads (bytes : List ℕ) (hs : List Head) : Type 0 where
 
 -- ---- what is recorded of them
 
--- a proxy's `200 Connection established`: it has no field, and another head follows
+-- the head is a proxy's `200 Connection established`: it has no field, and another head follows
 abbrev pub is_of_proxy : Head → Bool
 is_of_proxy h = (h.parts.status == 200) && h.followed && (length h.parts.headers == 0)
 
--- the head isn't of a final response of the origin
+-- the head isn't a final response of the origin server
 unfoldable pub is_skipped : Head → Bool
 is_skipped h = nat_lt h.parts.status 200 || is_of_proxy h
 
 abbrev pub is_kept : Head → Bool
 is_kept h = not (is_skipped h)
 
--- one or more digits
 abbrev pub is_digits : List ℕ → Bool
 is_digits text = not (length text == 0) && list_all is_ascii_digit text
 
--- the number of digits, as far as 64 bits hold it, and 0 of any other text
+-- the number that digits write, at most the greatest 64-bit number; 0 for any other text
 abbrev pub size_of : List ℕ → ℕ
 size_of text = if is_digits text then unwrap_or (number text) (2 ^ 64 - 1) else 0
 
--- the number in the only Content-Length
 abbrev pub content_length : Headers → ℕ
 content_length h = option_map_or size_of (only_text h (codes "content-length")) 0
 
--- what is printed of the head of a number
 unfoldable pub printed_of : ℕ → Head → PrintedSeen
 printed_of n h = record {
   method = Some (codes "GET");
@@ -137,7 +130,7 @@ printed_of n h = record {
   page = None;
 }
 
--- a request without headers, and the head as the response to it, at the time of its Date, else now
+-- a request without headers, and the head as its response, at the time of its Date or else now
 unfoldable pub entry_of : ℤ → Head → EntrySeen
 entry_of now h =
     let date = server_date (headers_of h.parts.headers) now in
@@ -158,11 +151,11 @@ recorded_of now at = record { printed = printed_of at.0 at.1; reading = entry (e
 abbrev pub recorded_all : ℤ → List Head → List RecordedSeen
 recorded_all now hs = map (recorded_of now) (enumerate_from 1 (filter is_kept hs))
 
--- what was recorded so far, with one head more unless it is skipped
+-- the recorded heads, with one more unless it is skipped
 abbrev pub with_head : ℤ → List RecordedSeen → Head → List RecordedSeen
 with_head now rs h = if is_kept h then rs ++ recorded_of now (length rs + 1, h) ∷ [] else rs
 
--- the bytes are heads of responses, and this was recorded of them
+-- the bytes are heads of responses, and record this
 pub record IsHeads (now : ℤ) (bytes : List ℕ) (rs : List RecordedSeen) : Type 0 where
   pub heads : List Head
   pub are : HasHeads bytes heads
@@ -170,18 +163,18 @@ pub record IsHeads (now : ℤ) (bytes : List ℕ) (rs : List RecordedSeen) : Typ
 
 -- ---- why they aren't
 
--- the line at which the last of the bytes begin
+-- the line at which the last bytes begin
 abbrev pub line_of : List ℕ → List ℕ → ℕ
 line_of bytes front = count_by (λ b. b == 10) (take (length bytes - length front) bytes) + 1
 
--- what an error says of what is left of the bytes, which begins like a head
+-- what an error says of the remaining bytes, which begin like a head
 abbrev pub IsFault : List ℕ → List ℕ → HeadsError → Type 0
 IsFault bytes front (NotAHead line) = (line ≡ line_of bytes front) × IsNoResponse (whole (text_of front))
 IsFault bytes front (TooLong line) = (line ≡ line_of bytes front) × OverfillsResponse (whole (text_of front))
 IsFault bytes front NoHead = ⊥
 IsFault bytes front Memory = ⊤
 
--- after some heads another one can't be read
+-- after some heads the next one can't be read
 pub record HasFault (bytes : List ℕ) (e : HeadsError) : Type 0 where
   pub heads : List Head
   pub front : List ℕ
@@ -189,7 +182,6 @@ pub record HasFault (bytes : List ℕ) (e : HeadsError) : Type 0 where
   pub begins : is_heads front ≡ true
   pub fault : IsFault bytes front e
 
--- all heads of the bytes are skipped
 pub record HasNone (bytes : List ℕ) : Type 0 where
   pub heads : List Head
   pub are : HasHeads bytes heads

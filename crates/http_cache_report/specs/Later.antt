@@ -1,4 +1,4 @@
--- Later visits, and what they ask for.
+-- Later visits, and the urls that they request.
 use Rattle.std.specs.Prelude.{◌≡◌, ℕ, ℤ, ◌-◌, ◌*◌, ◌^◌, ◌+ℤ◌, ◌-ℤ◌, pos, min, max, ◌==◌, ◌&&◌, ◌||◌, nat_lt, nat_le, not, Bool, true, false}
 use Rattle.std.specs.Prelude.{List, [], ◌∷◌, ◌++◌, map, fold, slice_get, codes, decimal, Option, Some, None, if◌then◌else◌}
 use Rattle.std.specs.Fmt.{styled_decimal, format_spec}
@@ -27,15 +27,14 @@ use Rattle.http_cache_report.specs.Words.{StyleSeen, url_text, life_text, left, 
 
 -- ---- what visits cost
 
--- by how many nanoseconds the first load is moved, if it is visited again so many seconds after the recording
+-- the nanoseconds by which the first load is moved for a visit so many seconds after the recording
 abbrev pub shift_by : SpanSeen → ℕ → ℤ
 shift_by s seconds = (s.ended -ℤ s.begun) +ℤ pos (seconds * 1_000_000_000)
 
--- a visit so many seconds after the recording
 abbrev pub IsLater : List RecordedSeen → List Repeat → SpanSeen → Options → Uri → ℕ → Counts → Type 0
 IsLater rs repeats s options target seconds c = IsVisit rs repeats (shift_by s seconds) options target c
 
--- what visits cost an hour, a day, a week and thirty days after the recording
+-- the costs of visits an hour, a day, a week and thirty days after the recording
 pub record AreVisits (rs : List RecordedSeen) (repeats : List Repeat) (s : SpanSeen) (options : Options) (target : Uri) (v : Visits)
     : Type 0 where
   pub hour : IsLater rs repeats s options target 3600 v.hour
@@ -45,7 +44,7 @@ pub record AreVisits (rs : List RecordedSeen) (repeats : List Repeat) (s : SpanS
 
 -- ---- what a visit does with a url
 
--- a visit asks for a url, and its full response is sent again
+-- the full response of a url is sent again
 abbrev pub is_again : Counts → List ℕ → Bool
 is_again c url = nat_lt 0 (total_in c (label_of (codes "again") url))
 
@@ -53,19 +52,16 @@ is_again c url = nat_lt 0 (total_in c (label_of (codes "again") url))
 abbrev pub is_confirmed : Counts → List ℕ → Bool
 is_confirmed c url = nat_lt 0 (total_in c (label_of (codes "confirmed") url))
 
--- what a visit does with a url, in a word
 abbrev pub act : Counts → List ℕ → List ℕ
 act c url = if is_again c url then codes "again" else (if is_confirmed c url then codes "304" else codes "-")
 
--- a visit asks for a url
+-- a visit requests a url
 abbrev pub asks : Counts → List ℕ → Bool
 asks c url = is_again c url || is_confirmed c url
 
--- one of the visits does
 abbrev pub any_asks : Visits → List ℕ → Bool
 any_asks v url = asks v.hour url || asks v.day url || asks v.week url || asks v.month url
 
--- what the visits do with a url, in columns
 abbrev pub acts_text : Visits → List ℕ → List ℕ
 acts_text v url = left 6 (act v.hour url) ++ (left 6 (act v.day url) ++ (left 6 (act v.week url) ++ left 6 (act v.month url)))
 
@@ -77,7 +73,7 @@ sum_in c name = total_in c (label_of (codes "visit") name)
 abbrev pub unknown_text : ℕ → List ℕ
 unknown_text n = if nat_lt 0 n then codes " and " ++ (decimal n ++ codes " unknown") else []
 
--- kilobytes, answers 304, and answers of unknown size
+-- kilobytes, 304s, and responses of unknown size
 abbrev pub total_text : Counts → List ℕ
 total_text c =
     codes "  " ++ (decimal (rounded (sum_in c (codes "bytes")) 1000)
@@ -88,18 +84,16 @@ totals_text v = total_text v.hour ++ (total_text v.day ++ (total_text v.week ++ 
 
 -- ---- which urls are listed
 
--- the status of an entry, or 0
 abbrev pub status_in : RecordedSeen → ℕ
 status_in q = option_map_or (λ (r : ResponseSeen). r.status) (response_of q.reading) 0
 
 abbrev pub status_at : List RecordedSeen → ℕ → ℕ
 status_at rs index = option_map_or status_in (slice_get rs index) 0
 
--- the bytes that were sent for an entry
 abbrev pub size_at : List RecordedSeen → ℕ → ℕ
 size_at rs index = option_map_or (λ (q : RecordedSeen). q.printed.sent) (slice_get rs index) 0
 
--- a response says how long it stays fresh
+-- the headers state a lifetime
 abbrev pub is_given : Life → Bool
 is_given (life.Given n) = true
 is_given (life.Guessed n) = false
@@ -107,15 +101,14 @@ is_given life.NoCache = false
 is_given life.NotStored = false
 is_given life.Unknown = false
 
--- a url is among those to change first
 abbrev pub is_picked : List Pick → Url → Bool
 is_picked ps u = list_any (λ (p : Pick). p.entry == u.entry) ps
 
--- a url of the first load says how long it stays fresh, and a visit asks for it
+-- a url of the first load states a lifetime, and a visit requests it
 abbrev pub is_asked_later : List RecordedSeen → Visits → Url → Bool
 is_asked_later rs v u = u.known.is_first && is_given u.life && any_asks v (text_at rs u.entry)
 
--- a later visit asks for it, it isn't changed first, and it isn't small, or fails
+-- a later visit requests the url, it isn't changed first, and it is large enough or fails
 abbrev pub is_listed : List RecordedSeen → Visits → List Pick → ℕ → Url → Bool
 is_listed rs v ps least u =
     is_asked_later rs v u && not (is_picked ps u)
@@ -124,13 +117,11 @@ is_listed rs v ps least u =
 abbrev pub listed_of : List RecordedSeen → Visits → List Pick → ℕ → List Url → List Bool
 listed_of rs v ps least us = map (is_listed rs v ps least) us
 
--- what to do about it
 abbrev pub act_on : List RecordedSeen → Url → List ℕ
 act_on rs u =
     if nat_le 400 (status_at rs u.full) then codes "fix the link"
     else option_map_or (λ (a : Advice). control_of a) (advice_for rs u) []
 
--- the line of a url
 abbrev pub visit_text : StyleSeen → List RecordedSeen → Visits → Url → List ℕ
 visit_text s rs v u =
     codes "  " ++ (left 34 (url_text s rs u.entry) ++ (right 9 (kilobytes (size_at rs u.full)) ++ (codes "  "
@@ -138,7 +129,6 @@ visit_text s rs v u =
 
 -- ---- urls that say no lifetime
 
--- the seconds of a guess
 abbrev pub guess_in : Life → Option ℕ
 guess_in (life.Guessed n) = Some n
 guess_in (life.Given n) = None
@@ -146,7 +136,7 @@ guess_in life.NoCache = None
 guess_in life.NotStored = None
 guess_in life.Unknown = None
 
--- the guess for a url of the first load that is no failure
+-- the guessed lifetime of a url of the first load that is no failure
 abbrev pub guess_of : List RecordedSeen → Url → Option ℕ
 guess_of rs u = if u.known.is_first && nat_lt (status_at rs u.full) 400 then guess_in u.life else None
 
@@ -154,7 +144,7 @@ guess_of rs u = if u.known.is_first && nat_lt (status_at rs u.full) 400 then gue
 abbrev pub confirms : Counts → List ℕ → Bool
 confirms c url = not (is_again c url) && is_confirmed c url
 
--- how many a 304 confirms at each visit
+-- the number of urls that a 304 confirms at each visit
 abbrev pub confirm_sums : Visits → List ℕ → List Addition
 confirm_sums v url =
     when (confirms v.hour url) (label_of (codes "guess") (codes "hour"), 1)
@@ -162,12 +152,11 @@ confirm_sums v url =
     ++ (when (confirms v.week url) (label_of (codes "guess") (codes "week"), 1)
     ++ when (confirms v.month url) (label_of (codes "guess") (codes "month"), 1)))
 
--- what is summed of a url: how many there are, their bytes, and how many a 304 confirms at each visit
+-- what is summed for a url: its count, its bytes, and the visits at which a 304 confirms it
 abbrev pub guess_sums : Visits → List ℕ → ℕ → List Addition
 guess_sums v url bytes =
     (label_of (codes "guess") (codes "urls"), 1) ∷ (label_of (codes "guess") (codes "bytes"), bytes) ∷ confirm_sums v url
 
--- what is summed of a url by its guess: nothing if it has none
 abbrev pub guess_by : Visits → List ℕ → ℕ → Option ℕ → List Addition
 guess_by v url bytes None = []
 guess_by v url bytes (Some n) = guess_sums v url bytes
@@ -175,7 +164,6 @@ guess_by v url bytes (Some n) = guess_sums v url bytes
 abbrev pub guess_additions : List RecordedSeen → Visits → Url → List Addition
 guess_additions rs v u = guess_by v (text_at rs u.entry) (size_at rs u.full) (guess_of rs u)
 
--- the least guess, and the greatest
 abbrev pub least_guess : List RecordedSeen → ℕ → Url → ℕ
 least_guess rs least u = option_map_or (min least) (guess_of rs u) least
 
@@ -185,11 +173,11 @@ most_guess rs most u = option_map_or (max most) (guess_of rs u) most
 abbrev pub guess_sum : Counts → List ℕ → ℕ
 guess_sum c name = total_in c (label_of (codes "guess") name)
 
--- a number at the left of a column, with blanks after it
+-- a number at the left of a column, before blanks
 abbrev pub left_number : ℕ → ℕ → List ℕ
 left_number width n = styled_decimal (format_spec 32 1 0 width 18446744073709551615) n
 
--- how many of the urls that say no lifetime a 304 confirms
+-- how many of the urls that state no lifetime a 304 confirms
 abbrev pub guess_cell : Counts → List ℕ → List ℕ
 guess_cell c name = left_number 6 (guess_sum c name)
 
@@ -197,11 +185,10 @@ abbrev pub guess_cells : Counts → List ℕ
 guess_cells c =
     guess_cell c (codes "hour") ++ (guess_cell c (codes "day") ++ (guess_cell c (codes "week") ++ guess_cell c (codes "month")))
 
--- the bytes of the urls that say no lifetime
+-- the bytes of the urls that state no lifetime
 abbrev pub guess_bytes : Counts → List ℕ
 guess_bytes c = kilobytes (guess_sum c (codes "bytes"))
 
--- the least guess, and the greatest, in words
 abbrev pub guess_range : ℕ → ℕ → List ℕ
 guess_range least most = duration least ++ (codes " to " ++ duration most)
 
@@ -210,13 +197,12 @@ guess_head c least most =
     codes "  " ++ (decimal (guess_sum c (codes "urls")) ++ (codes " that say no lifetime, "
     ++ (guess_bytes c ++ (codes ", guessed as " ++ (guess_range least most ++ codes "; by a 304: ")))))
 
--- the line of the urls that say no lifetime, if there are any
+-- the line of the urls that state no lifetime, if there are any
 abbrev pub guess_text : Counts → ℕ → ℕ → List ℕ
 guess_text c least most =
     if nat_lt 0 (guess_sum c (codes "urls"))
     then guess_head c least most ++ (guess_cells c ++ codes "say max-age\n") else []
 
--- the line of the urls that say no lifetime is added
 pub record AddsGuesses (rs : List RecordedSeen) (v : Visits) (us : List Url) (old new : List ℕ) : Type 0 where
   pub sums : Counts
   pub are_sums : HoldsCounts (flat_map (guess_additions rs v) us) sums

@@ -19,11 +19,11 @@ use Rattle.http_cache_audit.specs.Report.{SettingsSeen, IsAudit}
 use Rattle.http_cache_audit.specs.WhatIf.{IsWhatIf}
 use Rattle.http_cache_audit.specs.ByUrl.{IsByUrl}
 
--- how many bytes the longest recording has
+-- the greatest length of a recording in bytes
 abbrev pub longest_recording : ℕ
 longest_recording = 1_073_741_824
 
--- the front of what a reader has left that is read, one byte more than that
+-- what is read of a reader: one byte more than the longest recording
 abbrev pub front_of : Option (List ℕ) → Option (List ℕ)
 front_of known = option_map (take (longest_recording + 1)) known
 
@@ -34,11 +34,10 @@ is_audited (skipped reason) = false
 abbrev pub any_audited : List RecordedSeen → Bool
 any_audited rs = list_any (λ (r : RecordedSeen). is_audited r.reading) rs
 
--- no hits are reported
 abbrev pub no_hits : Hits
 no_hits = record { fresh = 0; repeated = 0 }
 
--- the text is of the urls of a recording, or of its audit
+-- the text is about the urls of a recording, or its audit
 abbrev pub IsOfAll : Bool → SettingsSeen → List RecordedSeen → Hits → List ℕ → Type 0
 IsOfAll true s rs hits text = IsByUrl s rs text × (hits ≡ no_hits)
 IsOfAll false s rs hits text = IsAudit s rs hits text
@@ -48,29 +47,29 @@ abbrev pub IsReport : Bool → SettingsSeen → List RecordedSeen → Hits → L
 IsReport true s rs hits text = AreResponses s.options rs text × (hits ≡ no_hits)
 IsReport false s rs hits text = IsScreen s rs hits text
 
--- the text is a report, also as a page, or of all of the recording
+-- the text is a report, a page, or about the whole recording
 abbrev pub IsOfForm : Form → Bool → SettingsSeen → List RecordedSeen → Hits → List ℕ → Type 0
 IsOfForm Report are_heads s rs hits text = IsReport are_heads s rs hits text
 IsOfForm Html are_heads s rs hits text = IsPage s rs hits text
 IsOfForm All are_heads s rs hits text = IsOfAll s.by_url s rs hits text
 
--- the text is of a recording, or of what changes spare
+-- the text is about a recording, or about what changes save
 abbrev pub IsPrinted : Form → Bool → SettingsSeen → List ChangeSeen → List RecordedSeen → Hits → List ℕ → Type 0
 IsPrinted form are_heads s [] rs hits text = IsOfForm form are_heads s rs hits text
 IsPrinted form are_heads s (c ∷ cs) rs hits text = IsWhatIf s (c ∷ cs) rs text × (hits ≡ no_hits)
 
--- bytes are heads of responses, or a recording
+-- the bytes are heads of responses, or a recording
 abbrev pub IsReadAs : Bool → ℤ → Bool → List ℕ → List RecordedSeen → Type 0
 IsReadAs true now ignores_no_cache bytes rs = IsHeads now bytes rs
 IsReadAs false now ignores_no_cache bytes rs = IsRecording ignores_no_cache bytes rs
 
--- bytes are heads of responses if they begin so, and else a recording
+-- the bytes are heads of responses if they begin like one, and else a recording
 pub record IsInput (now : ℤ) (ignores_no_cache : Bool) (bytes : List ℕ) (are_heads : Bool) (rs : List RecordedSeen)
     : Type 0 where
   pub begins : are_heads ≡ is_heads bytes
   pub is_read : IsReadAs are_heads now ignores_no_cache bytes rs
 
--- the bytes are heads or a recording, the text is of that, and an entry was audited, or none was
+-- the text is about the heads or the recording in the bytes, and says whether an entry was audited
 pub record IsAudited (form : Form) (now : ℤ) (s : SettingsSeen) (cs : List ChangeSeen) (ignores_no_cache : Bool)
     (bytes : List ℕ) (ended : Ended) (text : List ℕ) : Type 0 where
   pub recorded : List RecordedSeen
@@ -79,7 +78,7 @@ pub record IsAudited (form : Form) (now : ℤ) (s : SettingsSeen) (cs : List Cha
   pub is_printed : IsPrinted form are_heads s cs recorded ended.hits text
   pub any : ended.audited ≡ any_audited recorded
 
--- what an error says of what a reader has left, where that is known
+-- what an error says of the bytes left in a reader, if they are known
 abbrev pub IsRefusal : Option (List ℕ) → AuditError → Type 0
 IsRefusal known NotReadable = ⊤
 IsRefusal known TooLong = IfSome known (λ bytes. longest_recording < length bytes)

@@ -10,8 +10,8 @@ use Rattle.http_cache_report.specs.declared.facts.Facts.{Facts}
 use Rattle.http_cache_report.specs.Facts.{AreFacts}
 use Rattle.http_cache_report.specs.Screen.{hits_of}
 
--- a text is some pieces, one after another, so that texts of the recording are in it only as they are escaped; which pieces isn't
--- said
+-- the text is a sequence of pieces, so it has texts of the recording only in escaped form; nothing
+-- is said about which pieces it has
 pub record IsPage (s : SettingsSeen) (rs : List RecordedSeen) (hits : Hits) (text : List ℕ) : Type 0 where
   pub target : Uri
   pub facts : Facts

@@ -31,7 +31,6 @@ advice_by url in_full r = if r.status == 200 then Some (advice_of r.headers url 
 abbrev pub advice_in : Bool → RecordedSeen → Option Advice
 advice_in in_full r = option_and_then (advice_by (target_of r) in_full) (response_of r.reading)
 
--- what a url is advised to send
 abbrev pub advice_for : List RecordedSeen → Url → Option Advice
 advice_for rs u = option_and_then (advice_in u.known.in_full) (slice_get rs u.full)
 
@@ -40,16 +39,16 @@ abbrev pub bytes_in : Base → (List ℕ → ℕ) → List ℕ → ℕ
 bytes_in Later sum url = sum (label_of (codes "later_bytes") url)
 bytes_in Visit sum url = sum (label_of (codes "bytes") url)
 
--- its requests for which bytes are sent
+-- the number of its requests for which bytes are sent
 abbrev pub requests_in : Base → (List ℕ → ℕ) → List ℕ → ℕ
 requests_in Later sum url = sum (label_of (codes "later_requests") url)
 requests_in Visit sum url = min (sum (label_of (codes "again") url) + sum (label_of (codes "confirmed") url)) (2 ^ 64 - 1)
 
--- bytes are sent, and at least one in a hundred of all
+-- bytes are sent, and at least one percent of all
 abbrev pub is_much : ℕ → ℕ → Bool
 is_much bytes all = nat_lt 0 bytes && nat_le all (bytes * 100)
 
--- where a url with so many bytes is in the order, if it is much and has an advice: before those with fewer
+-- the key of a url with many bytes and an advice, which is before the keys of urls with fewer bytes
 abbrev pub key_by : ℕ → ℕ → ℕ → Option Advice → List (ℕ × ℕ)
 key_by index all bytes None = []
 key_by index all bytes (Some a) = if is_much bytes all then (2 ^ 64 - 1 - bytes, index) ∷ [] else []
@@ -63,7 +62,6 @@ keys_of rs base sum all us = flat_map (key_at rs base sum all) (enumerate_from 0
 abbrev pub by_key : ℕ × ℕ → ℕ × ℕ → Ordering
 by_key x y = ordering_then (nat_cmp x.0 y.0) (nat_cmp x.1 y.1)
 
--- what is changed of a url
 abbrev pub pick_by : List RecordedSeen → Base → (List ℕ → ℕ) → Url → Advice → Pick
 pick_by rs base sum u a = record {
   entry = u.entry;
@@ -79,7 +77,8 @@ pick_of rs base sum u = option_map (pick_by rs base sum u) (advice_for rs u)
 abbrev pub pick_at : List RecordedSeen → List Url → Base → (List ℕ → ℕ) → ℕ × ℕ → List Pick
 pick_at rs us base sum key = option_to_list (option_and_then (pick_of rs base sum) (slice_get us key.1))
 
--- the urls to change first: five at most, most bytes first, and of as many in the order of their first requests
+-- the urls to change first: at most five, most bytes first, and in the order of their first
+-- requests if the bytes are equal
 pub record ArePicks (rs : List RecordedSeen) (us : List Url) (base : Base) (sum : List ℕ → ℕ) (all : ℕ) (ps : List Pick)
     : Type 0 where
   pub order : List (ℕ × ℕ)
@@ -87,13 +86,12 @@ pub record ArePicks (rs : List RecordedSeen) (us : List Url) (base : Base) (sum 
   pub ascending : IsSorted by_key order
   pub are_first : ps ≡ flat_map (pick_at rs us base sum) (take 5 order)
 
--- what a url is advised to send
 abbrev pub remedy_by : List RecordedSeen → Pick → RemedySeen
 remedy_by rs p = record { url = text_at rs p.entry; advice = p.advice }
 
 -- ---- what they cost
 
--- what is known of a row, if urls do as they are advised
+-- the facts about a row, if urls follow their advice
 abbrev pub known_with : List RemedySeen → RowSeen → Known → Known
 known_with ms r known = record known { in_full = is_still_in_full ms (target_of r.recorded) known.in_full }
 
@@ -109,7 +107,7 @@ cost_name is_first = if is_first then codes "first_cost" else codes "later_cost"
 abbrev pub base_name : Bool → List ℕ
 base_name is_first = if is_first then codes "first_base" else codes "later_base"
 
--- what a request costs is added for its url, and for all urls with its base
+-- the cost of a request, for its url and for all urls with its base
 abbrev pub byte_additions : Bool → List ℕ → ℕ → List Addition
 byte_additions is_first url bytes =
     (label_of (cost_name is_first) url, bytes) ∷ (label_of (base_name is_first) (base_of url), bytes) ∷ []
@@ -122,6 +120,6 @@ url_cost rs r known =
 abbrev pub url_costs_at : List RecordedSeen → List Known → ℕ × RowSeen → List Addition
 url_costs_at rs known at = option_map_or (url_cost rs at.1) (slice_get known at.0) []
 
--- what the requests of each url, and of all with its base, cost in the first load and in later ones
+-- the costs of each url's requests, and of all with its base, in the first load and in later ones
 abbrev pub url_costs : List RecordedSeen → List Known → List RowSeen → List Addition
 url_costs rs known rows = flat_map (url_costs_at rs known) (enumerate_from 0 rows)

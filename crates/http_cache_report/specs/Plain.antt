@@ -14,15 +14,14 @@ use Rattle.http_cache_report.specs.Words.{short, left}
 
 -- ---- which there are
 
--- a base, and how many urls have it
 abbrev pub changing_seen : Changing → List ℕ × ℕ
 changing_seen c = (string_bytes c.base, c.urls)
 
--- the base in front of a mark
+-- the base before a mark
 abbrev pub front_of : List ℕ → List ℕ
 front_of marked = before_first (λ b. b == 10) marked
 
--- so many urls have a base with one mark, and none has it with another one
+-- several urls have the base with one mark, and none has it with another one
 abbrev pub changing_if : (List ℕ → ℕ) → List ℕ → ℕ → List (List ℕ × ℕ)
 changing_if sum base n =
     if nat_lt 1 n && (sum (label_of (codes "base") base) == n) then (base, n) ∷ [] else []
@@ -57,7 +56,6 @@ plain_recorded cs r = record r { printed = record r.printed { url = option_map (
 abbrev pub saved_words : List ℕ → ℕ → List ℕ
 saved_words amount n = if nat_lt 0 n then codes " (saves " ++ (amount ++ codes ")") else []
 
--- what the later loads save without the queries of some urls
 abbrev pub saved_by : Counts → Counts → List ℕ × ℕ → List ℕ
 saved_by costs plain one =
     let bytes = less costs plain (codes "later_base") one.0 in saved_words (kilobytes bytes) bytes
@@ -73,6 +71,6 @@ query_line host costs plain one =
 unfoldable pub lines_of : List ℕ → Counts → Counts → List Changing → List ℕ
 lines_of host costs plain cs = flat_map (query_line host costs plain) (map changing_seen cs)
 
--- a line for the urls of each changing query, of the first twelve, and how many there are more
+-- a line for the urls of each changing query, at most twelve, and the number of further ones
 abbrev pub query_lines : List ℕ → Counts → Counts → List Changing → List ℕ
 query_lines host costs plain cs = lines_of host costs plain (take 12 cs) ++ rest_text (length cs - 12)

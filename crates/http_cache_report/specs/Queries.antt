@@ -1,4 +1,4 @@
--- Queries that change while what is answered doesn't.
+-- Queries that change while the response doesn't.
 use Rattle.std.specs.Prelude.{ℕ, ◌==◌, ◌&&◌, nat_lt, Bool, true, false, List, [], ◌∷◌, ◌++◌, length, map, slice_get, codes}
 use Rattle.std.specs.Prelude.{Option, Some, None, option_map, option_and_then, if◌then◌else◌}
 use Rattle.std.specs.List.{flat_map}
@@ -15,19 +15,15 @@ use Rattle.http_cache_audit.specs.Cost.{response_of}
 use Rattle.http_cache_report.specs.declared.urls.Url.{Url}
 use Rattle.http_cache_report.specs.Visit.{full_of}
 
--- the url of an entry
 abbrev pub text_at : List RecordedSeen → ℕ → List ℕ
 text_at rs index = option_map_or target_of (slice_get rs index) []
 
--- a url up to its query
 abbrev pub base_of : List ℕ → List ℕ
 base_of url = shown_url true url
 
--- a url has a query
 abbrev pub has_query : List ℕ → Bool
 has_query url = nat_lt (length (base_of url)) (length url)
 
--- the ETag of a response, else its Last-Modified
 abbrev pub tag_of : ResponseSeen → Option (List ℕ)
 tag_of r = option_or (first_text r.headers (codes "etag")) (first_text r.headers (codes "last-modified"))
 
@@ -38,11 +34,9 @@ tag_in r = option_and_then tag_of (response_of r.reading)
 abbrev pub mark_of : RecordedSeen → Option (List ℕ)
 mark_of r = option_or (option_map (λ (b : BodySeen). b.text) (body_in r.reading)) (tag_in r)
 
--- the mark of the response at an index
 abbrev pub mark_at : List RecordedSeen → ℕ → Option (List ℕ)
 mark_at rs index = option_and_then mark_of (slice_get rs index)
 
--- a base and a mark, as one text
 abbrev pub marked : List ℕ → List ℕ → List ℕ
 marked base mark = base ++ (codes "\n" ++ mark)
 
@@ -56,21 +50,21 @@ base_additions base mark = (label_of (codes "base") base, 1) ∷ mark_additions 
 abbrev pub query_additions : List ℕ → Option (List ℕ) → List Addition
 query_additions url mark = if has_query url then base_additions (base_of url) mark else []
 
--- a url counts for its base, and for that with its mark, if it has a query
+-- a url with a query counts for its base, and for that with its mark
 abbrev pub bases_at : List RecordedSeen → Url → List Addition
 bases_at rs u = query_additions (text_at rs u.entry) (mark_at rs u.full)
 
--- how many urls there are with each base, and how many of these have the same response
+-- the number of urls with each base, and the number of these with one response
 abbrev pub bases_of : List RecordedSeen → List Url → List Addition
 bases_of rs us = flat_map (bases_at rs) us
 
--- several urls have a base, and all have a mark
+-- several urls have the base, and all of them the mark
 abbrev pub is_one_body : (List ℕ → ℕ) → List ℕ → List ℕ → Bool
 is_one_body sum base mark =
     nat_lt 1 (sum (label_of (codes "base") base))
     && (sum (label_of (codes "marked") (marked base mark)) == sum (label_of (codes "base") base))
 
--- a request's url is one of several that differ in their query alone, and have one response
+-- the url is one of several that differ only in their query, and have one response
 abbrev pub is_changing : (List ℕ → ℕ) → List ℕ → Option (List ℕ) → Bool
 is_changing sum url None = false
 is_changing sum url (Some mark) = has_query url && is_one_body sum (base_of url) mark
@@ -78,6 +72,5 @@ is_changing sum url (Some mark) = has_query url && is_one_body sum (base_of url)
 abbrev pub changing_by : (List ℕ → ℕ) → List RecordedSeen → RowSeen → Bool
 changing_by sum rs r = is_changing sum (target_of r.recorded) (mark_at rs (full_of (length rs) r))
 
--- for each row, whether its query changes while what is answered doesn't
 abbrev pub changing_of : (List ℕ → ℕ) → List RecordedSeen → List RowSeen → List Bool
 changing_of sum rs rows = map (changing_by sum rs) rows

@@ -1,4 +1,4 @@
--- A recording in which some urls send what is advised.
+-- A recording in which some urls follow their advice.
 use Rattle.std.specs.Prelude.{ℕ, ◌&&◌, not, Bool, List, Option, option_map, codes, bytes_eq, string_bytes, if◌then◌else◌}
 use Rattle.std.specs.List.{find}
 use Rattle.std.specs.Option.{option_map_or}
@@ -13,7 +13,6 @@ use Rattle.http_cache_report.specs.declared.remedy.Remedy.{Remedy}
 use Rattle.http_cache_report.specs.declared.advice.Advice.{Advice}
 use Rattle.http_cache_report.specs.Advice.{control_of}
 
--- a url, and what it is advised to send
 pub record RemedySeen : Type 0 where
   pub url : List ℕ
   pub advice : Advice
@@ -21,19 +20,16 @@ pub record RemedySeen : Type 0 where
 abbrev pub remedy_seen : Remedy → RemedySeen
 remedy_seen r = record { url = string_bytes r.url; advice = r.advice }
 
--- headers with a text under a name, in place of what is there, if it is a value and there is room for it
+-- the text replaces the value of the name, if it is a valid value and there is room for it
 abbrev pub put_text : Headers → List ℕ → List ℕ → Headers
 put_text h name t = option_map_or (put_value h name) (value_of_line t) h
 
--- headers with the advised Cache-Control
 abbrev pub with_control : Advice → Headers → Headers
 with_control a h = put_text (fin.remove h (codes "cache-control")) (codes "cache-control") (control_of a)
 
--- headers with an ETag, if they get one
 abbrev pub with_tag : Advice → Headers → Headers
 with_tag a h = if a.adds_tag then put_text h (codes "etag") (codes "\"1\"") else h
 
--- headers with what is advised
 abbrev pub remedied_headers : Advice → Headers → Headers
 remedied_headers a h = with_tag a (with_control a h)
 
@@ -52,18 +48,16 @@ remedied_reading a (skipped reason) = skipped reason
 abbrev pub is_for : List ℕ → RemedySeen → Bool
 is_for url r = bytes_eq r.url url
 
--- what a url is advised to send, if anything
 abbrev pub advice_in : List RemedySeen → List ℕ → Option Advice
 advice_in rs url = option_map (λ (r : RemedySeen). r.advice) (find (is_for url) rs)
 
 abbrev pub remedied_by : RecordedSeen → Advice → RecordedSeen
 remedied_by r a = record r { reading = remedied_reading a r.reading }
 
--- what was recorded, with what its url is advised to send
 abbrev pub remedied : List RemedySeen → RecordedSeen → RecordedSeen
 remedied rs r = option_map_or (remedied_by r) (advice_in rs (target_of r)) r
 
--- a server answers a url's own validator in full, as it did if no advice says otherwise
+-- the server still answers a url's own validator in full: it did, and no advice changes that
 abbrev pub is_still_in_full : List RemedySeen → List ℕ → Bool → Bool
 is_still_in_full rs url in_full =
     option_map_or (λ (a : Advice). in_full && not a.answers_304) (advice_in rs url) in_full

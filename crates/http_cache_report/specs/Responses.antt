@@ -1,4 +1,4 @@
--- What is written of responses of which only the head was read.
+-- The text about responses of which only the head was read.
 use Rattle.std.specs.Prelude.{◌≡◌, ℕ, ◌+◌, ◌==◌, ◌||◌, nat_lt, Bool, true, false, List, [], ◌∷◌, ◌++◌, length, map, slice_get}
 use Rattle.std.specs.Prelude.{codes, decimal, bytes_eq, Option, Some, None, if◌then◌else◌}
 use Rattle.std.specs.List.{flat_map, AllZip}
@@ -9,7 +9,7 @@ use Rattle.http_cache_rules.specs.ReceivedAge.{received_age_of}
 use Rattle.http_cache_semantics.specs.Options.{Options}
 use Rattle.http_cache_recording.specs.Entry.{RecordedSeen}
 use Rattle.http_cache_audit.specs.declared.counts.Counts.{Counts}
-use Rattle.http_cache_audit.specs.Row.{RowSeen, VerdictSeen, LifetimeSeen, KeptSeen, ReceivedSeen}
+use Rattle.http_cache_audit.specs.Row.{RowSeen, AuditVerdictSeen, LifetimeSeen, KeptSeen, ReceivedSeen}
 use Rattle.http_cache_audit.specs.Row as got
 use Rattle.http_cache_audit.specs.Order.{target_of}
 use Rattle.http_cache_audit.specs.Cost.{response_of}
@@ -36,21 +36,20 @@ use Rattle.http_cache_report.specs.Visit.{SpanSeen, span_seen}
 use Rattle.http_cache_report.specs.Words.{left}
 use Rattle.http_cache_report.specs.Wrong.{faults_of, send_for}
 
--- a line: its name, and a text, with `?` for what isn't a blank or from `!` to `~`
+-- a line of a name and a text, with `?` for all but blanks and the bytes from `!` to `~`
 abbrev pub line_text : List ℕ → List ℕ → List ℕ
 line_text name t = map printed_byte (codes "  " ++ (left 10 name ++ t)) ++ codes "\n"
 
 -- ---- what a cache does
 
--- the same cache, for one user or for many
 abbrev pub cache_of : Options → Bool → Options
 cache_of o is_shared = record o { shared = is_shared }
 
--- a lifetime is set by a directive that can be read
+-- the lifetime is set by a readable directive
 abbrev pub is_directive : List ℕ → Bool
 is_directive by = bytes_eq by (codes "max-age") || bytes_eq by (codes "s-maxage")
 
--- what sets a lifetime: a directive as it was written, or words for it, with the text if there is one
+-- what sets a lifetime: the directive as written, or words, with the text if there is one
 abbrev pub source_by : List ℕ → Option (List ℕ) → List ℕ
 source_by by None = by
 source_by by (Some source) = if is_directive by then source else by ++ (codes " (" ++ (source ++ codes ")"))
@@ -58,24 +57,22 @@ source_by by (Some source) = if is_directive by then source else by ++ (codes " 
 abbrev pub source_text : LifetimeSeen → List ℕ
 source_text l = source_by l.by l.source
 
--- the age at the receipt, and what is left of the lifetime then, if there is an age
+-- the age at the receipt and the lifetime left then, if there is an age
 abbrev pub age_text : ℕ → ℕ → List ℕ
 age_text age rest =
     if nat_lt 0 age then codes ", age " ++ (duration age ++ (codes ", " ++ (duration rest ++ codes " left"))) else []
 
--- how long a response that is stored stays fresh
 abbrev pub kept_text : ℕ → KeptSeen → List ℕ
 kept_text age k =
     duration k.lifetime.seconds ++ (codes " by " ++ (source_text k.lifetime ++ age_text age k.left))
 
--- the age that a response was received with
+-- the age with which a response was received
 abbrev pub age_of : RecordedSeen → ℕ
 age_of q = option_map_or (λ (r : ResponseSeen). received_age_of r.headers) (response_of q.reading) 0
 
 abbrev pub unstored_text : RecordedSeen → List ℕ
 unstored_text q = codes "not stored: status " ++ decimal q.printed.status
 
--- what a cache does with a response
 abbrev pub received_text : RecordedSeen → ReceivedSeen → List ℕ
 received_text q (got.stored k) = kept_text (age_of q) k
 received_text q (got.updated k) = kept_text (age_of q) k
@@ -89,13 +86,11 @@ received_text q got.not_selected = unstored_text q
 received_text q got.passed = unstored_text q
 
 abbrev pub row_text : RowSeen → List ℕ
-row_text r = option_map_or (λ (v : VerdictSeen). received_text r.recorded v.received) r.verdict []
+row_text r = option_map_or (λ (v : AuditVerdictSeen). received_text r.recorded v.received) r.verdict []
 
--- what it does with that of the first row
 abbrev pub first_text : List RowSeen → List ℕ
 first_text rows = option_map_or row_text (slice_get rows 0) []
 
--- the text is of the first row of a walk
 pub record IsCacheText (rs : List RecordedSeen) (options : Options) (target : Uri) (text : List ℕ) : Type 0 where
   pub rows : List RowSeen
   pub are_rows : AreRows (record { recorded = rs; options = options; target = target }) rows
@@ -103,7 +98,6 @@ pub record IsCacheText (rs : List RecordedSeen) (options : Options) (target : Ur
 
 -- ---- later visits, and what looks wrong
 
--- what a visit does with a url, in a word
 abbrev pub act_text : Counts → List ℕ → List ℕ
 act_text c url =
     if is_again c url then codes "again" else (if is_confirmed c url then codes "304" else codes "nothing")
@@ -113,7 +107,7 @@ visits_text v url =
     act_text v.hour url ++ (codes " in an hour, " ++ (act_text v.day url ++ (codes " in a day, "
     ++ (act_text v.week url ++ codes " in a week"))))
 
--- what looks wrong, and what to send instead
+-- a fault, and what to send instead
 abbrev pub fault_line : List ℕ → List ℕ
 fault_line w = line_text (codes "wrong:") (w ++ (codes " -> " ++ send_for w))
 
@@ -130,18 +124,18 @@ seen_text rs v u =
 abbrev pub send_text : Advice → List ℕ
 send_text a = codes "Cache-Control: " ++ (control_of a ++ (tag_words a.adds_tag ++ answer_words a.answers_304))
 
--- what a visit asks for: a full response weighs more than a 304 at each of three visits
+-- a full response weighs more than three 304s
 abbrev pub weight : Counts → List ℕ → ℕ
 weight c url = if is_again c url then 4 else (if is_confirmed c url then 1 else 0)
 
--- what visits an hour, a day and a week later ask for
+-- the weight of visits an hour, a day and a week later
 abbrev pub weights : Visits → List ℕ → ℕ
 weights v url = weight v.hour url + weight v.day url + weight v.week url
 
 abbrev pub remedies_for : List ℕ → Advice → List RemedySeen
 remedies_for url a = record { url = url; advice = a } ∷ []
 
--- what visits cost if a url does as it is advised
+-- the costs of visits if a url follows its advice
 pub record AreVisitsWith (rs : List RecordedSeen) (options : Options) (target : Uri) (f : Facts) (s : SpanSeen) (url : List ℕ)
     (a : Advice) (v : Visits) : Type 0 where
   pub after : After
@@ -150,14 +144,13 @@ pub record AreVisitsWith (rs : List RecordedSeen) (options : Options) (target : 
       after
   pub are_visits : v ≡ after.visits
 
--- visits ask for less than others
 abbrev pub asks_less : Visits → Visits → List ℕ → Bool
 asks_less after v url = nat_lt (weights after url) (weights v url)
 
 abbrev pub send_line : Advice → List ℕ
 send_line a = line_text (codes "send:") (send_text a)
 
--- the line of what to send, if visits ask for less then
+-- the line of what to send, if the visits then request less
 abbrev pub sent_line : Advice → List ℕ → Visits → Visits → List ℕ
 sent_line a url v after = if asks_less after v url then send_line a else []
 
@@ -167,7 +160,7 @@ pub record IsAdvised (rs : List RecordedSeen) (options : Options) (target : Uri)
   pub are_after : AreVisitsWith rs options target f s url a after
   pub is_text : text ≡ sent_line a url v after
 
--- what to send instead, if that is advised, and visits ask for less then
+-- what to send instead, if that is advised and the visits then request less
 abbrev pub IsSentBy : List RecordedSeen → Options → Uri → Facts → SpanSeen → List ℕ → Visits → Option Advice → List ℕ → Type 0
 IsSentBy rs options target f s url v None text = text ≡ []
 IsSentBy rs options target f s url v (Some a) text = IsAdvised rs options target f s url v a text
@@ -187,24 +180,23 @@ pub record IsLaterOf (rs : List RecordedSeen) (options : Options) (target : Uri)
   pub is_sent : IsSent rs options target f s u visits sent
   pub is_text : text ≡ seen_text rs visits u ++ sent
 
--- the same, if a store could answer for the response
+-- the text about later visits, if a store could answer for the response
 abbrev pub IsLaterBy : List RecordedSeen → Options → Uri → Facts → Option Url → Option Span → List ℕ → Type 0
 IsLaterBy rs options target f None span text = text ≡ []
 IsLaterBy rs options target f (Some u) None text = text ≡ []
 IsLaterBy rs options target f (Some u) (Some span) text = IsLaterOf rs options target f u (span_seen span) text
 
--- the name, the status and the bytes of a response
 abbrev pub head_line : RecordedSeen → List ℕ
 head_line q =
     codes "\n" ++ (target_of q ++ (codes ", status " ++ (decimal q.printed.status ++ (codes ", "
     ++ (kilobytes q.printed.sent ++ codes "\n")))))
 
--- the lines of a response: what each kind of cache does with it, and then those of later visits
+-- what each kind of cache does with a response, and then the lines about later visits
 abbrev pub lines_text : List ℕ → List ℕ → List ℕ → List ℕ → List ℕ
 lines_text head browser cdn later =
     head ++ (line_text (codes "browser:") browser ++ (line_text (codes "CDN:") cdn ++ later))
 
--- what is written of a response, which is a recording of its own
+-- the text about a response, which is a recording of its own
 pub record IsResponse (options : Options) (target : Uri) (q : RecordedSeen) (text : List ℕ) : Type 0 where
   pub browser : List ℕ
   pub cdn : List ℕ
@@ -219,11 +211,10 @@ pub record IsResponse (options : Options) (target : Uri) (q : RecordedSeen) (tex
 abbrev pub heads_word : ℕ → List ℕ
 heads_word n = if n == 1 then codes " head" else codes " heads"
 
--- how many heads there are, and which cache is asked
+-- the number of heads, and the kind of cache
 abbrev pub first_line : ℕ → Bool → List ℕ
 first_line n is_shared = decimal n ++ (heads_word n ++ cache_text is_shared)
 
--- the text of responses
 pub record AreResponses (options : Options) (rs : List RecordedSeen) (text : List ℕ) : Type 0 where
   pub target : Uri
   pub texts : List (List ℕ)

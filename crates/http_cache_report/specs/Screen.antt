@@ -40,7 +40,7 @@ apart = codes "apart/"
 abbrev pub bytes_words : List ℕ → ℕ → List ℕ
 bytes_words amount n = if nat_lt 0 n then codes " (" ++ (amount ++ codes ")") else []
 
--- how many entries of a kind there are, and what was sent for them
+-- the number of entries of a kind, and the bytes that were sent for them
 abbrev pub kind_line : Counts → List ℕ → ℕ → List ℕ
 kind_line c name n =
     let bytes = total_in c (label_of (codes "apart_bytes") name) in
@@ -62,11 +62,10 @@ not_judged c = with_head (apart_lines c)
 
 -- ---- what comes first
 
--- a recording of one load: none is later
+-- the sums that order urls: those of a visit if the recording has only one load
 abbrev pub base_of : Counts → Base
 base_of c = if total_in c (label_of (codes "loads") (codes "later_loads")) == 0 then Visit else Later
 
--- by which sums urls are ordered
 abbrev pub sums_by : Base → Counts → Visits → (List ℕ → ℕ)
 sums_by Later c v = total_in c
 sums_by Visit c v = total_in v.day
@@ -84,19 +83,18 @@ top_text f = string_bytes f.line ++ (sent_text f.sums ++ hits_text f.sums)
 abbrev pub short_of : Facts → Bool → StyleSeen
 short_of f hides = record { host = string_bytes f.host; hides_queries = hides }
 
--- the least size that is listed: a thousandth of the first load
+-- the least size of a listed url: a thousandth of the first load
 abbrev pub least_of : Counts → ℕ
 least_of c = total_in c (label_of (codes "sent") (codes "first_load")) / 1000
 
--- the line of the url of a key
 abbrev pub visit_at : StyleSeen → List RecordedSeen → Visits → List Url → ℕ × ℕ → List ℕ
 visit_at s rs v us key = option_map_or (visit_text s rs v) (slice_get us key.1) []
 
--- the lines of the first twelve urls in an order, and how many there are more
+-- the lines of the first twelve urls of an order, with the number of further ones
 abbrev pub visit_lines : StyleSeen → List RecordedSeen → Visits → List Url → List (ℕ × ℕ) → List ℕ
 visit_lines s rs v us order = flat_map (visit_at s rs v us) (take 12 order) ++ rest_text (length order - 12)
 
--- the lines of the urls that later visits ask for
+-- the lines of the urls that later visits request
 pub record AreVisitLines (s : StyleSeen) (rs : List RecordedSeen) (v : Visits) (ps : List Pick) (least : ℕ) (us : List Url) (text : List ℕ)
     : Type 0 where
   pub order : List (ℕ × ℕ)
@@ -126,37 +124,33 @@ pub record AreTexts (s : SettingsSeen) (rs : List RecordedSeen) (target : Uri) (
 unfoldable pub visit_head : List ℕ
 visit_head = codes "\nWILL COST ON A LATER VISIT, in an hour, a day, a week, thirty days\n"
 
--- the head of what to change first
 unfoldable pub change_head : Base → List Pick → ℕ → List ℕ
 change_head base ps all = first_head base ps all
 
--- what to change first, and what that saves
+-- what to change first, and the savings
 unfoldable pub changes_text : Facts → Base → Visits → List Pick → Texts → After → List ℕ
 changes_text f base v ps t a =
     change_head base ps (all_by base f.sums v) ++ lines_text base f.costs v a (map line_seen t.lines.items)
 
--- what later visits cost
 unfoldable pub later_text : Visits → Texts → After → List ℕ
 later_text v t a = visit_head ++ (string_bytes t.visits ++ (string_bytes t.guesses ++ end_text v a))
 
--- the lines of what looks wrong: first those of urls, then those of queries
+-- the lines about what looks wrong: first about urls, then about queries
 abbrev pub wrong_lines : Facts → Texts → After → List ℕ
 wrong_lines f t a =
     string_bytes t.wrong ++ query_lines (string_bytes f.host) a.costs a.plain f.changing.items
 
--- what looks wrong, if anything does
 unfoldable pub wrong_section : List ℕ → List ℕ
 wrong_section [] = []
 wrong_section (b ∷ bs) = codes "\nLOOKS WRONG\n" ++ (b ∷ bs)
 
--- the sections, of texts and of what comes of what is advised
+-- the sections, from their texts and the costs with what is advised
 abbrev pub sections_text : Facts → Base → Visits → List Pick → Texts → After → List ℕ
 sections_text f base v ps t a =
     changes_text f base v ps t a
     ++ (later_text v t a
     ++ (wrong_section (wrong_lines f t a) ++ (string_bytes t.both ++ string_bytes t.in_order)))
 
--- the sections of a recording that has a first load
 pub record AreSections (s : SettingsSeen) (rs : List RecordedSeen) (target : Uri) (f : Facts) (span : Span) (text : List ℕ)
     : Type 0 where
   pub visits : Visits
@@ -173,7 +167,6 @@ pub record AreSections (s : SettingsSeen) (rs : List RecordedSeen) (target : Uri
       f.repeats.items (span_seen span) after
   pub is_text : text ≡ sections_text f (base_of f.sums) visits picks texts after
 
--- the sections, if the recording has a first load
 abbrev pub AreSectionsOf : SettingsSeen → List RecordedSeen → Uri → Facts → Option Span → List ℕ → Type 0
 AreSectionsOf s rs target f None text = text ≡ []
 AreSectionsOf s rs target f (Some span) text = AreSections s rs target f span text
@@ -182,11 +175,10 @@ AreSectionsOf s rs target f (Some span) text = AreSections s rs target f span te
 abbrev pub hits_of : Counts → Hits
 hits_of c = record { fresh = fresh_in c; repeated = repeated_in c }
 
--- the head, the sections, what isn't judged, and notes
+-- the head, the sections, what isn't judged, and the notes
 abbrev pub screen_text : Facts → List ℕ → List ℕ → List ℕ
 screen_text f sections notes = top_text f ++ (sections ++ (not_judged f.sums ++ notes))
 
--- the report of a recording
 pub record IsScreen (s : SettingsSeen) (rs : List RecordedSeen) (hits : Hits) (text : List ℕ) : Type 0 where
   pub target : Uri
   pub facts : Facts

@@ -1,4 +1,4 @@
--- What a report knows of each url, and the sums of a recording's loads.
+-- The facts that a report has about each url, and the sums of a recording's loads.
 use Rattle.std.specs.Prelude.{ℕ, nat_lt, ◌&&◌, not, Bool, List, [], ◌∷◌, ◌++◌, slice_get, codes, bytes_eq, unwrap_or, Option, Some, None, if◌then◌else◌}
 use Rattle.std.specs.List.{flat_map, enumerate_from}
 use Rattle.std.specs.Option.{option_map_or}
@@ -6,7 +6,7 @@ use Rattle.http_cache_recording.specs.Entry.{RecordedSeen, ReadingSeen, entry, s
 use Rattle.http_cache_recording.specs.declared.entry.Kind.{Kind}
 use Rattle.http_cache_recording.specs.declared.entry.Kind.TheVariants.{Internal, Preflight, Passed, Range, Failed, Asked}
 use Rattle.http_cache_audit.specs.declared.cost.Known.{Known}
-use Rattle.http_cache_audit.specs.Row.{RowSeen, VerdictSeen, UsedSeen, LifetimeSeen, KeptSeen, ReceivedSeen}
+use Rattle.http_cache_audit.specs.Row.{RowSeen, AuditVerdictSeen, UsedSeen, LifetimeSeen, KeptSeen, ReceivedSeen}
 use Rattle.http_cache_audit.specs.Row as got
 use Rattle.http_cache_audit.specs.Order.{target_of}
 use Rattle.http_cache_audit.specs.Counts.{Addition, label_of, when, is_forced}
@@ -19,7 +19,7 @@ use Rattle.http_cache_report.specs.Visit.{full_of}
 
 -- ---- sums
 
--- the words for an entry of a kind that no store is asked for
+-- the words for the kind of an entry that no store could have answered
 abbrev pub kind_text : RecordedSeen → Kind → List ℕ
 kind_text r Internal = codes "redirected by the browser"
 kind_text r Preflight = codes "preflights"
@@ -28,7 +28,7 @@ kind_text r Range = codes "by Range"
 kind_text r Failed = codes "failed or aborted"
 kind_text r Asked = []
 
--- the words for an entry that no store is asked for: why it isn't audited, or its kind
+-- why an entry isn't audited, or its kind
 abbrev pub reading_text : RecordedSeen → ReadingSeen → List ℕ
 reading_text r (skipped reason) = reason
 reading_text r (entry e) = kind_text r e.kind
@@ -36,16 +36,16 @@ reading_text r (entry e) = kind_text r e.kind
 abbrev pub apart_text : RecordedSeen → List ℕ
 apart_text r = reading_text r r.reading
 
--- how many there are, and what was sent for them
+-- the number of these entries, and the bytes that were sent for them
 abbrev pub apart_additions : RecordedSeen → List Addition
 apart_additions r =
     (label_of (codes "apart") (apart_text r), 1) ∷ (label_of (codes "apart_bytes") (apart_text r), r.printed.sent) ∷ []
 
--- what a stored response saved that answers
+-- what the stored response of a hit saved
 abbrev pub saved_by : RowSeen → ℕ
 saved_by r = if is_hit r then option_map_or (λ (u : UsedSeen). unwrap_or u.saved 0) (used_in r) 0 else 0
 
--- what a stored response answers of what is repeated
+-- the repeated requests and the hits, with their savings
 abbrev pub hit_additions : RowSeen → List Addition
 hit_additions r =
     when r.repeated (label_of (codes "counts") (codes "repeated"), 1)
@@ -59,7 +59,6 @@ no_cache_additions r =
     ∷ (when r.no_cache (label_of (codes "counts") (codes "no_cache"), 1)
     ++ when (is_forced r) (label_of (codes "counts") (codes "no_cache_repeated"), 1))
 
--- something is sent in a later load
 abbrev pub is_sent_later : Bool → ℕ → Bool
 is_sent_later is_first sent = not is_first && nat_lt 0 sent
 
@@ -71,20 +70,17 @@ sent_additions r is_first =
     ++ when (is_sent_later is_first r.recorded.printed.sent)
     (label_of (codes "later_requests") (target_of r.recorded), 1))
 
--- a request that a store could have answered
 abbrev pub asked_additions : RowSeen → Bool → List Addition
 asked_additions r is_first = sent_additions r is_first ++ (hit_additions r ++ no_cache_additions r)
 
 abbrev pub kind_additions : RowSeen → Bool → List Addition
 kind_additions r is_first = if is_asked_row r then asked_additions r is_first else apart_additions r.recorded
 
--- what is summed of a row
 abbrev pub row_additions : RowSeen → Bool → List Addition
 row_additions r is_first =
     (label_of (codes "sent") (load_name is_first), r.recorded.printed.sent)
     ∷ (label_of (codes "loads") (load_name is_first), 1) ∷ kind_additions r is_first
 
--- what is summed of the row at an index, by what is known of it
 abbrev pub sums_at : List Known → ℕ × RowSeen → List Addition
 sums_at known at = option_map_or (λ (k : Known). row_additions at.1 k.is_first) (slice_get known at.0) []
 
@@ -98,7 +94,7 @@ life_by l =
     if bytes_eq l.by (codes "no-cache") then life.NoCache
     else (if bytes_eq l.by (codes "last-modified") then life.Guessed l.seconds else life.Given l.seconds)
 
--- as the stored response that answers, or is asked about
+-- the lifetime of the stored response that answers or is asked about
 abbrev pub life_of_used : RowSeen → Life
 life_of_used r = option_map_or (λ (u : UsedSeen). life_by u.lifetime) (used_in r) life.Unknown
 
@@ -114,13 +110,11 @@ life_after r got.nothing_stored = life_of_used r
 life_after r got.not_selected = life_of_used r
 life_after r got.passed = life_of_used r
 
--- how long the response of a row stays fresh
 abbrev pub life_of : RowSeen → Life
-life_of r = option_map_or (λ (v : VerdictSeen). life_after r v.received) r.verdict life.Unknown
+life_of r = option_map_or (λ (v : AuditVerdictSeen). life_after r v.received) r.verdict life.Unknown
 
 -- ---- urls
 
--- what is known of the url of the row at an index
 abbrev pub url_by : ℕ → ℕ → RowSeen → Known → Url
 url_by len index r known = record {
   row = index;

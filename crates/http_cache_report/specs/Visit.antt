@@ -1,4 +1,4 @@
--- What a later visit of the first load costs.
+-- The costs of a later visit, which repeats the requests of the first load.
 use Rattle.std.specs.Prelude.{ℕ, ℤ, ◌-◌, ◌==◌, ◌&&◌, nat_lt, Bool, true, false, List, [], ◌∷◌, ◌++◌, length, codes}
 use Rattle.std.specs.Prelude.{is_some, unwrap_or, slice_get, Option, Some, None, option_map, option_and_then, if◌then◌else◌}
 use Rattle.std.specs.List.{flat_map, find, enumerate_from, reduce, AllZip}
@@ -12,7 +12,7 @@ use Rattle.http_cache_audit.specs.declared.row.Outcome.TheVariants.{Apart, Fresh
 use Rattle.http_cache_audit.specs.declared.cost.Known.{Known}
 use Rattle.http_cache_audit.specs.declared.cost.Cost.{Cost}
 use Rattle.http_cache_audit.specs.declared.counts.Counts.{Counts}
-use Rattle.http_cache_audit.specs.Row.{RowSeen, VerdictSeen, UsedSeen}
+use Rattle.http_cache_audit.specs.Row.{RowSeen, AuditVerdictSeen, UsedSeen}
 use Rattle.http_cache_audit.specs.Order.{entry_in, target_of}
 use Rattle.http_cache_audit.specs.Walk.{AreRows}
 use Rattle.http_cache_audit.specs.Counts.{Addition, HoldsCounts, label_of, when}
@@ -23,7 +23,7 @@ use Rattle.http_cache_report.specs.Copies.{IsCopy}
 
 -- ---- what is asked once more
 
--- the index of the entry with the full response to a request: its own, or that of the stored response
+-- the index of the entry with the full response to a request: its own, or the stored response's
 abbrev pub full_of : ℕ → RowSeen → ℕ
 full_of len r =
     if is_full_reading r.recorded.reading then r.index
@@ -39,7 +39,6 @@ repeat_by len r other_query known =
     then Some (record { entry = r.index; full = full_of len r; known = known; other_query = other_query })
     else None
 
--- the request of a row once more, by what is known of it
 abbrev pub repeat_of : ℕ → RowSeen → Option Known → Bool → Option Repeat
 repeat_of len r known other_query = option_and_then (repeat_by len r other_query) known
 
@@ -50,35 +49,29 @@ abbrev pub repeats_at : ℕ → List Known → List Bool → ℕ × RowSeen → 
 repeats_at len known changing at =
     option_to_list (repeat_of len at.1 (slice_get known at.0) (other_query_at changing at.0))
 
--- what is asked once more of a recording of so many entries, in the order of its rows
+-- the repeated requests, in the order of the rows
 abbrev pub repeats_of : ℕ → List Known → List Bool → List RowSeen → List Repeat
 repeats_of len known changing rows = flat_map (repeats_at len known changing) (enumerate_from 0 rows)
 
 -- ---- when
 
--- an entry of the first load
 abbrev pub is_first_entry : FirstSeen → RowSeen → Bool
 is_first_entry first r = is_of_first first r && is_some (entry_in r.recorded.reading)
 
--- when the first request of the first load was sent
 abbrev pub first_sent : List RowSeen → Option ℤ
 first_sent rows = option_and_then sent_at (find (is_first_entry (first_load rows)) rows)
 
--- when a response was received
 abbrev pub received_in : RecordedSeen → Option ℤ
 received_in r = option_map (λ (e : EntrySeen). e.received) (entry_in r.reading)
 
--- the later of two times, as far as they are known
 abbrev pub later : Option ℤ → Option ℤ → Option ℤ
 later None b = b
 later (Some a) None = Some a
 later (Some a) (Some b) = Some (int_max a b)
 
--- the latest of the times at which responses were received
 abbrev pub last_received : List RecordedSeen → Option ℤ
 last_received rs = reduce int_max (flat_map (λ r. option_to_list (received_in r)) rs)
 
--- when the first load began, and when the recording ended
 pub record SpanSeen : Type 0 where
   pub begun : ℤ
   pub ended : ℤ
@@ -94,7 +87,6 @@ span_of rs rows =
 
 -- ---- what it costs
 
--- a request with an outcome is sent to the origin server
 abbrev pub is_sent : Outcome → Bool
 is_sent Apart = false
 is_sent Fresh = false
@@ -103,9 +95,8 @@ is_sent Refetch = true
 is_sent Miss = true
 is_sent MissVary = true
 
--- the full response to a request is sent again
 abbrev pub is_again : RowSeen → Cost → Bool
-is_again r cost = option_map_or (λ (v : VerdictSeen). is_sent v.outcome && (cost.confirmed == 0)) r.verdict false
+is_again r cost = option_map_or (λ (v : AuditVerdictSeen). is_sent v.outcome && (cost.confirmed == 0)) r.verdict false
 
 -- an amount for a url, and for the whole visit
 abbrev pub amount_additions : List ℕ → List ℕ → ℕ → List Addition
@@ -116,33 +107,31 @@ amounts url cost =
     amount_additions (codes "bytes") url cost.bytes
     ++ (amount_additions (codes "confirmed") url cost.confirmed ++ amount_additions (codes "unknown") url cost.unknown)
 
--- what a request costs, and whether its full response is sent again
+-- the costs of a request, and whether its full response is sent again
 abbrev pub sums : List ℕ → RowSeen → Cost → List Addition
 sums url r cost = amounts url cost ++ when (is_again r cost) (label_of (codes "again") url, 1)
 
--- the url of the recorded request at an index
 abbrev pub url_at : List RecordedSeen → ℕ → List ℕ
 url_at rs index = option_map_or target_of (slice_get rs index) []
 
 abbrev pub repeat_additions : List RecordedSeen → RowSeen → Repeat → List Addition
 repeat_additions rs r repeat = sums (url_at rs repeat.entry) r (cost_of rs repeat.known r)
 
--- the repeated request of which the copy is at an index, if the copies begin at another
+-- the repeated request whose copy is at an index; the copies start at `begin`
 abbrev pub repeat_in : List Repeat → ℕ → ℕ → Option Repeat
 repeat_in repeats begin index = if nat_lt index begin then None else slice_get repeats (index - begin)
 
--- what a row adds, if it is that of a copy
 abbrev pub row_additions : List RecordedSeen → List Repeat → ℕ → RowSeen → List Addition
 row_additions rs repeats begin r = option_map_or (repeat_additions rs r) (repeat_in repeats begin r.index) []
 
--- the counts are those of a walk over a recording in which copies begin at an index
+-- the counts of a walk over a recording whose copies start at `begin`
 pub record AreVisitCounts (rs : List RecordedSeen) (repeats : List Repeat) (begin : ℕ) (options : Options) (target : Uri)
     (counts : Counts) : Type 0 where
   pub rows : List RowSeen
   pub are_rows : AreRows (record { recorded = rs; options = options; target = target }) rows
   pub are_counts : HoldsCounts (flat_map (row_additions rs repeats begin) rows) counts
 
--- what a later visit costs: the counts of a walk over a recording with the copies of the repeated requests at its end
+-- the costs of a later visit: the counts of a walk over the recording with the copies at its end
 pub record IsVisit (rs : List RecordedSeen) (repeats : List Repeat) (shift : ℤ) (options : Options) (target : Uri)
     (counts : Counts) : Type 0 where
   pub copies : List RecordedSeen

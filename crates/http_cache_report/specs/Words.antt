@@ -1,4 +1,4 @@
--- Texts that several sections of a report have.
+-- Texts that several sections of a report use.
 use Rattle.std.specs.Prelude.{ℕ, ◌==◌, Bool, nat_eq, List, [], ◌∷◌, ◌++◌, length, drop, codes, bytes_eq, Option, Some, None, if◌then◌else◌}
 use Rattle.std.specs.Prelude.{unwrap_or, slice_get}
 use Rattle.std.specs.Fmt.{styled_text, format_spec}
@@ -15,15 +15,13 @@ use Rattle.http_cache_report.specs.declared.urls.Life.TheVariants as life
 use Rattle.http_cache_report.specs.Numbers.{duration}
 use Rattle.http_cache_report.specs.Queries.{text_at}
 
--- a text without what it begins with, if it does
+-- the text without the front, if it has it
 abbrev pub stripped : List ℕ → List ℕ → List ℕ
 stripped front t = if starts_with nat_eq t front then drop (length front) t else t
 
--- a url without its scheme
 abbrev pub without_scheme : List ℕ → List ℕ
 without_scheme url = stripped (codes "https://") (stripped (codes "http://") url)
 
--- the host of a url
 abbrev pub host_of : List ℕ → List ℕ
 host_of url = before_first (λ b. b == 47) (without_scheme url)
 
@@ -31,7 +29,7 @@ host_of url = before_first (λ b. b == 47) (without_scheme url)
 abbrev pub short : List ℕ → List ℕ → List ℕ
 short host url = if bytes_eq (host_of url) host then stripped host (without_scheme url) else without_scheme url
 
--- how urls are printed: without the page's host, and perhaps without their queries
+-- the style of urls: without the page's host, and perhaps without their queries
 pub record StyleSeen : Type 0 where
   pub host : List ℕ
   pub hides_queries : Bool
@@ -39,20 +37,16 @@ pub record StyleSeen : Type 0 where
 abbrev pub style_seen : UrlStyle → StyleSeen
 style_seen s = record { host = s.host.now; hides_queries = s.hides_queries }
 
--- the url of an entry, shortened
 abbrev pub url_text : StyleSeen → List RecordedSeen → ℕ → List ℕ
 url_text s rs index = short s.host (shown_url s.hides_queries (text_at rs index))
 
--- texts with a comma between them
 abbrev pub with_piece : List ℕ → List ℕ → List ℕ
 with_piece [] piece = piece
 with_piece (b ∷ bs) piece = (b ∷ bs) ++ (codes ", " ++ piece)
 
--- the first line of Cache-Control
 abbrev pub control_text : Headers → List ℕ
 control_text h = unwrap_or (first_text h (codes "cache-control")) []
 
--- a header with its name, if nothing is said before it
 abbrev pub named_text : List ℕ → Option (List ℕ) → List ℕ
 named_text name None = []
 named_text name (Some value) = name ++ (codes " " ++ value)
@@ -61,7 +55,7 @@ abbrev pub else_named : List ℕ → Option (List ℕ) → List ℕ → List ℕ
 else_named name value [] = named_text name value
 else_named name value (b ∷ bs) = b ∷ bs
 
--- the Cache-Control of a response, else its Expires, else its Pragma
+-- Cache-Control, else Expires, else Pragma
 abbrev pub lifetime_text : Headers → List ℕ
 lifetime_text h =
     else_named (codes "Pragma") (first_text h (codes "pragma"))
@@ -72,18 +66,15 @@ validator_text h =
     if contains_key h (codes "etag") then codes "ETag"
     else (if contains_key h (codes "last-modified") then codes "Last-Modified" else codes "no ETag")
 
--- what a response says of caching
 abbrev pub said_by : Headers → List ℕ
 said_by h = with_piece (lifetime_text h) (validator_text h)
 
 abbrev pub said_in : RecordedSeen → List ℕ
 said_in q = option_map_or (λ (r : ResponseSeen). said_by r.headers) (response_of q.reading) []
 
--- what the response of an entry says of caching
 abbrev pub said_at : List RecordedSeen → ℕ → List ℕ
 said_at rs index = option_map_or said_in (slice_get rs index) []
 
--- how long a response stays fresh, in words
 abbrev pub life_text : Life → List ℕ
 life_text life.Unknown = codes "unknown"
 life_text life.NotStored = codes "not stored"
@@ -93,10 +84,10 @@ life_text (life.Given n) = duration n
 
 -- ---- columns
 
--- a text at the left of a column, with blanks after it
+-- a text at the left of a column, before blanks
 abbrev pub left : ℕ → List ℕ → List ℕ
 left width t = styled_text (format_spec 32 1 0 width 18446744073709551615) t
 
--- a text at the right of a column, with blanks before it
+-- a text at the right of a column, after blanks
 abbrev pub right : ℕ → List ℕ → List ℕ
 right width t = styled_text (format_spec 32 3 0 width 18446744073709551615) t

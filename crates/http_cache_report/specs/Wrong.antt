@@ -8,7 +8,6 @@ use Rattle.http_cache_report.specs.declared.urls.Url.{Url}
 use Rattle.http_cache_report.specs.BySize.{IsOrder, rest_text}
 use Rattle.http_cache_report.specs.Words.{StyleSeen, url_text, left}
 
--- what looks wrong in the headers of a response
 abbrev pub hints_in : ReadingSeen → List (List ℕ)
 hints_in (entry e) = hints_of e
 hints_in (skipped reason) = []
@@ -16,11 +15,10 @@ hints_in (skipped reason) = []
 abbrev pub hints_at : List RecordedSeen → ℕ → List (List ℕ)
 hints_at rs index = option_map_or (λ (r : RecordedSeen). hints_in r.reading) (slice_get rs index) []
 
--- what looks wrong of a url: in its headers, and in how its server answers a condition that it meets
+-- the faults of a url: in its headers, and in how its server answers a condition that it meets
 abbrev pub faults_of : List RecordedSeen → Url → List (List ℕ)
 faults_of rs u = hints_at rs u.full ++ hint u.known.in_full (codes "sent in full to its own validator")
 
--- what to send where something looks wrong
 unfoldable pub send_for : List ℕ → List ℕ
 send_for w =
     if bytes_eq w (codes "conflicting directives") then codes "one value"
@@ -42,14 +40,12 @@ send_for w =
     else (if bytes_eq w (codes "Vary: User-Agent") then codes "no Vary"
     else (if bytes_eq w (codes "sent in full to its own validator") then codes "a 304 to If-None-Match" else [])))))))))))))))))
 
--- what looks wrong, as a line
 abbrev pub fault_line : List ℕ → List ℕ → List ℕ
 fault_line url w = codes "  " ++ (left 34 url ++ (w ++ (codes " -> " ++ (send_for w ++ codes "\n"))))
 
 abbrev pub fault_lines : StyleSeen → List RecordedSeen → Url → List ℕ
 fault_lines s rs u = flat_map (fault_line (url_text s rs u.entry)) (faults_of rs u)
 
--- something looks wrong of a url
 abbrev pub has_faults : List RecordedSeen → Url → Bool
 has_faults rs u = nat_lt 0 (length (faults_of rs u))
 
@@ -59,11 +55,10 @@ wrong_of rs us = map (has_faults rs) us
 abbrev pub lines_at : StyleSeen → List RecordedSeen → List Url → ℕ × ℕ → List ℕ
 lines_at s rs us key = option_map_or (fault_lines s rs) (slice_get us key.1) []
 
--- what is written of urls in an order: of the first twelve, and how many there are more
+-- the lines of the first twelve urls of an order, with the number of further ones
 abbrev pub order_text : StyleSeen → List RecordedSeen → List Url → List (ℕ × ℕ) → List ℕ
 order_text s rs us order = flat_map (lines_at s rs us) (take 12 order) ++ rest_text (length order - 12)
 
--- the lines of what looks wrong
 pub record IsWrong (s : StyleSeen) (rs : List RecordedSeen) (us : List Url) (text : List ℕ) : Type 0 where
   pub order : List (ℕ × ℕ)
   pub is_order : IsOrder rs us (wrong_of rs us) order

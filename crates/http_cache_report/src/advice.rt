@@ -1,7 +1,7 @@
-//! What to send instead, by what a response says of caching.
+//! Decides what to send instead of a response's headers.
 //!
-//! Pages and their data are validated at each use; what pages are made of gets a lifetime. No advice says
-//! `public`, and what is one user's stays private.
+//! Pages and their data are validated at each use; the parts of pages get a lifetime. No advice
+//! says `public`, and a response for one user stays private.
 ghost use Rattle.std.specs.Prelude.{◌≡◌};
 ghost use Rattle.std.specs.List.{list_all, list_any};
 ghost use Rattle.http_cache_fields.specs.Headers.{headers_of};
@@ -15,10 +15,10 @@ use http_cache_audit::members::shown_url;
 use http_cache_fields::headers::{contains_key, first_text};
 use http_cache_fields::reading::says;
 
-/// How long the response that is sent instead stays fresh.
+/// How long the advised response stays fresh.
 #[derive(Clone, Copy)]
 pub enum Term {
-    /// It is validated at each use.
+    /// Not at all: it is validated at each use.
     NoCache,
     /// A day.
     Day,
@@ -31,13 +31,13 @@ pub enum Term {
 /// What to send instead of a response's headers.
 #[derive(Clone, Copy)]
 pub struct Advice {
-    /// How long it stays fresh.
+    /// How long the response stays fresh.
     pub term: Term,
-    /// No cache of several users may store it.
+    /// Whether shared caches may not store it.
     pub is_private: bool,
-    /// It gets an ETag.
+    /// Whether it gets an ETag.
     pub adds_tag: bool,
-    /// The server answers a 304 to its own validator.
+    /// Whether the server answers a 304 to the response's own validator.
     pub answers_304: bool,
 }
 
@@ -74,14 +74,13 @@ pub fn control_of(advice: Advice) -> &'static str
     }
 }
 
-// Whether a type begins with a text.
 fn is_type(media_type: &str, front: &str) -> bool
     ensures { result ≡ is_type media_type.now front.now }
 {
     media_type.as_bytes().starts_with(front.as_bytes())
 }
 
-// Whether a type is of an image, a font, a sound or a film.
+// Returns whether a type is an image, a font, a sound or a film.
 fn is_media_type(media_type: &str) -> bool
     ensures { result ≡ is_media_type media_type.now }
 {
@@ -91,21 +90,21 @@ fn is_media_type(media_type: &str) -> bool
         || is_type(media_type, "video/")
 }
 
-// Whether a type is of a style, or of a script as most servers call it.
+// Returns whether a type is a style sheet, or a script under its usual type.
 fn is_text_type(media_type: &str) -> bool
     ensures { result ≡ is_text_type media_type.now }
 {
     is_type(media_type, "text/css") || is_type(media_type, "text/javascript")
 }
 
-// Whether a type is of a script as some servers call it, or of WebAssembly.
+// Returns whether a type is a script under another type, or WebAssembly.
 fn is_program_type(media_type: &str) -> bool
     ensures { result ≡ is_program_type media_type.now }
 {
     is_type(media_type, "application/javascript") || is_type(media_type, "application/wasm")
 }
 
-// Whether a type is of what a page is made of, in place of a page or its data.
+// Returns whether a type is a part of pages, and neither a page nor its data.
 fn is_part_type(media_type: &str) -> bool
     ensures { result ≡ is_part_type media_type.now }
 {
@@ -163,7 +162,8 @@ fn has_digit(piece: &[u8]) -> bool
     piece.iter().any(|b| is_digit(*b))
 }
 
-// Whether a piece of a name is a hash: eight or more digits of base 16, and not only letters or only digits.
+// Returns whether a piece of a name is a hash: at least eight digits of base 16, some of them
+// letters and some not.
 fn is_hash(piece: &[u8]) -> bool
     ensures { result ≡ is_hash piece.now }
 {
@@ -176,7 +176,7 @@ fn is_separator(b: u8) -> bool
     b == b'.' || b == b'-' || b == b'_' || b == b'/'
 }
 
-/// Returns whether the name of a url has a hash in it, so that it changes with its content.
+/// Returns whether the name in a url has a hash, so that it changes with the content.
 pub fn is_hashed(url: &str) -> bool
     ensures { result ≡ is_hashed url.now }
 {
@@ -192,7 +192,8 @@ fn is_own(headers: &HeaderMap) -> bool
     says(headers, "private") || contains_key(headers, SET_COOKIE)
 }
 
-// Whether a no-store is meant: what it is beside says so, or it is a page or its data.
+// Returns whether a no-store is meant: another directive confirms it, or it is on a page or its
+// data.
 fn is_no_store_meant(headers: &HeaderMap) -> bool
     ensures { result ≡ is_no_store_meant (headers_of headers.now) }
 {
@@ -234,8 +235,8 @@ fn advice_for(headers: &HeaderMap, url: &str, in_full: bool) -> Advice
     }
 }
 
-/// Returns what to send instead of a response's headers, by its url and whether the server answers its own
-/// validator in full.
+/// Returns what to send instead of a response's headers. `in_full` says whether the server answers
+/// the response's own validator in full.
 #[tactic(auto, unfolding(crate::specs::Advice::advice_of))]
 pub fn advice_of(headers: &HeaderMap, url: &str, in_full: bool) -> Advice
     ensures { result ≡ advice_of (headers_of headers.now) url.now in_full }

@@ -1,4 +1,4 @@
-//! What a browser's cache and a CDN's do with a url, where they differ.
+//! The differences between a browser's cache and a CDN's.
 ghost use Rattle.std.specs.Prelude.{◌≡◌, ◌++◌, [], map, fold, IfOk, OnOk, string_bytes};
 ghost use Rattle.std.specs.List.{flat_map};
 ghost use Rattle.http_cache_semantics.specs.Options.{options_of};
@@ -22,7 +22,6 @@ use http_cache_semantics::CacheOptions;
 use http_cache_semantics::explain::Obstacles;
 use std::alloc::{AllocError, Global};
 
-// A lifetime, and what gives it.
 fn kept_text(alloc: Global, kept: &Kept) -> Result<String, AllocError>
     ensures { IfOk result (λ text. string_bytes text ≡ kept_text (kept_seen kept.now)) }
 {
@@ -30,7 +29,6 @@ fn kept_text(alloc: Global, kept: &Kept) -> Result<String, AllocError>
     format!(in alloc; "{life} by {by}")
 }
 
-// Texts with a comma between them.
 fn joined(alloc: Global, texts: &[String]) -> Result<String, AllocError>
     ensures { IfOk result (λ text. string_bytes text
         ≡ fold with_piece [] (map string_bytes texts.now)) }
@@ -74,7 +72,7 @@ fn received_text(
     }
 }
 
-/// Returns what a cache does with the response of a row, or nothing if it received none.
+/// Returns what a cache does with the response of a row, or an empty text if it received none.
 pub fn row_text(alloc: Global, row: &Row<'_>) -> Result<String, AllocError>
     ensures { IfOk result (λ text. string_bytes text ≡ row_text (row_seen row.now)) }
 {
@@ -94,7 +92,7 @@ pub fn text_of(alloc: Global, rows: &[Row<'_>], index: usize) -> Result<String, 
     }
 }
 
-// Whether both say something, and not the same.
+// Returns whether both texts say something, and differ.
 fn do_differ(x: &str, y: &str) -> bool
     ensures { result ≡ do_differ x.now y.now }
 {
@@ -112,7 +110,7 @@ fn differs(alloc: Global, own: &[Row<'_>], other: &[Row<'_>], url: &Url) -> Resu
     Ok(do_differ(x.as_str(), y.as_str()))
 }
 
-// For each url, whether the caches differ.
+// Returns for each url whether the caches differ.
 fn differing(
     alloc: Global,
     own: &[Row<'_>],
@@ -201,7 +199,7 @@ fn both_head(is_shared: bool) -> &'static str
     }
 }
 
-// The section, if they differ.
+// Returns the section, if the caches differ.
 fn both_section(
     alloc: Global,
     short: &UrlStyle<'_>,
@@ -236,7 +234,7 @@ fn both_section(
     Ok(out)
 }
 
-/// Returns the urls that the caches treat differently, in the order of their sizes.
+/// Returns the urls that the caches treat differently, most bytes first.
 pub fn differing_order(
     alloc: Global,
     recorded: &[Recorded],
@@ -260,12 +258,8 @@ pub fn other_cache(options: &CacheOptions) -> CacheOptions
     other
 }
 
-/// Returns the section of where this cache and the other one differ: of twelve urls at most, those of which
-/// most bytes were sent.
-///
-/// # Errors
-///
-/// Returns an error only if there is no memory.
+/// Returns the section about the differences between this cache and the other one. It lists at most
+/// twelve urls, most bytes first.
 pub fn both_text<'a>(
     alloc: Global,
     short: &UrlStyle<'_>,

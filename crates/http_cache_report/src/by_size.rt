@@ -1,4 +1,4 @@
-//! Urls by how many bytes were sent for their full responses.
+//! Orders urls by the bytes of their full responses.
 ghost use Rattle.std.specs.Prelude.{◌≡◌, ◌++◌, map, IfOk, OnOk, string_bytes};
 ghost use Rattle.http_cache_recording.specs.Entry.{recorded_seen};
 ghost use Rattle.http_cache_report.specs.BySize.{key_by, key_at, keys_of, IsOrder, rest_text};
@@ -9,7 +9,7 @@ use http_cache_recording::Recorded;
 use std::alloc::{AllocError, Global};
 use std::fmt::Write;
 
-/// How many urls a section lists at most.
+/// The greatest number of urls in a section.
 pub const MOST: usize = 12;
 
 fn push_key(
@@ -56,11 +56,7 @@ fn keys_of(
     Ok(keys)
 }
 
-/// Returns the listed urls in their order, most bytes first: the second of each pair is its index.
-///
-/// # Errors
-///
-/// Returns an error only if there is no memory.
+/// Returns the listed urls, most bytes first. The second number of each pair is the url's index.
 pub fn order_of(
     alloc: Global,
     recorded: &[Recorded],
@@ -76,10 +72,6 @@ pub fn order_of(
 }
 
 /// Adds how many urls aren't listed, if there are any.
-///
-/// # Errors
-///
-/// Returns an error only if there is no memory.
 pub fn push_rest(out: &mut String, count: usize) -> Result<(), AllocError>
     ensures { OnOk result (string_bytes out.new ≡ string_bytes out.old ++ rest_text count) }
 {

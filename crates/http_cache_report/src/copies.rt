@@ -1,6 +1,5 @@
-//! Copies of recorded entries, with all their times moved: what the same requests get at a later visit.
-//!
-//! A copy has the full response to its request, whatever was recorded for that.
+//! Copies recorded entries, and moves all their times: a later visit makes the same requests. Each
+//! copy has the full response to its request, whatever was recorded for it.
 ghost use Rattle.std.specs.Prelude.{◌≡◌, map, option_map, string_bytes, IfOk, OnOk};
 ghost use Rattle.std.specs.List.{AllZip};
 ghost use Rattle.http_cache_fields.specs.Headers.{headers_of};
@@ -22,7 +21,7 @@ use http_header::{HeaderName, HeaderValue};
 use jiff::Timestamp;
 use std::alloc::{AllocError, Global};
 
-// A time moved by so many nanoseconds, or the time itself if there is none.
+// Returns a time moved by so many nanoseconds, or the time itself if the result is out of range.
 #[tactic(auto, unfolding(crate::specs::Copies::moved))]
 fn moved(at: Timestamp, shift: i128) -> Timestamp
     ensures { result.nanosecond ≡ moved shift at.nanosecond }
@@ -36,7 +35,7 @@ fn moved(at: Timestamp, shift: i128) -> Timestamp
     }
 }
 
-// A time as the value of a date field; None before 1900.
+// Writes a time as a date. Returns None before 1900.
 fn date_value(alloc: Global, at: Timestamp) -> Result<Option<HeaderValue>, AllocError>
     ensures { IfOk result (IsDateValue at.nanosecond) }
 {
@@ -49,7 +48,7 @@ fn date_value(alloc: Global, at: Timestamp) -> Result<Option<HeaderValue>, Alloc
     }
 }
 
-// The time of the first value under a name, if that is a date.
+// Returns the time of the first value under a name, if that is a date.
 fn date_under(
     alloc: Global,
     headers: &HeaderMap,
@@ -64,7 +63,6 @@ fn date_under(
     }
 }
 
-// Moves the date under a name, if there is one.
 fn move_date(
     alloc: Global,
     headers: &mut HeaderMap,
@@ -117,7 +115,7 @@ fn moved_answer(alloc: Global, answer: &Answer, shift: i128) -> Result<Answer, A
     })
 }
 
-// The headers of a request, without its conditions for what was stored before.
+// Returns the headers of a request without conditions, which are for what was stored before.
 fn unconditional(headers: &HeaderMap) -> Result<HeaderMap, AllocError>
     ensures { IfOk result (λ copy. headers_of copy ≡ unconditional (headers_of headers.now)) }
 {
@@ -127,7 +125,7 @@ fn unconditional(headers: &HeaderMap) -> Result<HeaderMap, AllocError>
     Ok(copy)
 }
 
-// A request once more, with the request headers and the answer of another entry.
+// Returns the copy of a request, with the request headers and the answer of another entry.
 fn copied_entry(alloc: Global, own: &Entry, full: &Entry, shift: i128) -> Result<Entry, AllocError>
     ensures { IfOk result (λ copy.
         IsCopiedEntry shift (entry_seen own.now) (entry_seen full.now) (entry_seen copy)) }
@@ -143,7 +141,7 @@ fn copied_entry(alloc: Global, own: &Entry, full: &Entry, shift: i128) -> Result
     })
 }
 
-// A request once more, or what isn't audited if either entry isn't.
+// Returns the copy of a request, or an entry that isn't audited if either entry isn't.
 fn copied_reading(
     alloc: Global,
     own: Option<&Entry>,
@@ -168,7 +166,7 @@ fn copied_text(text: &Option<String>) -> Result<Option<String>, AllocError>
     }
 }
 
-// A url with one parameter more in its query.
+// Adds a parameter to the query of a url.
 fn marked(alloc: Global, url: &str) -> Result<String, AllocError>
     ensures { IfOk result (λ copy. string_bytes copy ≡ marked url.now) }
 {
@@ -280,11 +278,7 @@ fn copy_of(
     })
 }
 
-/// Returns the copies of the repeated requests, one for each, with all times moved by so many nanoseconds.
-///
-/// # Errors
-///
-/// Returns an error only if there is no memory.
+/// Returns the copies of the repeated requests, with all times moved by so many nanoseconds.
 pub(crate) fn copies_of(
     alloc: Global,
     recorded: &[Recorded],

@@ -1,27 +1,27 @@
-//! Why a recording wasn't audited.
+//! The reasons why a recording isn't audited.
 ghost use Rattle.std.specs.Prelude.{◌≡◌};
-ghost use Rattle.http_cache_report.specs.Status.{status_of};
+ghost use Rattle.http_cache_report.specs.Status.{exit_status_of};
 
 use crate::heads::HeadsError;
 use http_cache_recording::ReadingError;
 use thiserror::Error;
 
-/// Why a recording wasn't audited.
+/// The reason why a recording isn't audited.
 #[derive(Clone, Copy, Debug, PartialEq, Eq, Error)]
 pub enum AuditError {
     /// The reader failed.
     #[error("recording: not readable")]
     NotReadable,
-    /// It gave more than a gibibyte.
+    /// The input is longer than a gibibyte.
     #[error("recording: longer than 1 GiB")]
     TooLong,
-    /// What it gave is no recording.
+    /// The input is no recording.
     #[error("{0}")]
     Recording(ReadingError),
-    /// What it gave begins like heads of responses, and can't be read so.
+    /// The input begins like heads of responses, and can't be read as such.
     #[error("heads: {0}")]
     Heads(HeadsError),
-    /// The allocator had no memory.
+    /// There is not enough memory.
     #[error("out of memory")]
     Memory,
     /// The writer failed.
@@ -30,9 +30,9 @@ pub enum AuditError {
 }
 
 impl AuditError {
-    /// Returns the exit status: 2 if the input can't be read as it is, 3 if memory or the output fails.
-    pub fn status(&self) -> u8
-        ensures { result ≡ status_of self.now }
+    /// Returns the exit status: 2 if the input is at fault, 3 if memory or the output is.
+    pub fn exit_status(&self) -> u8
+        ensures { result ≡ exit_status_of self.now }
     {
         match self {
             AuditError::Recording(ReadingError::Memory)

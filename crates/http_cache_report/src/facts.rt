@@ -1,4 +1,5 @@
-//! What a report knows of a recording, and of the same with what is advised.
+//! The facts that a report has about a recording, and what the recording costs with what is
+//! advised.
 ghost use Rattle.std.specs.Prelude.{◌≡◌, ◌+◌, ◌/◌, nat_abs, ◌-ℤ◌, map, IfOk, option_map, string_bytes, length};
 ghost use Rattle.http_cache_semantics.specs.Options.{options_of};
 ghost use Rattle.http_cache_recording.specs.Entry.{recorded_seen};
@@ -30,39 +31,39 @@ use http_cache_semantics::CacheOptions;
 use jiff::Timestamp;
 use std::alloc::{AllocError, Global};
 
-/// What is known of a recording.
+/// The facts about a recording.
 #[derive(Drop)]
 pub struct Facts {
     /// The first line of its report.
     pub line: String,
     /// The host of its page.
     pub host: String,
-    /// What is known of each row of its walk.
+    /// The facts about each row of its walk.
     pub known: Vec<Known>,
     /// The sums of its loads.
     pub sums: Counts,
-    /// What the requests of each url cost.
+    /// The costs of the requests for each url.
     pub costs: Counts,
     /// Its urls.
     pub urls: Vec<Url>,
-    /// Those whose query changes while their response doesn't.
+    /// The urls whose query changes while their response doesn't.
     pub changing: Vec<Changing>,
-    /// The requests that a later visit makes once more.
+    /// The requests that a later visit repeats.
     pub repeats: Vec<Repeat>,
-    /// When the first load began, and when the recording ended.
+    /// The beginning of the first load, and the end of the recording.
     pub span: Option<Span>,
 }
 
-/// What a recording costs if urls do as they are advised.
+/// The costs of a recording if urls follow their advice.
 #[derive(Drop)]
 pub struct After {
-    /// What the requests of each url cost if they only answer a 304 where that is advised.
+    /// The costs of each url's requests if urls only answer a 304 where that is advised.
     pub alone: Counts,
-    /// What they cost if urls send all that is advised.
+    /// The costs of each url's requests if urls follow their whole advice.
     pub costs: Counts,
-    /// What they cost then without the queries that change.
+    /// These costs without the queries that change.
     pub plain: Counts,
-    /// What later visits cost then.
+    /// The costs of later visits then.
     pub visits: Visits,
 }
 
@@ -88,7 +89,7 @@ fn host_copy(alloc: Global, rows: &[Row<'_>], loads: &[usize]) -> Result<String,
     String::from_str(alloc, host_of(page_url(rows, loads)))
 }
 
-// The requests that a later visit makes once more, and how many urls there are with each base.
+// Returns the requests that a later visit repeats, and the number of urls with each base.
 fn repeats_by(
     alloc: Global,
     recorded: &[Recorded],
@@ -137,11 +138,7 @@ fn facts_by(
     })
 }
 
-/// Returns what is known of a recording.
-///
-/// # Errors
-///
-/// Returns an error only if there is no memory.
+/// Returns the facts about a recording.
 pub fn facts_of<'a>(
     alloc: Global,
     recorded: &'a [Recorded],
@@ -156,7 +153,8 @@ pub fn facts_of<'a>(
     facts_by(alloc, recorded, rows.as_slice(), is_shared)
 }
 
-// What is known of each row if urls do as they are advised, and what they cost if they only answer a 304.
+// Returns the facts about each row if urls follow their advice, and the costs if they only answer a
+// 304.
 fn alone_of(
     alloc: Global,
     recorded: &[Recorded],
@@ -203,7 +201,7 @@ fn known_repeat(recorded: &[Recorded], remedies: &[Remedy], repeat: &Repeat) -> 
     }
 }
 
-// What is repeated, if urls do as they are advised.
+// Returns the repeated requests if urls follow their advice.
 fn repeats_after(
     alloc: Global,
     recorded: &[Recorded],
@@ -220,7 +218,7 @@ fn repeats_after(
     Ok(all)
 }
 
-// What a recording costs without the queries that change.
+// Returns the costs of a recording without the queries that change.
 fn plain_costs(
     alloc: Global,
     recorded: Vec<Recorded>,
@@ -236,7 +234,7 @@ fn plain_costs(
     costs_of(alloc, recorded.as_slice(), target, options, known)
 }
 
-// What a recording costs with what is advised.
+// Returns the costs of a recording with what is advised.
 fn costs_with(
     alloc: Global,
     recorded: Vec<Recorded>,
@@ -257,11 +255,7 @@ fn costs_with(
     Ok((costs, plain, visits))
 }
 
-/// Returns what a recording costs if urls do as they are advised.
-///
-/// # Errors
-///
-/// Returns an error only if there is no memory.
+/// Returns the costs of a recording if urls follow their advice.
 pub fn after_of(
     alloc: Global,
     recorded: Vec<Recorded>,

@@ -1,4 +1,4 @@
-//! The lines of what to change first.
+//! The lines about what to change first.
 ghost use Rattle.std.specs.Prelude.{◌≡◌, ◌++◌, map, IfOk, OnOk, string_bytes};
 ghost use Rattle.http_cache_recording.specs.Entry.{recorded_seen};
 ghost use Rattle.http_cache_report.specs.Words.{style_seen};
@@ -19,7 +19,7 @@ use http_cache_recording::Recorded;
 use std::alloc::{AllocError, Global};
 use std::fmt::Write;
 
-/// The lines of a url, to which what it saves is added.
+/// The lines about a url, to which the saving is added.
 #[derive(Drop)]
 pub struct Line {
     /// The url.
@@ -28,14 +28,14 @@ pub struct Line {
     pub text: String,
 }
 
-/// Returns the words for an ETag that is added, if it is.
+/// Returns the words for an advised ETag.
 pub fn tag_words(adds_tag: bool) -> &'static str
     ensures { result.now ≡ tag_words adds_tag }
 {
     if adds_tag { ", and an ETag" } else { "" }
 }
 
-/// Returns the words for answering a 304, if that is advised.
+/// Returns the words for an advised 304.
 pub fn answer_words(answers_304: bool) -> &'static str
     ensures { result.now ≡ answer_words answers_304 }
 {
@@ -70,7 +70,7 @@ fn now_text(
     format!(in alloc; "  {url:<34}{requests:>5} req {size:>10}  {now}\n")
 }
 
-// The url, its requests and bytes, what it says now, and what to send.
+// Returns the url, its requests and bytes, its present headers, and what to send.
 fn pick_text(
     alloc: Global,
     short: &UrlStyle<'_>,
@@ -101,11 +101,7 @@ fn line_by(
     })
 }
 
-/// Returns the lines of what to change first, without what it saves.
-///
-/// # Errors
-///
-/// Returns an error only if there is no memory.
+/// Returns the lines about what to change first, without the savings.
 pub fn lines_of(
     alloc: Global,
     short: &UrlStyle<'_>,
@@ -122,11 +118,7 @@ pub fn lines_of(
     Ok(all)
 }
 
-/// Returns how many bytes less a url costs, by two sums under a name.
-///
-/// # Errors
-///
-/// Returns an error only if there is no memory.
+/// Returns by how many bytes the cost of a url falls, from two sums under a name.
 pub fn less(before: &Counts, after: &Counts, name: &str, url: &str) -> Result<u64, AllocError>
     ensures { IfOk result (λ n. n ≡ less before.now after.now name.now url.now) }
 {
@@ -168,7 +160,7 @@ fn alone_words(alloc: Global, amount: &str, bytes: u64) -> Result<String, AllocE
     format!(in alloc; " ({amount} by the 304s alone)")
 }
 
-// What a url saves in the first load, in words.
+// Returns the words for what a url saves in the first load.
 fn saved_first(
     alloc: Global,
     costs: &Counts,
@@ -184,7 +176,7 @@ fn saved_first(
     first_words(alloc, amount.as_str(), bytes)
 }
 
-// What a url saves by answering a 304, in words.
+// Returns the words for what a url saves by answering a 304.
 fn saved_alone(
     alloc: Global,
     costs: &Counts,
@@ -200,7 +192,6 @@ fn saved_alone(
     alone_words(alloc, amount.as_str(), bytes)
 }
 
-// What a url saves.
 fn saved_text(
     alloc: Global,
     base: Base,
@@ -236,11 +227,7 @@ fn push_line(
     Ok(())
 }
 
-/// Adds the lines of what to change first, each with what it saves.
-///
-/// # Errors
-///
-/// Returns an error only if there is no memory.
+/// Adds the lines about what to change first, each with its saving.
 pub fn push_lines(
     alloc: Global,
     out: &mut String,
@@ -259,7 +246,7 @@ pub fn push_lines(
     Ok(())
 }
 
-// The bytes of the first three.
+// Returns the bytes of the first three urls.
 fn three_bytes(picks: &[Pick]) -> u64
     ensures { result ≡ three_bytes picks.now }
 {
@@ -280,7 +267,7 @@ fn base_words(base: Base) -> &'static str
     }
 }
 
-// Kilobytes, and how many in a hundred they are of all.
+// Adds kilobytes, and their percentage of all bytes.
 fn push_share(out: &mut String, bytes: u64, all: u64) -> Result<(), AllocError>
     ensures { OnOk result (string_bytes out.new ≡ string_bytes out.old ++ share_text bytes all) }
 {
@@ -288,11 +275,7 @@ fn push_share(out: &mut String, bytes: u64, all: u64) -> Result<(), AllocError>
     write!(out, "{amount} kB ({part} %)\n")
 }
 
-/// Adds the head of the section: what the first three urls are of all bytes.
-///
-/// # Errors
-///
-/// Returns an error only if there is no memory.
+/// Adds the head of the section: the share of the first three urls in all bytes.
 pub fn push_first_head(
     out: &mut String,
     base: Base,

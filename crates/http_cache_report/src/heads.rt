@@ -1,6 +1,5 @@
-//! Heads of responses, as `curl -sI`, `curl -sIL` and `curl -si` print them, as a recording.
-//!
-//! It finds the heads, makes each one of HTTP/1.1, which http_heads reads, and knows nothing of caching.
+//! Reads heads of responses, as `curl -sI`, `curl -sIL` and `curl -si` print them, as a recording.
+//! It turns each head into one of HTTP/1.1 for http_heads, and knows nothing of caching.
 ghost use Rattle.std.specs.Prelude.{◌≡◌, ◌<◌, ◌≤◌, ◌++◌, map, length, option_map, option_copied, codes, IfOk, IfErr, OnOk, IsErrOf};
 ghost use Rattle.std.specs.List.{prefix_len, list_all};
 ghost use Rattle.std.specs.Char.{is_ascii_digit};
@@ -28,10 +27,10 @@ use std::alloc::{AllocError, Global};
 use std::hash::RandomState;
 use thiserror::Error;
 
-/// Why bytes are no heads of responses.
+/// The reason why bytes are no heads of responses.
 #[derive(Clone, Copy, Debug, PartialEq, Eq, Error)]
 pub enum HeadsError {
-    /// What begins like a head isn't the head of a response (RFC 9112, section 4).
+    /// Something that begins like a head isn't the head of a response (RFC 9112, section 4).
     #[error("not a response head at line {line}")]
     NotAHead {
         /// The line at which it begins, from 1.
@@ -46,7 +45,7 @@ pub enum HeadsError {
     /// There is no head, or all are skipped.
     #[error("no response head")]
     NoHead,
-    /// The allocator had no memory.
+    /// There is not enough memory.
     #[error("out of memory")]
     Memory,
 }
@@ -62,33 +61,32 @@ impl From<AllocError> for HeadsError {
 // A head of the input.
 #[derive(Drop)]
 struct Head {
-    // What it says.
     parts: response::Parts,
-    // How many bytes it took, with its empty line.
+    // Its length in bytes, with the empty line.
     length: u64,
-    // Another head follows it.
+    // Whether another head follows it.
     followed: bool,
 }
 
-// The head at the front of some bytes, before it is read.
+// The head at the front of the input, before it is read.
 #[derive(Clone, Copy)]
 struct Cut<'a> {
     // Its status line and field lines.
     text: &'a [u8],
-    // How many bytes it takes, with its empty line.
+    // Its length in bytes, with the empty line.
     length: usize,
-    // Where the next head would begin.
+    // The position at which the next head would begin.
     next: &'a [u8],
 }
 
-/// Returns whether bytes begin as the head of a response does.
+/// Returns whether bytes begin like the head of a response.
 pub fn is_heads(bytes: &[u8]) -> bool
     ensures { result ≡ is_heads bytes.now }
 {
     bytes.starts_with(b"HTTP/")
 }
 
-// How many bytes of line ends come first: each CR and LF is one.
+// Returns the number of CR and LF bytes at the front.
 fn ends_len(bytes: &[u8]) -> usize
     ensures value { result ≡ prefix_len is_end bytes.now }
     ensures within { result ≤ length bytes.now }
@@ -99,21 +97,20 @@ fn ends_len(bytes: &[u8]) -> usize
         .count()
 }
 
-// The bytes without the line ends at the front.
 fn front_of(bytes: &[u8]) -> &[u8]
     ensures { result.now ≡ front_of bytes.now }
 {
     &bytes[ends_len(bytes)..]
 }
 
-// Whether the bytes begin with the LF of a line that an empty one follows.
+// Returns whether the bytes begin with the LF of a line that an empty line follows.
 fn is_last(bytes: &[u8]) -> bool
     ensures { result ≡ is_last bytes.now }
 {
     bytes.starts_with(b"\n\n") || bytes.starts_with(b"\n\r\n")
 }
 
-// How many bytes the lines of the head at the front take.
+// Returns the length of the lines of the head at the front.
 fn text_len(front: &[u8]) -> usize
     ensures value { result ≡ text_len front.now }
     ensures within { result ≤ length front.now }
@@ -126,7 +123,7 @@ fn text_len(front: &[u8]) -> usize
     front.len()
 }
 
-// How long the line end at the front is.
+// Returns the length of the line end at the front.
 fn end_len(bytes: &[u8]) -> usize
     ensures value { result ≡ end_len bytes.now }
     ensures within { result ≤ length bytes.now }
@@ -154,7 +151,7 @@ fn cut_of(front: &[u8]) -> Cut<'_>
     }
 }
 
-// What follows the version, if that is HTTP/2 or HTTP/3.
+// Returns what follows the version, if that is HTTP/2 or HTTP/3.
 fn after_version(text: &[u8]) -> Option<&[u8]>
     ensures { option_map (λ t. t.now) result ≡ after_version text.now }
 {
@@ -167,7 +164,7 @@ fn after_version(text: &[u8]) -> Option<&[u8]>
     text.strip_prefix(b"HTTP/3")
 }
 
-// Adds the text with HTTP/1.1 as its version, if that is HTTP/2 or HTTP/3.
+// Adds the text, and replaces HTTP/2 or HTTP/3 by HTTP/1.1.
 #[tactic(auto, unfolding(crate::specs::Heads::as_http1))]
 fn push_as_http1(out: &mut Vec<u8>, text: &[u8]) -> Result<(), AllocError>
     ensures { OnOk result (out.new.items ≡ out.old.items ++ as_http1 text.now) }
@@ -179,7 +176,7 @@ fn push_as_http1(out: &mut Vec<u8>, text: &[u8]) -> Result<(), AllocError>
     out.extend_from_slice(rest)
 }
 
-// What ends a head after its lines. The input may end within a line, or between CR and LF.
+// Returns what ends a head after its lines. The input may end within a line, or between CR and LF.
 #[tactic(auto, unfolding(crate::specs::Heads::closing))]
 fn closing(text: &[u8]) -> &'static str
     ensures { result.now ≡ closing text.now }
@@ -191,7 +188,7 @@ fn closing(text: &[u8]) -> &'static str
     }
 }
 
-// The head of HTTP/1.1 for the lines of a head.
+// Returns the head of HTTP/1.1 for the lines of a head.
 fn whole(alloc: Global, text: &[u8]) -> Result<Vec<u8>, AllocError>
     ensures { IfOk result (λ bytes. bytes.items ≡ whole text.now) }
 {
@@ -201,7 +198,6 @@ fn whole(alloc: Global, text: &[u8]) -> Result<Vec<u8>, AllocError>
     Ok(out)
 }
 
-// The response of the lines of a head.
 fn response_of(alloc: Global, keys: RandomState, text: &[u8]) -> Result<response::Parts, HeadError>
     ensures found { IfOk result (IsResponse (whole text.now)) }
     ensures malformed { IsErrOf result HeadError.Malformed → IsNoResponse (whole text.now) }
@@ -211,7 +207,7 @@ fn response_of(alloc: Global, keys: RandomState, text: &[u8]) -> Result<response
     response_from_bytes(alloc, keys, bytes.as_slice())
 }
 
-// The line at which the last of the bytes begin.
+// Returns the line at which the last bytes begin.
 fn line_of(bytes: &[u8], front: &[u8]) -> usize
     requires { length front.now ≤ length bytes.now }
     ensures { result ≡ line_of bytes.now front.now }
@@ -220,7 +216,7 @@ fn line_of(bytes: &[u8], front: &[u8]) -> usize
     before.iter().filter(|b| **b == b'\n').count() + 1
 }
 
-// The head at the front of what is left of the bytes.
+// Returns the head at the front of the remaining bytes.
 fn head_of(
     alloc: Global,
     keys: RandomState,
@@ -251,14 +247,14 @@ fn head_of(
     }
 }
 
-// Whether a head is a proxy's `200 Connection established` (RFC 9110, section 9.3.6).
+// Returns whether a head is a proxy's `200 Connection established` (RFC 9110, section 9.3.6).
 fn is_of_proxy(head: &Head) -> bool
     ensures { result ≡ is_of_proxy head.now }
 {
     head.parts.status.as_u16() == 200 && head.followed && head.parts.headers.is_empty()
 }
 
-// Whether a head isn't of a final response of the origin server (RFC 9110, section 15.2).
+// Returns whether a head isn't a final response of the origin server (RFC 9110, section 15.2).
 #[tactic(auto, unfolding(crate::specs::Heads::is_skipped))]
 fn is_skipped(head: &Head) -> bool
     ensures { result ≡ is_skipped head.now }
@@ -278,7 +274,7 @@ fn is_digits(text: &str) -> bool
     !text.is_empty() && are_digits(text.as_bytes())
 }
 
-// The number of digits, as far as 64 bits hold it, and 0 of any other text.
+// Reads digits, up to the greatest 64-bit number. Returns 0 for any other text.
 fn size_of(text: &str) -> u64
     ensures { result ≡ size_of text.now }
 {
@@ -289,7 +285,6 @@ fn size_of(text: &str) -> u64
     }
 }
 
-// The only Content-Length, if it is text.
 fn only_length(headers: &HeaderMap) -> Option<&str>
     ensures { option_copied result ≡ only_text (headers_of headers.now) (codes "content-length") }
 {
@@ -303,7 +298,7 @@ fn only_length(headers: &HeaderMap) -> Option<&str>
     }
 }
 
-// The number in the only Content-Length.
+// Returns the number in Content-Length if there is only one value.
 fn content_length(headers: &HeaderMap) -> u64
     ensures { result ≡ content_length (headers_of headers.now) }
 {
@@ -313,7 +308,6 @@ fn content_length(headers: &HeaderMap) -> u64
     }
 }
 
-// The first Date.
 fn first_date(alloc: Global, headers: &HeaderMap) -> Result<Option<Timestamp>, AllocError>
     ensures { IfOk result (λ date. option_map (λ d. d.nanosecond) date
         ≡ first_date (headers_of headers.now) (codes "date")) }
@@ -324,7 +318,7 @@ fn first_date(alloc: Global, headers: &HeaderMap) -> Result<Option<Timestamp>, A
     }
 }
 
-// When a response was sent, by its Date, if that isn't before 1970.
+// Returns the time in Date if that isn't before 1970, else `now`.
 fn sent_at(alloc: Global, headers: &HeaderMap, now: Timestamp) -> Result<Timestamp, AllocError>
     ensures { IfOk result (λ date. date.nanosecond
         ≡ server_date (headers_of headers.now) now.nanosecond) }
@@ -335,7 +329,7 @@ fn sent_at(alloc: Global, headers: &HeaderMap, now: Timestamp) -> Result<Timesta
     }
 }
 
-// What is printed of the head of a number.
+// Returns what is printed of a head.
 #[tactic(auto, unfolding(crate::specs::Heads::printed_of))]
 fn printed_of(alloc: Global, number: usize, head: &Head) -> Result<Printed, AllocError>
     ensures { IfOk result (λ p. printed_seen p ≡ printed_of number head.now) }
@@ -354,7 +348,7 @@ fn printed_of(alloc: Global, number: usize, head: &Head) -> Result<Printed, Allo
     })
 }
 
-// A request without headers, and the head as the response to it.
+// Returns a request without headers, with the head as its response.
 #[tactic(auto, unfolding(crate::specs::Heads::entry_of))]
 fn entry_of(alloc: Global, now: Timestamp, head: Head) -> Result<Entry, AllocError>
     ensures { IfOk result (λ e. entry_seen e ≡ entry_of now.nanosecond head) }
@@ -387,7 +381,6 @@ fn recorded_of(
     })
 }
 
-// Adds a head, unless it is skipped.
 fn add_head(
     alloc: Global,
     rows: &mut Vec<Recorded>,
@@ -405,7 +398,6 @@ fn add_head(
     Ok(())
 }
 
-// What is recorded of the heads of the bytes.
 fn recorded_all(
     alloc: Global,
     keys: RandomState,
@@ -427,21 +419,23 @@ fn recorded_all(
     Ok(rows)
 }
 
-/// Returns what is recorded of heads of responses that follow one another: each is the response to a request
-/// for a target of its own, `head 1` and so on, at the time of its Date, else `now`.
+/// Returns the recording that consecutive heads of responses make. Each is the response to a
+/// request for its own target, `head 1` and so on. Its time is its Date, or else `now`.
 ///
-/// A head is a status line of HTTP/1, HTTP/2 or HTTP/3, field lines, and an empty line, which may be absent or
-/// cut off at the end of the input. Lines end in CRLF or LF, and a head with any other CR isn't read (RFC 9112,
-/// section 2.2). Each CR and LF after a head is skipped, and what follows is a body, which ends the heads,
-/// unless it begins with `HTTP/`. Heads of status 1xx are skipped, and those of status 200 without fields
-/// before another head, with which proxies answer CONNECT. A Date before 1970 counts as none.
+/// - A head is a status line of HTTP/1, HTTP/2 or HTTP/3, field lines, and an empty line, which may
+///   be missing or cut off at the end of the input. Lines end in CRLF or LF. A head with any other
+///   CR isn't read (RFC 9112, section 2.2).
+/// - CRs and LFs after a head are skipped. Anything then that doesn't begin with `HTTP/` is a body,
+///   and ends the heads.
+/// - Heads of status 1xx are skipped, and so are heads of status 200 without fields before another
+///   head, with which proxies answer CONNECT. A Date before 1970 counts as none.
 ///
-/// Another party chose the names, so the header maps take secret keys against collisions.
+/// The header maps take secret keys, since someone else chose the names, which might collide.
 ///
 /// # Errors
 ///
-/// Returns `NotAHead` or `TooLong` if a head can't be read, `NoHead` if there is none but those that are
-/// skipped, and `Memory` if there is none.
+/// `NotAHead` or `TooLong` if a head can't be read, `NoHead` if there is none or all are skipped,
+/// and `Memory` if there is not enough memory.
 pub fn heads_from_bytes(
     alloc: Global,
     keys: RandomState,

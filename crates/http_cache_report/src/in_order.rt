@@ -1,4 +1,4 @@
-//! What is in order: urls of the first load of which nothing has to be changed.
+//! The section about what is in order: urls of the first load that need no change.
 ghost use Rattle.std.specs.Prelude.{◌≡◌, ◌++◌, [], map, fold, IfOk, OnOk, string_bytes};
 ghost use Rattle.http_cache_recording.specs.Entry.{recorded_seen};
 ghost use Rattle.http_cache_report.specs.Words.{style_seen, with_piece};
@@ -24,14 +24,14 @@ fn is_no_cache(life: Life) -> bool
     matches!(life, Life::NoCache)
 }
 
-// Whether a 304 confirms what is stored for a url, at each of its requests.
+// Returns whether a 304 confirms the stored response of a url, for each of its requests.
 fn is_only_confirmed(visit: &Counts, url: &str) -> Result<bool, AllocError>
     ensures { IfOk result (λ holds. holds ≡ is_only_confirmed visit.now url.now) }
 {
     Ok(is_confirmed(visit, url)? && !is_again(visit, url)?)
 }
 
-// Whether a url of the first load isn't to be changed first, and nothing looks wrong in it.
+// Returns whether a url of the first load isn't to be changed first and has no faults.
 fn needs_nothing(
     alloc: Global,
     recorded: &[Recorded],
@@ -45,7 +45,7 @@ fn needs_nothing(
     Ok(url.known.is_first && !is_picked(picks, url) && !wrong)
 }
 
-// Whether a url states a lifetime, and no visit asks for it.
+// Returns whether a url states a lifetime, and no visit requests it.
 fn is_kept(
     alloc: Global,
     recorded: &[Recorded],
@@ -61,7 +61,7 @@ fn is_kept(
     Ok(needs_nothing && is_given(url.life) && !asked)
 }
 
-// Whether a url says `no-cache`, and a 304 confirms it a day later.
+// Returns whether a url says `no-cache`, and a 304 confirms it a day later.
 fn is_checked(
     alloc: Global,
     recorded: &[Recorded],
@@ -77,7 +77,7 @@ fn is_checked(
     Ok(needs_nothing && is_no_cache(url.life) && confirmed)
 }
 
-// For each url, whether it is kept.
+// Returns for each url whether it is kept.
 fn kept_of(
     alloc: Global,
     recorded: &[Recorded],
@@ -95,7 +95,7 @@ fn kept_of(
     Ok(all)
 }
 
-// For each url, whether it is checked.
+// Returns for each url whether it is checked.
 fn checked_of(
     alloc: Global,
     recorded: &[Recorded],
@@ -113,7 +113,7 @@ fn checked_of(
     Ok(all)
 }
 
-// What a later load sent for each of its requests for a url, rounded down.
+// Returns the mean bytes of a url's requests in a later load, rounded down.
 fn each_bytes(sums: &Counts, url: &str) -> Result<u64, AllocError>
     ensures { IfOk result (λ n. n ≡ each_bytes sums.now url.now) }
 {
@@ -133,7 +133,7 @@ fn each_words(alloc: Global, amount: &str, bytes: u64) -> Result<String, AllocEr
     format!(in alloc; " ({amount})")
 }
 
-// A url, and what a later load sent for a request.
+// Returns a url, with the bytes of a request for it in a later load.
 fn piece_of(
     alloc: Global,
     short: &UrlStyle<'_>,
@@ -172,7 +172,7 @@ fn push_piece_at(
     }
 }
 
-// The urls of an order, with commas between them.
+// Returns the urls of an order, with commas between them.
 fn pieces(
     alloc: Global,
     short: &UrlStyle<'_>,
@@ -200,7 +200,7 @@ fn more_words(alloc: Global, count: usize) -> Result<String, AllocError>
     format!(in alloc; ", and {count} more")
 }
 
-// The line of some urls: the first twelve, and how many there are more.
+// Returns the line of the first twelve urls, with the number of further ones.
 fn line_of(
     alloc: Global,
     head: &str,
@@ -222,7 +222,7 @@ fn line_of(
     format!(in alloc; "  {head}: {names}{more}\n")
 }
 
-// The line of the urls that no visit asks for.
+// Returns the line of the urls that no visit requests.
 fn kept_line(
     alloc: Global,
     short: &UrlStyle<'_>,
@@ -250,7 +250,7 @@ fn kept_line(
     )
 }
 
-// The line of the urls that a 304 confirms.
+// Returns the line of the urls that a 304 confirms.
 fn checked_line(
     alloc: Global,
     short: &UrlStyle<'_>,
@@ -287,13 +287,9 @@ fn section_if(alloc: Global, lines: &str) -> Result<String, AllocError>
     format!(in alloc; "\nIN ORDER\n{lines}")
 }
 
-/// Returns the section of the urls of the first load of which nothing has to be changed: those that state a
-/// lifetime and that no later visit asks for, and those that say `no-cache` and that a 304 confirms. Each line
-/// has twelve at most, those of which most bytes were sent.
-///
-/// # Errors
-///
-/// Returns an error only if there is no memory.
+/// Returns the section about the urls of the first load that need no change. They state a lifetime
+/// and no later visit requests them, or they say `no-cache` and a 304 confirms them. Each line has
+/// at most twelve, most bytes first.
 pub fn in_order_text(
     alloc: Global,
     short: &UrlStyle<'_>,

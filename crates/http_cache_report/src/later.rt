@@ -1,4 +1,4 @@
-//! Later visits: what each costs, and which urls it asks for.
+//! The costs of later visits, and the urls that they request.
 ghost use Rattle.std.specs.Prelude.{◌≡◌, ◌++◌, ◌^◌, ◌-◌, map, fold, codes, IfOk, OnOk, string_bytes};
 ghost use Rattle.std.specs.List.{flat_map};
 ghost use Rattle.http_cache_semantics.specs.Options.{options_of};
@@ -27,7 +27,7 @@ use http_cache_semantics::CacheOptions;
 use std::alloc::{AllocError, Global};
 use std::fmt::Write;
 
-/// What a visit costs an hour, a day, a week and thirty days after the recording.
+/// The costs of a visit an hour, a day, a week and thirty days after the recording.
 #[derive(Drop)]
 pub struct Visits {
     /// An hour later.
@@ -40,7 +40,6 @@ pub struct Visits {
     pub month: Counts,
 }
 
-// What a visit costs so many seconds after the recording.
 fn visit_after(
     alloc: Global,
     recorded: &mut Vec<Recorded>,
@@ -58,12 +57,8 @@ fn visit_after(
     visit(alloc, recorded, repeats, span.shift(delay), target, options)
 }
 
-/// Returns what visits cost that make these requests an hour, a day, a week and thirty days after the
-/// recording. That is the same afterwards.
-///
-/// # Errors
-///
-/// Returns an error only if there is no memory.
+/// Returns the costs of visits that make these requests an hour, a day, a week and thirty days
+/// after the recording. The recording is the same afterwards.
 pub fn visits_of(
     alloc: Global,
     recorded: &mut Vec<Recorded>,
@@ -123,7 +118,7 @@ fn asks(visit: &Counts, url: &str) -> Result<bool, AllocError>
     Ok(is_again(visit, url)? || is_confirmed(visit, url)?)
 }
 
-/// Returns whether one of the visits asks for a url.
+/// Returns whether one of the visits requests a url.
 pub fn any_asks(visits: &Visits, url: &str) -> Result<bool, AllocError>
     ensures { IfOk result (λ holds. holds ≡ any_asks visits.now url.now) }
 {
@@ -135,7 +130,6 @@ pub fn any_asks(visits: &Visits, url: &str) -> Result<bool, AllocError>
     )
 }
 
-// What the visits do with a url, in columns.
 fn acts_text(alloc: Global, visits: &Visits, url: &str) -> Result<String, AllocError>
     ensures { IfOk result (λ text. string_bytes text ≡ acts_text visits.now url.now) }
 {
@@ -163,7 +157,7 @@ fn push_unknown(out: &mut String, unknown: u64) -> Result<(), AllocError>
     }
 }
 
-// Adds what the whole page costs at a visit: kilobytes, answers 304, and answers of unknown size.
+// Adds the costs of the whole page at a visit: kilobytes, 304s, and responses of unknown size.
 fn push_total(out: &mut String, visit: &Counts) -> Result<(), AllocError>
     ensures { OnOk result (string_bytes out.new ≡ string_bytes out.old ++ total_text visit.now) }
 {
@@ -174,11 +168,7 @@ fn push_total(out: &mut String, visit: &Counts) -> Result<(), AllocError>
     push_unknown(out, unknown)
 }
 
-/// Adds what the whole page costs at each visit: kilobytes, answers 304, and answers of unknown size.
-///
-/// # Errors
-///
-/// Returns an error only if there is no memory.
+/// Adds the costs of the whole page at each visit: kilobytes, 304s, and responses of unknown size.
 pub fn push_totals(out: &mut String, visits: &Visits) -> Result<(), AllocError>
     ensures { OnOk result (string_bytes out.new ≡ string_bytes out.old ++ totals_text visits.now) }
 {
@@ -218,7 +208,7 @@ pub fn size_at(recorded: &[Recorded], index: usize) -> u64
     }
 }
 
-/// Returns whether headers say how long a response stays fresh.
+/// Returns whether headers state the lifetime.
 pub fn is_given(life: Life) -> bool
     ensures { result ≡ is_given life }
 {
@@ -232,7 +222,7 @@ pub fn is_picked(picks: &[Pick], url: &Url) -> bool
     picks.iter().any(|pick| pick.entry == url.entry)
 }
 
-// Whether a url of the first load says how long it stays fresh, and a visit asks for it.
+// Returns whether a url of the first load states a lifetime, and a visit requests it.
 fn is_asked_later(recorded: &[Recorded], visits: &Visits, url: &Url) -> Result<bool, AllocError>
     ensures { IfOk result (λ holds. holds
         ≡ is_asked_later (map recorded_seen recorded.now) visits.now url.now) }
@@ -241,7 +231,8 @@ fn is_asked_later(recorded: &[Recorded], visits: &Visits, url: &Url) -> Result<b
     Ok(url.known.is_first && is_given(url.life) && asked)
 }
 
-/// Returns whether a later visit asks for a url that isn't changed first, and isn't small, or fails.
+/// Returns whether a later visit requests a url that isn't changed first, and that is large enough
+/// or fails.
 pub fn is_listed(
     recorded: &[Recorded],
     visits: &Visits,
@@ -260,12 +251,7 @@ pub fn is_listed(
     )
 }
 
-/// Returns for each url whether it is listed: a later visit asks for it, it isn't changed first, and it isn't
-/// small, or fails.
-///
-/// # Errors
-///
-/// Returns an error only if there is no memory.
+/// Returns for each url whether it is listed, as by `is_listed`.
 pub fn listed_of(
     alloc: Global,
     recorded: &[Recorded],
@@ -315,11 +301,7 @@ fn visit_text(
     format!(in alloc; "  {text:<34}{size:>9}  {life:<11}{acts}{act}\n")
 }
 
-/// Adds the line of a url that later visits ask for.
-///
-/// # Errors
-///
-/// Returns an error only if there is no memory.
+/// Adds the line of a url that later visits request.
 pub fn push_visit_text(
     alloc: Global,
     out: &mut String,
@@ -344,7 +326,7 @@ fn guess_in(life: Life) -> Option<u64>
     }
 }
 
-/// Returns the guess for a url of the first load that is no failure.
+/// Returns the guessed lifetime of a url of the first load that is no failure.
 pub fn guess_of(recorded: &[Recorded], url: &Url) -> Option<u64>
     ensures { result ≡ guess_of (map recorded_seen recorded.now) url.now }
 {
@@ -426,7 +408,7 @@ fn add_guess(
     Ok(())
 }
 
-// The sums of the urls that say no lifetime.
+// Returns the sums of the urls that state no lifetime.
 fn guess_counts(
     alloc: Global,
     recorded: &[Recorded],
@@ -546,11 +528,7 @@ fn push_guess_text(
     out.push_str("say max-age\n")
 }
 
-/// Adds the line of the urls that say no lifetime, if there are any.
-///
-/// # Errors
-///
-/// Returns an error only if there is no memory.
+/// Adds the line of the urls that state no lifetime, if there are any.
 pub fn push_guesses(
     alloc: Global,
     out: &mut String,

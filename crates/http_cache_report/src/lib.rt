@@ -1,5 +1,6 @@
-//! What a site's owner changes first, by a recorded session or by heads of responses: the report of one
-//! screen or as a page, what caches do with each response, and how any audit is read and written.
+//! What a site's owner should change first, by a recorded session or by heads of responses: the
+//! report of one screen or as a page, what caches do with each response, and how audits are read
+//! and written.
 #![tactic(auto)]
 
 pub mod advice;

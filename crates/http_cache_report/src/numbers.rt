@@ -4,7 +4,7 @@ ghost use Rattle.http_cache_report.specs.Numbers.{rounded, tenths_text, kilobyte
 
 use std::alloc::{AllocError, Global};
 
-/// Returns how many units an amount is, rounded half up.
+/// Returns an amount in units, rounded half up.
 pub fn rounded(amount: u64, unit: u64) -> u64
     requires { 1 < unit }
     ensures { result ≡ rounded amount unit }
@@ -13,7 +13,7 @@ pub fn rounded(amount: u64, unit: u64) -> u64
     amount / unit + (rest >= unit - rest) as u64
 }
 
-// Tenths of a kilobyte as a text.
+// Returns tenths of a kilobyte as a text.
 fn tenths_text(alloc: Global, tenths: u64) -> Result<String, AllocError>
     ensures { IfOk result (λ text. string_bytes text ≡ tenths_text tenths) }
 {
@@ -34,7 +34,7 @@ fn amount_text(alloc: Global, amount: u64, unit: &str) -> Result<String, AllocEr
     format!(in alloc; "{amount} {unit}")
 }
 
-/// Returns seconds in days, hours or minutes, and below three minutes in seconds.
+/// Returns seconds in days, hours or minutes, or below three minutes in seconds.
 pub fn duration(alloc: Global, seconds: u64) -> Result<String, AllocError>
     ensures { IfOk result (λ text. string_bytes text ≡ duration seconds) }
 {
@@ -49,7 +49,7 @@ pub fn duration(alloc: Global, seconds: u64) -> Result<String, AllocError>
     }
 }
 
-/// Returns how many in a hundred a part is of all, rounded half up, and 0 of nothing.
+/// Returns the percentage of a part, rounded half up. It is 0 if `all` is 0.
 pub fn percent(part: u64, all: u64) -> u128
     ensures { result ≡ percent part all }
 {

@@ -1,5 +1,5 @@
-//! The report as one page of HTML. Which pieces it has is decided here and in the modules `page_*`; how a
-//! piece is written, `http_cache_page` says.
+//! The report as one page of HTML. This module and the modules `page_*` decide which pieces it has;
+//! `http_cache_page` writes them.
 ghost use Rattle.std.specs.Prelude.{◌≡◌, map, IfOk, string_bytes};
 ghost use Rattle.http_cache_recording.specs.Entry.{recorded_seen};
 ghost use Rattle.http_cache_audit.specs.Report.{settings_seen};
@@ -27,7 +27,7 @@ fn put(page: &mut Page, text: FrameText) -> Result<(), AllocError> {
     page.put(Constant::Frame(text))
 }
 
-// What may mislead, if anything does.
+// Puts what may mislead, if anything does.
 fn put_notes(page: &mut Page, notes: &str) -> Result<(), AllocError> {
     if notes.is_empty() {
         return Ok(());
@@ -40,7 +40,7 @@ fn put_notes(page: &mut Page, notes: &str) -> Result<(), AllocError> {
     put(page, FrameText::ParagraphEnd)
 }
 
-// All before the sections.
+// Puts everything before the sections.
 fn put_head(
     page: &mut Page,
     facts: &Facts,
@@ -66,23 +66,23 @@ fn put_head(
     put_notes(page, notes)
 }
 
-// All after them.
+// Puts everything after the sections.
 fn put_end(page: &mut Page) -> Result<(), AllocError> {
     put(page, FrameText::Footer)?;
     put(page, FrameText::Script)?;
     put(page, FrameText::End)
 }
 
-// What is made before the recording is changed.
+// The parts that are made before the recording is changed.
 #[derive(Drop)]
 struct Parts {
     // What to change first.
     changes: Vec<Change>,
-    // What later visits ask for.
+    // What later visits request.
     visits: Page,
     // What looks wrong in headers.
     wrong: Wrong,
-    // Where the other kind of cache differs.
+    // The differences to the other kind of cache.
     both: Page,
 }
 
@@ -123,7 +123,7 @@ fn put_parts(
     page.append(&mut parts.both)
 }
 
-// The sections of a recording that has a first load.
+// Puts the sections of a recording that has a first load.
 fn put_sections(
     page: &mut Page,
     recorded: Vec<Recorded>,
@@ -190,12 +190,8 @@ fn page_of(
     Ok(page)
 }
 
-/// Returns the report of a recording as one page of HTML, and how many repeated requests a stored response
-/// answers.
-///
-/// # Errors
-///
-/// Returns an error only if there is no memory.
+/// Returns the report of a recording as one page of HTML, and how many repeated requests a stored
+/// response answers.
 pub fn page(
     alloc: Global,
     recorded: Vec<Recorded>,

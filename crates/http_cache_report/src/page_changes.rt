@@ -20,7 +20,7 @@ use std::alloc::{AllocError, Global};
 /// A url whose headers are to be changed, with its texts.
 #[derive(Drop)]
 pub struct Change {
-    /// What is changed.
+    /// The change.
     pub pick: Pick,
     /// The url.
     pub url: String,
@@ -45,10 +45,6 @@ fn change_of(
 }
 
 /// Returns what to change first, with its texts.
-///
-/// # Errors
-///
-/// Returns an error only if there is no memory.
 pub fn changes_of(
     alloc: Global,
     short: &UrlStyle<'_>,
@@ -67,16 +63,12 @@ fn put(page: &mut Page, text: ChangeText) -> Result<(), AllocError> {
 }
 
 /// Adds kilobytes with one decimal, as a text.
-///
-/// # Errors
-///
-/// Returns an error only if there is no memory.
 pub fn put_size(page: &mut Page, bytes: u64) -> Result<(), AllocError> {
     let text = kilobytes(page.alloc(), bytes)?;
     page.text(text.as_str())
 }
 
-// The bar: what is sent of the most, and what is spared of that.
+// Puts the bar: the bytes of a url in proportion to the most, and the saved part of them.
 fn put_bar(page: &mut Page, bytes: u64, saved: u64, most: u64) -> Result<(), AllocError> {
     put(page, ChangeText::Bar)?;
     page.measured(Measure::Sent, part_of(bytes, most))?;
@@ -93,7 +85,7 @@ fn put_sent(page: &mut Page, change: &Change, saved: u64, most: u64) -> Result<(
     put_bar(page, change.pick.bytes, saved, most)
 }
 
-// What is sent now, and what to send instead.
+// Puts what is sent now, and what to send instead.
 fn put_headers(page: &mut Page, change: &Change) -> Result<(), AllocError> {
     let advice = change.pick.advice;
     put(page, ChangeText::Now)?;
@@ -110,7 +102,7 @@ fn put_headers(page: &mut Page, change: &Change) -> Result<(), AllocError> {
     Ok(())
 }
 
-// A part of what is saved, if there is any.
+// Puts a part of the saving, if there is any.
 fn put_part(
     page: &mut Page,
     before: ChangeText,
@@ -158,7 +150,7 @@ fn put_change(
     put_saved(page, costs, after, url, saved)
 }
 
-// The row of all of them.
+// Puts the row of all changes together.
 fn put_total(page: &mut Page, bytes: u64, all: u64, saved: u64) -> Result<(), AllocError> {
     put(page, ChangeText::Total)?;
     put_size(page, bytes)?;
@@ -177,7 +169,7 @@ fn bytes_of(changes: &[Change]) -> u64 {
     sum
 }
 
-// The bytes of the first, which has most.
+// Returns the bytes of the first change, which has most.
 fn most_of(changes: &[Change]) -> u64 {
     match changes.first() {
         Some(change) => change.pick.bytes,
@@ -200,11 +192,7 @@ fn put_rows(
     Ok(())
 }
 
-/// Adds the section of what to change first.
-///
-/// # Errors
-///
-/// Returns an error only if there is no memory.
+/// Adds the section about what to change first.
 pub fn put_changes(
     page: &mut Page,
     facts: &Facts,

@@ -1,9 +1,10 @@
-//! All requests as a table of a page, with the reason of each and the members that `--lines` prints.
+//! All requests as a table of a page, with the reason of each and the members that `--lines`
+//! prints.
 use crate::both::row_text;
 use crate::facts::Facts;
 use crate::numbers::{duration, kilobytes};
 use crate::page_changes::put_size;
-use crate::page_timeline::{Place, mark_of, places_of, put_timeline, row_url};
+use crate::page_timeline::{LoadRow, load_rows_of, mark_of, put_timeline, row_url};
 use crate::screen::{bytes_words, short_of};
 use crate::urls::{apart_text, saved_by};
 use crate::words::UrlStyle;
@@ -25,14 +26,14 @@ fn put(page: &mut Page, text: RequestText) -> Result<(), AllocError> {
     page.put(Constant::Request(text))
 }
 
-// How long the stored response that answers stays fresh, and what gives it.
+// Returns how long the stored response stays fresh, and what decides it.
 fn fresh_text(alloc: Global, used: &Used) -> Result<String, AllocError> {
     let left = duration(alloc, used.time_to_live)?;
     let by = used.lifetime.by;
     format!(in alloc; "fresh for another {left} by {by}")
 }
 
-// The stored response that answers a row, if one does.
+// Returns the stored response that answers a row, if one does.
 fn fresh_used<'a>(row: &'a Row<'_>) -> Option<&'a Used> {
     match &row.verdict {
         Some(verdict) if verdict.outcome == Outcome::Fresh => verdict.used.as_ref(),
@@ -40,7 +41,7 @@ fn fresh_used<'a>(row: &'a Row<'_>) -> Option<&'a Used> {
     }
 }
 
-// The words for a row without another reason.
+// Returns the words for a row without another reason.
 fn plain_reason<'a>(row: &'a Row<'_>) -> &'a str {
     let text = apart_text(row.recorded);
     if text.is_empty() {
@@ -50,7 +51,7 @@ fn plain_reason<'a>(row: &'a Row<'_>) -> &'a str {
     }
 }
 
-// The reason of a row: how long it stays fresh, or why it isn't stored, or its kind.
+// Returns the reason of a row: how long it stays fresh, why it isn't stored, or its kind.
 fn reason_of(alloc: Global, row: &Row<'_>) -> Result<String, AllocError> {
     if let Some(used) = fresh_used(row) {
         return fresh_text(alloc, used);
@@ -79,7 +80,7 @@ fn put_words(page: &mut Page, name: &str, texts: &[String]) -> Result<(), AllocE
     Ok(())
 }
 
-// The number of an entry, which is a link to its row if it has one.
+// Puts the number of an entry, as a link to its row if it has one.
 fn put_entry(page: &mut Page, index: u64, len: usize) -> Result<(), AllocError> {
     if index < len as u64 {
         page.measured(Measure::Link, index)?;
@@ -113,7 +114,7 @@ fn put_member(page: &mut Page, name: &str, shown: &Shown, len: usize) -> Result<
     }
 }
 
-// Whether a member has a cell of its own.
+// Returns whether a member has a cell of its own.
 fn has_cell(name: &str) -> bool {
     matches!(name, "verdict" | "method" | "url" | "i" | "status" | "sent")
 }
@@ -127,7 +128,7 @@ fn put_members(page: &mut Page, members: &Members, len: usize) -> Result<(), All
     Ok(())
 }
 
-// The url, and the method if that isn't GET.
+// Puts the url, and the method if that isn't GET.
 fn put_target(page: &mut Page, style: &UrlStyle<'_>, row: &Row<'_>) -> Result<(), AllocError> {
     let method = row.recorded.printed.method.as_deref().unwrap_or("GET");
     if method == "GET" {
@@ -156,7 +157,7 @@ fn put_front(
     page.number(row.recorded.printed.status)
 }
 
-// What came of it, and why.
+// Puts the outcome, and the reason.
 fn put_reason(
     page: &mut Page,
     row: &Row<'_>,
@@ -175,7 +176,7 @@ fn put_reason(
     put(page, RequestText::Sent)
 }
 
-// A cell of bytes, which is empty if there are none.
+// Puts a cell of bytes, which is empty for 0.
 fn put_bytes(page: &mut Page, bytes: u64) -> Result<(), AllocError> {
     page.measured(Measure::Cell, bytes)?;
     if bytes > 0 {
@@ -202,17 +203,17 @@ fn put_rows(
     page: &mut Page,
     style: &UrlStyle<'_>,
     rows: &[Row<'_>],
-    places: &[Place],
+    load_rows: &[LoadRow],
 ) -> Result<(), AllocError> {
-    for place in places {
-        if let Some(row) = rows.get(place.1) {
-            put_row(page, style, row, place.0, rows.len())?;
+    for load_row in load_rows {
+        if let Some(row) = rows.get(load_row.1) {
+            put_row(page, style, row, load_row.0, rows.len())?;
         }
     }
     Ok(())
 }
 
-// How many entries of a kind there are, and what was sent for them.
+// Puts the number of entries of a kind, and the bytes that were sent for them.
 fn put_kind(page: &mut Page, sums: &Counts, name: &str, count: u64) -> Result<(), AllocError> {
     let alloc = page.alloc();
     let bytes = sums.total_of("apart_bytes", name)?;
@@ -224,7 +225,6 @@ fn put_kind(page: &mut Page, sums: &Counts, name: &str, count: u64) -> Result<()
     page.text(words.as_str())
 }
 
-// Puts what is between two kinds.
 fn put_between(page: &mut Page, is_first: bool) -> Result<(), AllocError> {
     if is_first {
         put(page, RequestText::Apart)
@@ -233,7 +233,7 @@ fn put_between(page: &mut Page, is_first: bool) -> Result<(), AllocError> {
     }
 }
 
-// What isn't judged, if there is any.
+// Puts what isn't judged, if there is any.
 fn put_not_judged(page: &mut Page, sums: &Counts) -> Result<(), AllocError> {
     let mut is_first = true;
     for (label, count) in sums.by_label.iter() {
@@ -253,21 +253,17 @@ fn put_requests(
     page: &mut Page,
     style: &UrlStyle<'_>,
     rows: &[Row<'_>],
-    places: &[Place],
+    load_rows: &[LoadRow],
     sums: &Counts,
 ) -> Result<(), AllocError> {
     put(page, RequestText::Head)?;
-    put_rows(page, style, rows, places)?;
+    put_rows(page, style, rows, load_rows)?;
     put(page, RequestText::End)?;
     put_not_judged(page, sums)?;
     put(page, RequestText::SectionEnd)
 }
 
 /// Returns the timeline, and the table of all requests.
-///
-/// # Errors
-///
-/// Returns an error only if there is no memory.
 pub fn requests_of(
     alloc: Global,
     recorded: &[Recorded],
@@ -278,9 +274,9 @@ pub fn requests_of(
     let style = short_of(facts, settings.hides_queries);
     let rows = rows_of(alloc, recorded, target, settings.options)?;
     let rows = rows.as_slice();
-    let places = places_of(alloc, rows)?;
+    let load_rows = load_rows_of(alloc, rows)?;
     let mut page = Page::new(alloc);
-    put_timeline(&mut page, &style, rows, places.as_slice())?;
-    put_requests(&mut page, &style, rows, places.as_slice(), &facts.sums)?;
+    put_timeline(&mut page, &style, rows, load_rows.as_slice())?;
+    put_requests(&mut page, &style, rows, load_rows.as_slice(), &facts.sums)?;
     Ok(page)
 }

@@ -1,5 +1,5 @@
-//! The three numbers of a page: what is sent again, how much of it a few urls take, and how many requests
-//! need nothing.
+//! The three numbers of a page: what is sent again, how much of it a few urls take, and how many
+//! requests need nothing.
 use crate::facts::{After, Facts};
 use crate::first::saved_by;
 use crate::later::{Visits, sum_in};
@@ -18,7 +18,7 @@ fn put(page: &mut Page, text: ThreeText) -> Result<(), AllocError> {
     page.put(Constant::Three(text))
 }
 
-/// Returns how many in a hundred a part is of all, at most 100.
+/// Returns the percentage of a part, at most 100.
 pub fn part_of(part: u64, all: u64) -> u64 {
     percent(part, all).min(100) as u64
 }
@@ -28,7 +28,7 @@ pub fn put_kilobytes(page: &mut Page, bytes: u64) -> Result<(), AllocError> {
     page.number(rounded(bytes, 1_000))
 }
 
-// What is sent when the page is loaded again.
+// Returns what is sent when the page is loaded again.
 fn sent_again(base: Base, sums: &Counts, visits: &Visits) -> Result<u64, AllocError> {
     match base {
         Base::Later => sums.total_of("sent", "later_loads"),
@@ -58,7 +58,7 @@ fn put_first(
     put_kilobytes(page, first)
 }
 
-// What is sent for requests that a cache could answer.
+// Puts what is sent for requests that a cache could answer.
 fn put_asked(page: &mut Page, sums: &Counts) -> Result<(), AllocError> {
     put(page, ThreeText::Asked)?;
     put_kilobytes(page, sums.total_of("asked", "first_load")?)?;
@@ -67,7 +67,6 @@ fn put_asked(page: &mut Page, sums: &Counts) -> Result<(), AllocError> {
     put(page, ThreeText::AskedEnd)
 }
 
-// The bytes of the first three.
 fn three_bytes(changes: &[Change]) -> u64 {
     let mut sum = 0u64;
     for change in changes.iter().take(3) {
@@ -76,11 +75,7 @@ fn three_bytes(changes: &[Change]) -> u64 {
     sum
 }
 
-/// Returns what all changes spare.
-///
-/// # Errors
-///
-/// Returns an error only if there is no memory.
+/// Returns what all changes save.
 pub fn saved_by_all(
     base: Base,
     costs: &Counts,
@@ -137,10 +132,6 @@ fn put_hits(page: &mut Page, sums: &Counts) -> Result<(), AllocError> {
 }
 
 /// Adds the three numbers.
-///
-/// # Errors
-///
-/// Returns an error only if there is no memory.
 pub fn put_three(
     page: &mut Page,
     facts: &Facts,

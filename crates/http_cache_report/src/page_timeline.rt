@@ -1,11 +1,11 @@
-//! The timeline of a page: each load, and each of its requests with a letter for what came of it.
+//! The timeline of a page: each load, and each of its requests with a letter for its outcome.
 use crate::page_changes::put_size;
 use crate::top::loads_of;
 use crate::words::{UrlStyle, short};
 use http_cache_audit::counts::Counts;
 use http_cache_audit::members::shown_url;
 use http_cache_audit::order::target_of;
-use http_cache_audit::row::{Again, Outcome, Received, Row, Verdict};
+use http_cache_audit::row::{Again, AuditVerdict, Outcome, Received, Row};
 use http_cache_page::constant::Constant;
 use http_cache_page::mark::{ALL, Mark};
 use http_cache_page::measure::Measure;
@@ -15,14 +15,14 @@ use http_cache_recording::{Kind, Reading};
 use std::alloc::{AllocError, Global};
 
 /// The number of a load, from 1, and the index of the row of one of its requests.
-pub type Place = (u64, usize);
+pub type LoadRow = (u64, usize);
 
 fn put(page: &mut Page, text: TimelineText) -> Result<(), AllocError> {
     page.put(Constant::Timeline(text))
 }
 
-// What came of a request for which nothing was found.
-fn mark_of_miss(row: &Row<'_>, verdict: &Verdict) -> Mark {
+// Returns the mark of a request for which nothing was found.
+fn mark_of_miss(row: &Row<'_>, verdict: &AuditVerdict) -> Mark {
     if !row.repeated {
         Mark::First
     } else if matches!(verdict.received, Received::NotStorable(_)) {
@@ -34,8 +34,8 @@ fn mark_of_miss(row: &Row<'_>, verdict: &Verdict) -> Mark {
     }
 }
 
-// What came of a question about a stored response.
-fn mark_of_question(verdict: &Verdict) -> Mark {
+// Returns the mark of a question about a stored response.
+fn mark_of_question(verdict: &AuditVerdict) -> Mark {
     match verdict.again {
         Some(Again::Changed) => Mark::Changed,
         Some(Again::InFull | Again::Unasked) => Mark::Same,
@@ -47,8 +47,8 @@ fn mark_of_question(verdict: &Verdict) -> Mark {
     }
 }
 
-// What came of a request that a cache is asked for.
-fn mark_by(row: &Row<'_>, verdict: &Verdict) -> Mark {
+// Returns the mark of a request that a cache could answer.
+fn mark_by(row: &Row<'_>, verdict: &AuditVerdict) -> Mark {
     match (verdict.outcome, &verdict.received) {
         (Outcome::Fresh, _) => Mark::Fresh,
         (_, Received::Browser) => Mark::Browser,
@@ -65,7 +65,7 @@ fn is_of_kind(row: &Row<'_>, kind: Kind) -> bool {
     }
 }
 
-/// Returns what came of a request.
+/// Returns the mark of a request's outcome.
 pub fn mark_of(row: &Row<'_>) -> Mark {
     match &row.verdict {
         Some(verdict) if is_of_kind(row, Kind::Asked) => mark_by(row, verdict),
@@ -74,7 +74,7 @@ pub fn mark_of(row: &Row<'_>) -> Mark {
     }
 }
 
-// Counts the number of a load, by its page.
+// Counts the number of a load under its page.
 fn add_load(counts: &mut Counts, row: &Row<'_>, number: u64) -> Result<(), AllocError> {
     match &row.recorded.printed.page {
         Some(page) => counts.add("load", page.as_str(), number),
@@ -82,7 +82,7 @@ fn add_load(counts: &mut Counts, row: &Row<'_>, number: u64) -> Result<(), Alloc
     }
 }
 
-// The number of each load, by its page.
+// Returns the number of each load, under its page.
 fn load_numbers(alloc: Global, rows: &[Row<'_>]) -> Result<Counts, AllocError> {
     let mut counts = Counts::new(alloc);
     let mut number = 0u64;
@@ -95,7 +95,7 @@ fn load_numbers(alloc: Global, rows: &[Row<'_>]) -> Result<Counts, AllocError> {
     Ok(counts)
 }
 
-// The number of a request's load; without a page, of the last one that began.
+// Returns the number of a request's load. Without a page it is the last load that began.
 fn number_of(counts: &Counts, row: &Row<'_>, last: u64) -> Result<u64, AllocError> {
     match &row.recorded.printed.page {
         Some(page) => Ok(counts.total_of("load", page.as_str())?.max(1)),
@@ -103,25 +103,20 @@ fn number_of(counts: &Counts, row: &Row<'_>, last: u64) -> Result<u64, AllocErro
     }
 }
 
-/// Returns the requests, load by load, and in the order of the walk in each.
-///
-/// # Errors
-///
-/// Returns an error only if there is no memory.
-pub fn places_of(alloc: Global, rows: &[Row<'_>]) -> Result<Vec<Place>, AllocError> {
+/// Returns the requests load by load, and within a load in the order of the walk.
+pub fn load_rows_of(alloc: Global, rows: &[Row<'_>]) -> Result<Vec<LoadRow>, AllocError> {
     let counts = load_numbers(alloc, rows)?;
-    let mut places = Vec::with_capacity(alloc, rows.len())?;
+    let mut load_rows = Vec::with_capacity(alloc, rows.len())?;
     let mut last = 1u64;
     for index in 0..rows.len() {
         let number = number_of(&counts, &rows[index], last)?;
         last = last.max(number);
-        places.push((number, index))?;
+        load_rows.push((number, index))?;
     }
-    places.sort_unstable();
-    Ok(places)
+    load_rows.sort_unstable();
+    Ok(load_rows)
 }
 
-// How many requests have a mark.
 fn count_of(rows: &[Row<'_>], mark: Mark) -> u64 {
     let mut count = 0u64;
     for row in rows {
@@ -144,7 +139,7 @@ fn put_key_of(page: &mut Page, rows: &[Row<'_>], mark: Mark) -> Result<(), Alloc
     put(page, TimelineText::KeyEnd)
 }
 
-// What each letter means that a request has.
+// Puts the meaning of each letter that a request has.
 fn put_key(page: &mut Page, rows: &[Row<'_>]) -> Result<(), AllocError> {
     for mark in ALL.as_slice() {
         put_key_of(page, rows, *mark)?;
@@ -160,7 +155,7 @@ fn most_sent(rows: &[Row<'_>]) -> u64 {
     most
 }
 
-// The square root of what is sent, where that of the most is 72.
+// Returns the height of a bar, by the square root of what is sent. The greatest is 72.
 fn height(sent: u64, most: u64) -> u64 {
     if most == 0 {
         return 0;
@@ -180,25 +175,25 @@ fn put_item(page: &mut Page, row: &Row<'_>, most: u64) -> Result<(), AllocError>
     put(page, TimelineText::ItemEnd)
 }
 
-// How many requests each load has, and how many bytes were sent for them, by its number.
+// Counts a load's requests and bytes, under its number.
 fn add_sums(counts: &mut Counts, row: &Row<'_>, number: &str) -> Result<(), AllocError> {
     counts.add("requests", number, 1)?;
     counts.add("sent", number, row.recorded.printed.sent)
 }
 
-fn load_sums(alloc: Global, rows: &[Row<'_>], places: &[Place]) -> Result<Counts, AllocError> {
+fn load_sums(alloc: Global, rows: &[Row<'_>], load_rows: &[LoadRow]) -> Result<Counts, AllocError> {
     let mut counts = Counts::new(alloc);
-    for place in places {
-        let number = place.0;
+    for load_row in load_rows {
+        let number = load_row.0;
         let name = format!(in alloc; "{number}")?;
-        if let Some(row) = rows.get(place.1) {
+        if let Some(row) = rows.get(load_row.1) {
             add_sums(&mut counts, row, name.as_str())?;
         }
     }
     Ok(counts)
 }
 
-// The heading of a load, with the url of its first request.
+// Puts the heading of a load, with the url of its first request.
 fn put_load(page: &mut Page, sums: &Counts, number: u64, url: &str) -> Result<(), AllocError> {
     let name = format!(in page.alloc(); "{number}")?;
     page.measured(Measure::Load, number)?;
@@ -227,7 +222,7 @@ fn put_next_load(
     put_load(page, sums, number, url)
 }
 
-/// Returns the url of a row, shortened.
+/// Returns the shortened url of a row.
 pub fn row_url<'a>(style: &UrlStyle<'_>, row: &'a Row<'_>) -> &'a str {
     short(
         style.host,
@@ -235,22 +230,22 @@ pub fn row_url<'a>(style: &UrlStyle<'_>, row: &'a Row<'_>) -> &'a str {
     )
 }
 
-fn put_places(
+fn put_load_rows(
     page: &mut Page,
     style: &UrlStyle<'_>,
     sums: &Counts,
     rows: &[Row<'_>],
-    places: &[Place],
+    load_rows: &[LoadRow],
 ) -> Result<(), AllocError> {
     let most = most_sent(rows);
     let mut before = 0;
-    for place in places {
-        if let Some(row) = rows.get(place.1) {
-            if place.0 != before {
-                put_next_load(page, sums, before, place.0, row_url(style, row))?;
+    for load_row in load_rows {
+        if let Some(row) = rows.get(load_row.1) {
+            if load_row.0 != before {
+                put_next_load(page, sums, before, load_row.0, row_url(style, row))?;
             }
             put_item(page, row, most)?;
-            before = place.0;
+            before = load_row.0;
         }
     }
     if before > 0 {
@@ -260,20 +255,16 @@ fn put_places(
 }
 
 /// Adds the timeline.
-///
-/// # Errors
-///
-/// Returns an error only if there is no memory.
 pub fn put_timeline(
     page: &mut Page,
     style: &UrlStyle<'_>,
     rows: &[Row<'_>],
-    places: &[Place],
+    load_rows: &[LoadRow],
 ) -> Result<(), AllocError> {
-    let sums = load_sums(page.alloc(), rows, places)?;
+    let sums = load_sums(page.alloc(), rows, load_rows)?;
     put(page, TimelineText::Head)?;
     put_key(page, rows)?;
     put(page, TimelineText::Loads)?;
-    put_places(page, style, &sums, rows, places)?;
+    put_load_rows(page, style, &sums, rows, load_rows)?;
     put(page, TimelineText::End)
 }

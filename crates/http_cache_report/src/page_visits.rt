@@ -21,14 +21,14 @@ use http_cache_page::visits::VisitText;
 use http_cache_recording::Recorded;
 use std::alloc::{AllocError, Global};
 
-/// How many urls a section of a page lists at most.
+/// The greatest number of urls in a section of a page.
 pub const MOST_ROWS: usize = 60;
 
 fn put(page: &mut Page, text: VisitText) -> Result<(), AllocError> {
     page.put(Constant::Visit(text))
 }
 
-// Answers of unknown size, if there are any.
+// Puts the responses of unknown size, if there are any.
 fn put_unknown(page: &mut Page, unknown: u64) -> Result<(), AllocError> {
     if unknown == 0 {
         return Ok(());
@@ -38,7 +38,7 @@ fn put_unknown(page: &mut Page, unknown: u64) -> Result<(), AllocError> {
     put(page, VisitText::UnknownEnd)
 }
 
-// What the whole page costs at a visit: kilobytes, and answers 304.
+// Puts the costs of the whole page at a visit: kilobytes and 304s.
 fn put_cost(page: &mut Page, visit: &Counts) -> Result<(), AllocError> {
     put_kilobytes(page, sum_in(visit, "bytes")?)?;
     put(page, VisitText::Kilobytes)?;
@@ -65,7 +65,6 @@ fn put_visit(
     put(page, VisitText::ItemEnd)
 }
 
-// The most that a visit costs.
 fn most_of(visits: &Visits) -> Result<u64, AllocError> {
     let hour = sum_in(&visits.hour, "bytes")?;
     let day = sum_in(&visits.day, "bytes")?;
@@ -74,11 +73,7 @@ fn most_of(visits: &Visits) -> Result<u64, AllocError> {
     Ok(hour.max(day).max(week).max(month))
 }
 
-/// Adds what the whole page costs at each visit, as it is and with what is advised.
-///
-/// # Errors
-///
-/// Returns an error only if there is no memory.
+/// Adds the costs of the whole page at each visit, at present and with what is advised.
 pub fn put_visits(page: &mut Page, now: &Visits, then: &Visits) -> Result<(), AllocError> {
     let most = most_of(now)?.max(most_of(then)?);
     put(page, VisitText::Head)?;
@@ -99,7 +94,7 @@ fn is_shown(
     Ok(guess_of(recorded, url).is_some() || is_listed(recorded, visits, picks, least, url)?)
 }
 
-// For each url whether it has a row: it is listed, or each cache guesses its lifetime.
+// Returns for each url whether it has a row: it is listed, or each cache guesses its lifetime.
 fn shown_of(
     alloc: Global,
     recorded: &[Recorded],
@@ -115,7 +110,7 @@ fn shown_of(
     Ok(all)
 }
 
-// What a visit does with a url.
+// Puts what a visit does with a url.
 fn put_act(page: &mut Page, cell: VisitText, visit: &Counts, url: &str) -> Result<(), AllocError> {
     put(page, cell)?;
     put(
@@ -135,7 +130,7 @@ fn put_acts(page: &mut Page, visits: &Visits, url: &str) -> Result<(), AllocErro
     put_act(page, VisitText::InMonth, &visits.month, url)
 }
 
-// How long a response stays fresh.
+// Puts how long a response stays fresh.
 fn put_life(page: &mut Page, life: Life) -> Result<(), AllocError> {
     let text = life_text(page.alloc(), life)?;
     put(page, VisitText::Life)?;
@@ -146,7 +141,7 @@ fn put_life(page: &mut Page, life: Life) -> Result<(), AllocError> {
     }
 }
 
-// What to send instead.
+// Puts what to send instead.
 fn put_act_on(page: &mut Page, recorded: &[Recorded], url: &Url) -> Result<(), AllocError> {
     if status_at(recorded, url.full) >= 400 {
         return put(page, VisitText::Fix);
@@ -192,10 +187,6 @@ fn put_rows(
 }
 
 /// Adds how many urls aren't listed, if there are any.
-///
-/// # Errors
-///
-/// Returns an error only if there is no memory.
 pub fn put_more(page: &mut Page, count: usize) -> Result<(), AllocError> {
     let more = count.saturating_sub(MOST_ROWS);
     if more == 0 {
@@ -206,7 +197,7 @@ pub fn put_more(page: &mut Page, count: usize) -> Result<(), AllocError> {
     page.put(Constant::Frame(FrameText::More))
 }
 
-// The urls that say no lifetime, in words.
+// Puts the words for the urls that state no lifetime.
 fn put_guesses(
     page: &mut Page,
     recorded: &[Recorded],
@@ -225,7 +216,7 @@ fn put_guesses(
     put(page, VisitText::Guesses)
 }
 
-// A line of what is in order.
+// Puts a line about what is in order.
 fn put_order_line(page: &mut Page, line: &str) -> Result<(), AllocError> {
     if line.is_empty() || line == "IN ORDER" {
         return Ok(());
@@ -235,7 +226,7 @@ fn put_order_line(page: &mut Page, line: &str) -> Result<(), AllocError> {
     page.put(Constant::Frame(FrameText::ParagraphEnd))
 }
 
-// What is in order, as the report says it.
+// Puts what is in order, in the report's words.
 fn put_in_order(
     page: &mut Page,
     short: &UrlStyle<'_>,
@@ -252,11 +243,7 @@ fn put_in_order(
     Ok(())
 }
 
-/// Returns the table of what later visits ask for, which ends the section.
-///
-/// # Errors
-///
-/// Returns an error only if there is no memory.
+/// Returns the table of what later visits request, which ends the section.
 pub fn visit_table(
     alloc: Global,
     short: &UrlStyle<'_>,

@@ -24,7 +24,7 @@ fn put(page: &mut Page, text: WrongText) -> Result<(), AllocError> {
     page.put(Constant::Wrong(text))
 }
 
-// Whether the words for what looks wrong say what was sent.
+// Returns whether the words for a fault say what was sent.
 fn say_what_was_sent(words: &str) -> bool {
     words.starts_with("Vary: ")
         || matches!(
@@ -36,7 +36,7 @@ fn say_what_was_sent(words: &str) -> bool {
         )
 }
 
-// What was sent, and what it should be.
+// Puts what was sent, and what it should be.
 fn put_sent(page: &mut Page, url: &str, sent: &str, words: &str) -> Result<(), AllocError> {
     put(page, WrongText::Url)?;
     page.text(url)?;
@@ -46,7 +46,7 @@ fn put_sent(page: &mut Page, url: &str, sent: &str, words: &str) -> Result<(), A
     page.text(send_for(words))
 }
 
-// A fault: what was sent, what it should be, and what looks wrong.
+// Puts a fault: what was sent, what it should be, and what looks wrong.
 fn put_fault(page: &mut Page, url: &str, sent: &str, words: &str) -> Result<(), AllocError> {
     if say_what_was_sent(words) {
         put_sent(page, url, words, words)?;
@@ -98,15 +98,11 @@ fn put_all_faults(
 pub struct Wrong {
     /// The items of the list.
     pub items: Page,
-    /// How many urls they would be of if a section listed all.
+    /// The number of urls with faults, whether listed or not.
     pub count: usize,
 }
 
 /// Returns what looks wrong in headers.
-///
-/// # Errors
-///
-/// Returns an error only if there is no memory.
 pub fn wrong_in(
     alloc: Global,
     short: &UrlStyle<'_>,
@@ -123,7 +119,7 @@ pub fn wrong_in(
     })
 }
 
-// What the later loads save without a query, if they do.
+// Puts what the later loads save without a query, if they save anything.
 fn put_saves(page: &mut Page, bytes: u64) -> Result<(), AllocError> {
     if bytes == 0 {
         return put(page, WrongText::PlainEnd);
@@ -133,7 +129,7 @@ fn put_saves(page: &mut Page, bytes: u64) -> Result<(), AllocError> {
     put(page, WrongText::WhyEnd)
 }
 
-// Urls that differ in their query, and have one response.
+// Puts urls that differ only in their query, and have one response.
 fn put_query(page: &mut Page, host: &str, after: &After, one: &Changing) -> Result<(), AllocError> {
     let base = one.base.as_str();
     let bytes = less(&after.costs, &after.plain, "later_base", base)?;
@@ -152,11 +148,7 @@ fn put_queries(page: &mut Page, facts: &Facts, after: &After) -> Result<(), Allo
     Ok(())
 }
 
-/// Adds the section of what looks wrong.
-///
-/// # Errors
-///
-/// Returns an error only if there is no memory.
+/// Adds the section about what looks wrong.
 pub fn put_wrong(
     page: &mut Page,
     facts: &Facts,
@@ -188,7 +180,7 @@ fn put_row(page: &mut Page, url: &str, browser: &str, cdn: &str) -> Result<(), A
     put_of_both(page, BothText::RowEnd)
 }
 
-// What each kind of cache does with a url.
+// Puts what each kind of cache does with a url.
 fn put_url(
     page: &mut Page,
     short: &UrlStyle<'_>,
@@ -221,7 +213,7 @@ fn put_urls(
     Ok(())
 }
 
-// The section of the rows of both kinds of cache.
+// Puts the section of the rows of both kinds of cache.
 fn put_rows(
     page: &mut Page,
     short: &UrlStyle<'_>,
@@ -260,11 +252,7 @@ fn put_both(
     }
 }
 
-/// Returns the section of where a browser's cache and a CDN's differ.
-///
-/// # Errors
-///
-/// Returns an error only if there is no memory.
+/// Returns the section about the differences between a browser's cache and a CDN's.
 pub fn both_page(
     alloc: Global,
     short: &UrlStyle<'_>,

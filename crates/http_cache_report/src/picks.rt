@@ -1,5 +1,5 @@
-//! What to change first: the urls of which most is sent when a page is loaded again, and what their requests
-//! cost.
+//! Decides what to change first: the urls with most bytes when a page is loaded again, and the
+//! costs of their requests.
 ghost use Rattle.std.specs.Prelude.{◌≡◌, ◌++◌, [], ◌∷◌, map, IfOk, OnOk, option_map};
 ghost use Rattle.std.specs.List.{flat_map};
 ghost use Rattle.std.specs.Option.{option_map_or, option_to_list};
@@ -25,15 +25,15 @@ use http_cache_audit::row::Row;
 use http_cache_recording::Recorded;
 use std::alloc::{AllocError, Global};
 
-/// How many urls are listed at most.
+/// The greatest number of listed urls.
 const MOST: usize = 5;
 
-/// By which sums urls are ordered.
+/// The sums by which urls are ordered.
 #[derive(Clone, Copy)]
 pub enum Base {
-    /// By those of the later loads.
+    /// The sums of the later loads.
     Later,
-    /// By those of a later visit.
+    /// The sums of a later visit.
     Visit,
 }
 
@@ -46,13 +46,13 @@ pub struct Pick {
     pub full: usize,
     /// What to send.
     pub advice: Advice,
-    /// How many bytes are sent of it when the page is loaded again.
+    /// The bytes that are sent for it when the page is loaded again.
     pub bytes: u64,
-    /// For how many of its requests.
+    /// The number of its requests for which they are sent.
     pub requests: u64,
 }
 
-// The advice for a full response, if that is a 200.
+// Returns the advice for a full response, if that is a 200.
 fn advice_by(response: &response::Parts, url: &str, in_full: bool) -> Option<Advice>
     ensures { result ≡ advice_by url.now in_full (response_seen response.now) }
 {
@@ -82,7 +82,6 @@ pub fn advice_for(recorded: &[Recorded], url: &Url) -> Option<Advice>
 }
 
 impl Base {
-    // The bytes of a url.
     fn bytes_in(self, sums: &Counts, url: &str) -> Result<u64, AllocError>
         ensures { IfOk result (λ n. n ≡ bytes_in self (total_in sums.now) url.now) }
     {
@@ -92,7 +91,7 @@ impl Base {
         }
     }
 
-    // Its requests for which bytes are sent.
+    // Returns the number of a url's requests for which bytes are sent.
     fn requests_in(self, sums: &Counts, url: &str) -> Result<u64, AllocError>
         ensures { IfOk result (λ n. n ≡ requests_in self (total_in sums.now) url.now) }
     {
@@ -107,7 +106,7 @@ impl Base {
     }
 }
 
-// Whether bytes are sent, and at least one in a hundred of all.
+// Returns whether bytes are sent, and at least one percent of all.
 fn is_much(bytes: u64, all: u64) -> bool
     ensures { result ≡ is_much bytes all }
 {
@@ -145,7 +144,7 @@ fn push_key_of(
     push_key(keys, index, all, bytes, advice_for(recorded, url))
 }
 
-// Where the urls are in the order that are much and have an advice.
+// Returns the keys of the urls that have many bytes and an advice.
 fn keys_of(
     alloc: Global,
     recorded: &[Recorded],
@@ -199,7 +198,6 @@ fn pick_of(
     }
 }
 
-// What is changed of the url of a key.
 fn pick_at(
     recorded: &[Recorded],
     urls: &[Url],
@@ -240,7 +238,6 @@ fn push_pick(
     push_some(picks, pick)
 }
 
-// The first of them.
 fn first_picks(
     alloc: Global,
     recorded: &[Recorded],
@@ -259,12 +256,9 @@ fn first_picks(
     Ok(picks)
 }
 
-/// Returns the urls to change first: five at most, most bytes first, and of as many in the order of their
-/// first requests. A url of which fewer than one in a hundred of `all` bytes are sent is none of them.
-///
-/// # Errors
-///
-/// Returns an error only if there is no memory.
+/// Returns the urls to change first: at most five, most bytes first, and in the order of their
+/// first requests if the bytes are equal. Urls with less than one percent of `all` bytes are left
+/// out.
 pub fn picks_of(
     alloc: Global,
     recorded: &[Recorded],
@@ -293,10 +287,6 @@ fn remedy_by(alloc: Global, recorded: &[Recorded], pick: &Pick) -> Result<Remedy
 }
 
 /// Returns what the urls are advised to send.
-///
-/// # Errors
-///
-/// Returns an error only if there is no memory.
 pub fn remedies_of(
     alloc: Global,
     recorded: &[Recorded],
@@ -334,11 +324,7 @@ fn push_known(
     }
 }
 
-/// Returns what is known of each row, if urls do as they are advised.
-///
-/// # Errors
-///
-/// Returns an error only if there is no memory.
+/// Returns the facts about each row if urls follow their advice.
 pub fn known_after(
     alloc: Global,
     rows: &[Row<'_>],
@@ -374,7 +360,7 @@ fn add_base(counts: &mut Counts, is_first: bool, url: &str, bytes: u64) -> Resul
     counts.add(base_name(is_first), base_of(url), bytes)
 }
 
-// Adds what a request costs for its url, and for all urls with its base.
+// Adds the cost of a request for its url, and for all urls with its base.
 fn add_bytes(counts: &mut Counts, is_first: bool, url: &str, bytes: u64) -> Result<(), AllocError>
     ensures { OnOk result (CountsAlso (byte_additions is_first url.now bytes)
         counts.old counts.new) }
@@ -417,12 +403,8 @@ fn add_cost_at(
     }
 }
 
-/// Returns what the requests of each url, and of all with its base, cost in the first load and in later ones,
-/// by what is known of each row.
-///
-/// # Errors
-///
-/// Returns an error only if there is no memory.
+/// Returns the costs of each url's requests, and of all with its base, in the first load and in
+/// later ones. They depend on the facts about each row.
 pub fn url_costs(
     alloc: Global,
     recorded: &[Recorded],

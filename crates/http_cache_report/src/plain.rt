@@ -1,5 +1,5 @@
-//! Queries that change while the response doesn't: which there are, a recording without them, and what that
-//! saves.
+//! Queries that change while the response doesn't: finds them, removes them from a recording, and
+//! reports the saving.
 ghost use Rattle.std.specs.Prelude.{◌≡◌, ◌++◌, map, IfOk, OnOk, option_map, string_bytes};
 ghost use Rattle.http_cache_recording.specs.Entry.{recorded_seen, text_seen};
 ghost use Rattle.http_cache_audit.specs.Counts.{total_in};
@@ -15,16 +15,16 @@ use http_cache_audit::counts::Counts;
 use http_cache_recording::{Printed, Recorded};
 use std::alloc::{AllocError, Global};
 
-/// Urls that differ in their query alone, and have one response.
+/// Urls that differ only in their query, and have one response.
 #[derive(Drop)]
 pub struct Changing {
-    /// Each of them up to its query.
+    /// The part before the query, which they share.
     pub base: String,
-    /// How many they are.
+    /// The number of these urls.
     pub urls: u64,
 }
 
-// The base in front of a mark.
+// Returns the base before a mark.
 fn front_of(marked: &str) -> &str
     ensures { result.now ≡ front_of marked.now }
 {
@@ -34,7 +34,7 @@ fn front_of(marked: &str) -> &str
     }
 }
 
-// Adds a base if so many urls have it with a mark, and none has it with another one.
+// Adds a base if several urls have it with one mark, and none with another one.
 fn push_marked(
     alloc: Global,
     all: &mut Vec<Changing>,
@@ -72,10 +72,6 @@ fn push_changing(
 }
 
 /// Returns the urls whose query changes while their response doesn't, by their bases.
-///
-/// # Errors
-///
-/// Returns an error only if there is no memory.
 pub fn changing_in(alloc: Global, bases: &Counts) -> Result<Vec<Changing>, AllocError>
     ensures { IfOk result (λ all. map changing_seen all.items ≡ changing_in bases.now) }
 {
@@ -92,7 +88,7 @@ fn is_base(changing: &[Changing], base: &str) -> bool
     changing.iter().any(|one| one.base.as_str() == base)
 }
 
-// A url without its query, if that changes.
+// Returns a url without its query, if that changes.
 fn plain(alloc: Global, changing: &[Changing], url: String) -> Result<String, AllocError>
     ensures { IfOk result (λ u. string_bytes u
         ≡ plain (map changing_seen changing.now) (string_bytes url)) }
@@ -136,10 +132,6 @@ fn plain_recorded(
 }
 
 /// Returns a recording without the queries that change.
-///
-/// # Errors
-///
-/// Returns an error only if there is no memory.
 pub fn plain_all(
     alloc: Global,
     recorded: Vec<Recorded>,
@@ -164,7 +156,7 @@ fn saved_words(alloc: Global, amount: &str, bytes: u64) -> Result<String, AllocE
     format!(in alloc; " (saves {amount})")
 }
 
-// What the later loads save without the queries of some urls.
+// Returns what the later loads save without the queries of some urls.
 fn saved_by(
     alloc: Global,
     costs: &Counts,
@@ -221,12 +213,8 @@ fn push_lines(
     Ok(())
 }
 
-/// Adds a line for the urls of each changing query, at most twelve: what the later loads save without it, by
-/// what requests cost with these queries and without.
-///
-/// # Errors
-///
-/// Returns an error only if there is no memory.
+/// Adds a line for the urls of each changing query, at most twelve, with what the later loads save
+/// without the query.
 pub fn push_query_lines(
     alloc: Global,
     out: &mut String,

@@ -1,4 +1,4 @@
-//! Queries that change while what is answered doesn't.
+//! Finds queries that change while the response doesn't.
 ghost use Rattle.std.specs.Prelude.{◌≡◌, map, IfOk, OnOk, option_map, string_bytes};
 ghost use Rattle.http_cache_semantics.specs.Messages.{response_seen};
 ghost use Rattle.http_cache_recording.specs.Entry.{recorded_seen, reading_seen, body_seen};
@@ -22,7 +22,7 @@ use http_cache_fields::headers::first_text;
 use http_cache_recording::{Body, Reading, Recorded};
 use std::alloc::{AllocError, Global};
 
-/// Returns the url of an entry, or nothing if there is no such entry.
+/// Returns the url of an entry, or an empty text if there is no such entry.
 pub fn text_at(recorded: &[Recorded], index: usize) -> &str
     ensures { result.now ≡ text_at (map recorded_seen recorded.now) index }
 {
@@ -72,7 +72,7 @@ fn tag_in(recorded: &Recorded) -> Option<&str>
     }
 }
 
-// What distinguishes a response: its recorded body, else its ETag or Last-Modified.
+// Returns what distinguishes a response: its recorded body, else its ETag or Last-Modified.
 fn mark_of(recorded: &Recorded) -> Option<&str>
     ensures { option_map (λ t. t.now) result ≡ mark_of (recorded_seen recorded.now) }
 {
@@ -91,7 +91,7 @@ fn mark_at(recorded: &[Recorded], index: usize) -> Option<&str>
     }
 }
 
-// A base and a mark, as one text.
+// Joins a base and a mark in one text.
 fn marked(alloc: Global, base: &str, mark: &str) -> Result<String, AllocError>
     ensures { IfOk result (λ text. string_bytes text ≡ marked base.now mark.now) }
 {
@@ -131,7 +131,7 @@ fn add_base(
     Ok(())
 }
 
-// Counts a url for its base, and for that with its mark, if it has a query.
+// Counts a url with a query under its base, and under that with its mark.
 #[tactic(auto, using(http_cache_audit::proofs::CountsLemmas::also_none))]
 fn add_query(
     alloc: Global,
@@ -162,11 +162,7 @@ fn add_url(
     add_query(alloc, counts, text_at(recorded, url.entry), mark)
 }
 
-/// Returns how many urls there are with each base, and how many of these have the same response.
-///
-/// # Errors
-///
-/// Returns an error only if there is no memory.
+/// Returns the number of urls with each base, and the number of these with one response.
 pub fn bases_of(alloc: Global, recorded: &[Recorded], urls: &[Url]) -> Result<Counts, AllocError>
     ensures { IfOk result (HoldsCounts (bases_of (map recorded_seen recorded.now) urls.now)) }
 {
@@ -186,7 +182,7 @@ fn is_one_body(alloc: Global, bases: &Counts, base: &str, mark: &str) -> Result<
     Ok(urls > 1 && same == urls)
 }
 
-/// Returns whether a url is one of several that differ in their query alone, and have one response.
+/// Returns whether a url is one of several that differ only in their query, and have one response.
 pub fn is_changing(
     alloc: Global,
     bases: &Counts,
@@ -215,11 +211,7 @@ fn changing_by(
     is_changing(alloc, bases, target_of(row.recorded), mark)
 }
 
-/// Returns for each row whether its query changes while what is answered doesn't.
-///
-/// # Errors
-///
-/// Returns an error only if there is no memory.
+/// Returns for each row whether its query changes while the response doesn't.
 pub fn changing_of(
     alloc: Global,
     bases: &Counts,

@@ -1,4 +1,4 @@
-//! A recording in which some urls send what is advised.
+//! A recording in which some urls follow their advice.
 ghost use Rattle.std.specs.Prelude.{◌≡◌, map, option_map, IfOk, OnOk};
 ghost use Rattle.std.specs.List.{find};
 ghost use Rattle.http_cache_fields.specs.Headers.{headers_of};
@@ -27,7 +27,7 @@ pub struct Remedy {
     pub advice: Advice,
 }
 
-// Puts a text under a name, in place of what is there, if it is a value and there is room for it.
+// Replaces the value of a name by a text, if that is a valid value and there is room for it.
 fn put_text(
     alloc: Global,
     headers: &mut HeaderMap,
@@ -103,7 +103,6 @@ fn find_for<'a>(remedies: &'a [Remedy], url: &str) -> Option<&'a Remedy>
     remedies.iter().find(|one| one.url.as_str() == url)
 }
 
-// What a url is advised to send.
 fn advice_in(remedies: &[Remedy], url: &str) -> Option<Advice>
     ensures { result ≡ advice_in (map remedy_seen remedies.now) url.now }
 {
@@ -127,11 +126,7 @@ fn remedied(alloc: Global, recorded: Recorded, remedies: &[Remedy]) -> Result<Re
     })
 }
 
-/// Returns a recording in which the responses of some urls have the headers that are advised.
-///
-/// # Errors
-///
-/// Returns an error only if there is no memory.
+/// Returns a recording in which the responses of some urls have the advised headers.
 pub fn remedied_all(
     alloc: Global,
     recorded: Vec<Recorded>,
@@ -147,7 +142,8 @@ pub fn remedied_all(
     Ok(all)
 }
 
-/// Returns whether a server answers a url's own validator in full, as it did if no advice says otherwise.
+/// Returns whether a server still answers a url's own validator in full: it did, and no advice
+/// changes that.
 pub fn is_still_in_full(remedies: &[Remedy], url: &str, in_full: bool) -> bool
     ensures { result ≡ is_still_in_full (map remedy_seen remedies.now) url.now in_full }
 {

@@ -1,5 +1,5 @@
-//! What caches do with each response of which only the head was read, what later visits ask for, and what to
-//! send instead.
+//! Reports what caches do with each response of which only the head was read, what later visits
+//! request, and what to send instead.
 //!
 //! Each response is a recording of its own, so that its visits count from its own time.
 ghost use Rattle.std.specs.Prelude.{◌≡◌, ◌++◌, [], ◌∷◌, length, map, slice_get, IfOk, OnOk, string_bytes};
@@ -42,7 +42,7 @@ use http_cache_rules::lifetime::received_age;
 use http_cache_semantics::CacheOptions;
 use std::alloc::{AllocError, Global};
 
-// Adds a line: its name, and a text, with `?` for each control character.
+// Adds a line of a name and a text, with `?` for each control character.
 fn push_line(alloc: Global, out: &mut String, name: &str, text: &str) -> Result<(), AllocError>
     ensures { OnOk result (string_bytes out.new ≡ string_bytes out.old
         ++ line_text name.now text.now) }
@@ -51,7 +51,7 @@ fn push_line(alloc: Global, out: &mut String, name: &str, text: &str) -> Result<
     push_printed(out, line.as_str())
 }
 
-// The same cache, for one user or for many.
+// Returns the options of a private or a shared cache.
 fn cache_of(options: &CacheOptions, is_shared: bool) -> CacheOptions
     ensures { options_of result ≡ cache_of (options_of options.now) is_shared }
 {
@@ -60,14 +60,14 @@ fn cache_of(options: &CacheOptions, is_shared: bool) -> CacheOptions
     cache
 }
 
-// Whether a lifetime is set by a directive that can be read.
+// Returns whether a lifetime is set by a readable directive.
 fn is_directive(by: &str) -> bool
     ensures { result ≡ is_directive by.now }
 {
     by == "max-age" || by == "s-maxage"
 }
 
-// What sets a lifetime: a directive as it was written, or words for it, with the text if there is one.
+// Returns what sets a lifetime: the directive as written, or words, with the text if there is one.
 fn source_text(alloc: Global, lifetime: &Lifetime) -> Result<String, AllocError>
     ensures { IfOk result (λ text. string_bytes text ≡ source_text (lifetime_seen lifetime.now)) }
 {
@@ -82,7 +82,7 @@ fn source_text(alloc: Global, lifetime: &Lifetime) -> Result<String, AllocError>
     }
 }
 
-// The age at the receipt, and what is left of the lifetime then, if there is an age.
+// Returns the age at the receipt and the lifetime left then, if there is an age.
 fn age_text(alloc: Global, age: u64, left: u64) -> Result<String, AllocError>
     ensures { IfOk result (λ text. string_bytes text ≡ age_text age left) }
 {
@@ -93,7 +93,6 @@ fn age_text(alloc: Global, age: u64, left: u64) -> Result<String, AllocError>
     format!(in alloc; ", age {age}, {left} left")
 }
 
-// How long a response that is stored stays fresh.
 fn kept_text(alloc: Global, age: u64, kept: &Kept) -> Result<String, AllocError>
     ensures { IfOk result (λ text. string_bytes text ≡ kept_text age (kept_seen kept.now)) }
 {
@@ -103,7 +102,7 @@ fn kept_text(alloc: Global, age: u64, kept: &Kept) -> Result<String, AllocError>
     format!(in alloc; "{life} by {source}{age}")
 }
 
-// The age that a response was received with.
+// Returns the age with which a response was received.
 fn age_of(recorded: &Recorded) -> u64
     ensures { result ≡ age_of (recorded_seen recorded.now) }
 {
@@ -113,7 +112,7 @@ fn age_of(recorded: &Recorded) -> u64
     }
 }
 
-// What a cache does with a response. Neither a 304 nor what isn't received is stored.
+// Returns what a cache does with a response. Neither a 304 nor a missing response is stored.
 fn received_text(
     alloc: Global,
     recorded: &Recorded,
@@ -152,7 +151,7 @@ fn first_text(alloc: Global, rows: &[Row<'_>]) -> Result<String, AllocError>
     }
 }
 
-// What a cache does with the only response of a recording.
+// Returns what a cache does with the only response of a recording.
 fn cache_text(
     alloc: Global,
     recorded: &[Recorded],
@@ -166,7 +165,6 @@ fn cache_text(
     first_text(alloc, rows.as_slice())
 }
 
-// What a visit does with a url, in a word.
 fn act_text(visit: &Counts, url: &str) -> Result<&'static str, AllocError>
     ensures { IfOk result (λ word. word.now ≡ act_text visit.now url.now) }
 {
@@ -207,7 +205,7 @@ fn push_faults(alloc: Global, out: &mut String, faults: &[String]) -> Result<(),
     Ok(())
 }
 
-// What visits do with a response, and what looks wrong in it.
+// Returns what visits do with a response, and what looks wrong in it.
 fn seen_text(
     alloc: Global,
     recorded: &[Recorded],
@@ -233,7 +231,7 @@ fn send_text(alloc: Global, advice: Advice) -> Result<String, AllocError>
     format!(in alloc; "Cache-Control: {control}{tag}{answer}")
 }
 
-// What a visit asks for: a full response weighs more than a 304 at each of three visits.
+// Returns the weight of a visit's requests. A full response weighs more than three 304s.
 fn weight(visit: &Counts, url: &str) -> Result<u64, AllocError>
     ensures { IfOk result (λ n. n ≡ weight visit.now url.now) }
 {
@@ -247,7 +245,7 @@ fn weight(visit: &Counts, url: &str) -> Result<u64, AllocError>
     })
 }
 
-// What the three visits ask for.
+// Returns the weight of three visits.
 fn weights(visits: &Visits, url: &str) -> Result<u64, AllocError>
     ensures { IfOk result (λ n. n ≡ weights visits.now url.now) }
 {
@@ -268,7 +266,7 @@ fn remedies_for(alloc: Global, url: &str, advice: Advice) -> Result<Vec<Remedy>,
     Ok(all)
 }
 
-// What visits cost if a url does as it is advised.
+// Returns the costs of visits if a url follows its advice.
 fn visits_with(
     alloc: Global,
     recorded: Vec<Recorded>,
@@ -295,7 +293,6 @@ fn visits_with(
     Ok(after.visits)
 }
 
-// Whether visits ask for less than others.
 fn asks_less(after: &Visits, visits: &Visits, url: &str) -> Result<bool, AllocError>
     ensures { IfOk result (λ holds. holds ≡ asks_less after.now visits.now url.now) }
 {
@@ -312,7 +309,7 @@ fn send_line(alloc: Global, advice: Advice) -> Result<String, AllocError>
     Ok(out)
 }
 
-// The line of what to send, if visits ask for less then.
+// Returns the line of what to send, if the visits then request less.
 fn sent_line(
     alloc: Global,
     advice: Advice,
@@ -349,7 +346,7 @@ fn advised_text(
     sent_line(alloc, advice, url, visits, &after)
 }
 
-// The same, if there is an advice.
+// Returns the line of what to send, if there is an advice.
 fn sent_by(
     alloc: Global,
     recorded: Vec<Recorded>,
@@ -375,7 +372,7 @@ fn sent_by(
     }
 }
 
-// What to send instead, if a url has an advice by which visits ask for less.
+// Returns what to send instead, if a url has an advice by which visits request less.
 fn sent_text(
     alloc: Global,
     recorded: Vec<Recorded>,
@@ -397,7 +394,7 @@ fn sent_text(
     )
 }
 
-// What later visits do with a response, what looks wrong in it, and what to send instead.
+// Returns what later visits do with a response, what looks wrong in it, and what to send instead.
 fn later_text(
     alloc: Global,
     recorded: Vec<Recorded>,
@@ -420,7 +417,7 @@ fn later_text(
     Ok(out)
 }
 
-// The same, if a store could answer for the response.
+// Returns the text about later visits, if a store could answer for the response.
 fn later_by(
     alloc: Global,
     recorded: Vec<Recorded>,
@@ -439,7 +436,7 @@ fn later_by(
     }
 }
 
-// The name, the status and the bytes of a response.
+// Returns the name, the status and the bytes of a response.
 fn head_line(alloc: Global, recorded: &Recorded) -> Result<String, AllocError>
     ensures { IfOk result (λ text. string_bytes text ≡ head_line (recorded_seen recorded.now)) }
 {
@@ -448,7 +445,7 @@ fn head_line(alloc: Global, recorded: &Recorded) -> Result<String, AllocError>
     format!(in alloc; "\n{url}, status {status}, {size}\n")
 }
 
-// The lines of a response: what each kind of cache does with it, and then those of later visits.
+// Returns the lines of a response: what each kind of cache does with it, and then later visits.
 fn lines_text(
     alloc: Global,
     head: &str,
@@ -483,7 +480,6 @@ fn first_url(facts: &Facts) -> Option<Url>
     }
 }
 
-// What is written of a response.
 fn response_text(
     alloc: Global,
     recorded: Recorded,
@@ -509,7 +505,6 @@ fn response_text(
     )
 }
 
-// What is written of each response.
 fn texts_of(
     alloc: Global,
     recorded: Vec<Recorded>,
@@ -532,7 +527,7 @@ fn heads_word(count: usize) -> &'static str
     if count == 1 { " head" } else { " heads" }
 }
 
-// How many heads there are, and which cache is asked.
+// Returns the number of heads, and the kind of cache.
 fn first_line(alloc: Global, recorded: &[Recorded], is_shared: bool) -> Result<String, AllocError>
     ensures { IfOk result (λ text. string_bytes text
         ≡ first_line (length (map recorded_seen recorded.now)) is_shared) }
@@ -552,12 +547,9 @@ fn push_texts(out: &mut String, texts: &[String]) -> Result<(), AllocError>
     Ok(())
 }
 
-/// Returns the text of responses: what a browser's cache and a CDN's do with each, what visits an hour, a day
-/// and a week later ask the server for, what looks wrong, and what to send if visits ask for less then.
-///
-/// # Errors
-///
-/// Returns an error only if there is no memory.
+/// Returns the text about responses: what a browser's cache and a CDN's do with each, and what
+/// visits an hour, a day and a week later request. Then it has what looks wrong, and what to send
+/// if the visits then request less.
 pub fn responses_text(
     alloc: Global,
     recorded: Vec<Recorded>,

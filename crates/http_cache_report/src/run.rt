@@ -1,4 +1,4 @@
-//! From the bytes of a recording, or of heads of responses, to the text of its audit.
+//! Reads the bytes of a recording or of heads of responses, and writes the text of the audit.
 ghost use Rattle.std.specs.Prelude.{◌≡◌, ◌≢◌, List, ℕ, Some, Err, map, IfOk, IfErr, OnOk, OnErr, IfSome, string_bytes};
 ghost use Rattle.std.specs.Io.KnownBytes.{Appends};
 ghost use Rattle.http_cache_recording.specs.Entry.{recorded_seen};
@@ -23,7 +23,7 @@ use std::alloc::{AllocError, Global};
 use std::hash::RandomState;
 use std::io::{ErrorKind, Read, Write};
 
-// What a reader has left, as far as one byte past the longest recording.
+// Returns what a reader has left, up to one byte more than the longest recording.
 fn front_of<R: Read>(alloc: Global, reader: &mut R) -> Result<Vec<u8>, AuditError>
     ensures front { IfOk result (λ all.
         IfSome (front_of (R.remaining reader.old)) (λ bytes. all.items ≡ bytes)) }
@@ -42,7 +42,7 @@ fn front_of<R: Read>(alloc: Global, reader: &mut R) -> Result<Vec<u8>, AuditErro
     }
 }
 
-// All that a reader has left, if that isn't more than a recording may have.
+// Returns all that a reader has left, if a recording may have as much.
 fn bytes_of<R: Read>(alloc: Global, reader: &mut R) -> Result<Vec<u8>, AuditError>
     ensures all { IfOk result (λ all.
         IfSome (R.remaining reader.old) (λ bytes. all.items ≡ bytes)) }
@@ -56,7 +56,7 @@ fn bytes_of<R: Read>(alloc: Global, reader: &mut R) -> Result<Vec<u8>, AuditErro
     Ok(all)
 }
 
-// What is recorded of bytes, and whether they are heads of responses.
+// Returns what bytes record, and whether they are heads of responses.
 fn recorded_of(
     alloc: Global,
     keys: RandomState,
@@ -81,7 +81,7 @@ fn recorded_of(
     }
 }
 
-// What is recorded of the bytes that a reader has left, and whether they are heads of responses.
+// Returns what the bytes left in a reader record, and whether they are heads of responses.
 fn recording_of<R: Read>(
     alloc: Global,
     keys: RandomState,
@@ -107,16 +107,16 @@ fn any_audited(recorded: &[Recorded]) -> bool
         .any(|one| matches!(&one.reading, Reading::Entry(_)))
 }
 
-/// How an audit ended whose text was written.
+/// The result of an audit whose text was written.
 #[derive(Clone, Copy, Debug, PartialEq, Eq)]
 pub struct Ended {
-    /// An entry was audited.
+    /// Whether an entry was audited.
     pub audited: bool,
-    /// How many repeated requests a stored response answers; none if headers were changed, or by url.
+    /// How many repeated requests a stored response answers. There are none if headers were
+    /// changed, or for a report by url.
     pub hits: Hits,
 }
 
-// No hits are reported.
 fn no_hits() -> Hits
     ensures { result ≡ no_hits }
 {
@@ -133,11 +133,11 @@ pub enum Form {
     Report,
     /// The report as a page of HTML.
     Html,
-    /// All of it: a line or an object for each request, or an object for each url.
+    /// The whole recording: a line or an object for each request, or an object for each url.
     All,
 }
 
-// The text of the urls of a recording, or of its audit.
+// Returns the text of the urls of a recording, or of its audit.
 fn of_all(
     alloc: Global,
     recorded: &[Recorded],
@@ -154,7 +154,7 @@ fn of_all(
     }
 }
 
-// The report of a recording, or the text of responses of which only the heads were read.
+// Returns the report of a recording, or the text about responses of which only the heads were read.
 fn report_of(
     alloc: Global,
     recorded: Vec<Recorded>,
@@ -172,7 +172,6 @@ fn report_of(
     }
 }
 
-// The report of a recording, or all of it.
 fn of_form(
     alloc: Global,
     recorded: Vec<Recorded>,
@@ -190,7 +189,7 @@ fn of_form(
     }
 }
 
-// The text of a recording, or of what changes spare.
+// Returns the text of a recording, or of what changes save.
 fn printed(
     alloc: Global,
     recorded: Vec<Recorded>,
@@ -210,7 +209,7 @@ fn printed(
     Ok((text, no_hits()))
 }
 
-// The text for what a reader has left, and how the audit ended.
+// Returns the text for what a reader has left, and the result of the audit.
 fn text_of<R: Read>(
     alloc: Global,
     keys: RandomState,
@@ -236,16 +235,18 @@ fn text_of<R: Read>(
     }
 }
 
-/// Reads a recording to its end, writes the text of its audit and nothing else, and returns how it ended.
-/// With changes of headers the text is of what these spare. Bytes that begin with `HTTP/` are heads of
-/// responses instead, each received at its Date, else `now`. Their names of fields are another's choice, so
-/// `keys` are secret.
+/// Reads a recording to its end, writes the text of its audit, and returns the result. With changes
+/// of headers, the text is about their savings.
+///
+/// Bytes that begin with `HTTP/` are heads of responses instead. Each is received at its Date, else
+/// at `now`. `keys` are secret, since someone else chose the field names.
 ///
 /// # Errors
 ///
-/// Returns `NotReadable` or `TooLong` if the bytes can't be read, `Recording` or `Heads` if they are neither,
-/// and `Memory` if there is none: then nothing was written. Returns `NotWritten` if the writer fails: then a
-/// beginning of the text may have been written.
+/// - `NotReadable` or `TooLong` if the bytes can't be read, and `Recording` or `Heads` if they are
+///   neither. Nothing was written then.
+/// - `Memory` if there is not enough memory. Nothing was written then.
+/// - `NotWritten` if the writer fails. A beginning of the text may have been written.
 pub fn run<R: Read, W: Write>(
     alloc: Global,
     keys: RandomState,

@@ -1,5 +1,5 @@
-//! The report of one screen: what to change first, what later visits cost, what looks wrong, and what isn't
-//! judged.
+//! The report of one screen: what to change first, what later visits cost, what looks wrong, and
+//! what isn't judged.
 ghost use Rattle.std.specs.Prelude.{◌≡◌, ◌++◌, map, IfOk, OnOk, string_bytes};
 ghost use Rattle.std.specs.List.{flat_map};
 ghost use Rattle.http_cache_recording.specs.Entry.{recorded_seen};
@@ -34,7 +34,7 @@ use http_cache_recording::Recorded;
 use std::alloc::{AllocError, Global};
 use std::fmt::Write;
 
-/// Returns an amount in words, or nothing for no bytes.
+/// Returns an amount in words, or an empty text for 0 bytes.
 pub fn bytes_words(alloc: Global, amount: &str, bytes: u64) -> Result<String, AllocError>
     ensures { IfOk result (λ text. string_bytes text ≡ bytes_words amount.now bytes) }
 {
@@ -44,7 +44,7 @@ pub fn bytes_words(alloc: Global, amount: &str, bytes: u64) -> Result<String, Al
     format!(in alloc; " ({amount})")
 }
 
-// How many entries of a kind there are, and what was sent for them.
+// Adds the number of entries of a kind, and the bytes that were sent for them.
 fn push_kind(
     alloc: Global,
     out: &mut String,
@@ -87,7 +87,7 @@ fn apart_lines(alloc: Global, sums: &Counts) -> Result<String, AllocError>
     Ok(out)
 }
 
-// What isn't judged, if there is any.
+// Adds what isn't judged, if there is any.
 #[tactic(auto, unfolding(crate::specs::Screen::not_judged))]
 fn push_not_judged(alloc: Global, out: &mut String, sums: &Counts) -> Result<(), AllocError>
     ensures { OnOk result (string_bytes out.new ≡ string_bytes out.old
@@ -101,7 +101,7 @@ fn push_not_judged(alloc: Global, out: &mut String, sums: &Counts) -> Result<(),
     out.push_str(lines.as_str())
 }
 
-/// Returns by which sums urls are ordered: by those of a visit if no load is later.
+/// Returns the sums by which urls are ordered: those of a visit if there is no later load.
 pub fn base_of(sums: &Counts) -> Result<Base, AllocError>
     ensures { IfOk result (λ base. base ≡ base_of sums.now) }
 {
@@ -112,7 +112,6 @@ pub fn base_of(sums: &Counts) -> Result<Base, AllocError>
     })
 }
 
-// By which sums urls are ordered.
 fn sums_by<'a>(base: Base, sums: &'a Counts, visits: &'a Visits) -> &'a Counts
     ensures { total_in result.now ≡ sums_by base sums.now visits.now }
 {
@@ -151,7 +150,7 @@ fn top_text(alloc: Global, facts: &Facts) -> Result<String, AllocError>
     Ok(out)
 }
 
-/// Returns how many bytes a url has at least that is listed.
+/// Returns the least bytes of a listed url.
 pub fn least_of(sums: &Counts) -> Result<u64, AllocError>
     ensures { IfOk result (λ n. n ≡ least_of sums.now) }
 {
@@ -194,7 +193,7 @@ fn push_visits(
     Ok(())
 }
 
-// The lines of the first twelve urls in an order, and how many there are more.
+// Returns the lines of the first twelve urls of an order, with the number of further ones.
 fn visit_lines(
     alloc: Global,
     short: &UrlStyle<'_>,
@@ -221,7 +220,7 @@ fn visit_lines(
     Ok(out)
 }
 
-// The lines of the urls that later visits ask for.
+// Returns the lines of the urls that later visits request.
 fn visit_section(
     alloc: Global,
     short: &UrlStyle<'_>,
@@ -239,7 +238,7 @@ fn visit_section(
     visit_lines(alloc, short, recorded, visits, urls, order.as_slice())
 }
 
-// What the whole page costs, as it is and with what is advised.
+// Adds the costs of the whole page, at present and with what is advised.
 #[tactic(auto, unfolding(crate::specs::Screen::end_text))]
 fn push_end(out: &mut String, visits: &Visits, after: &After) -> Result<(), AllocError>
     ensures { OnOk result (string_bytes out.new ≡ string_bytes out.old
@@ -251,7 +250,7 @@ fn push_end(out: &mut String, visits: &Visits, after: &After) -> Result<(), Allo
     push_totals(out, &after.visits)
 }
 
-// What may mislead.
+// Adds what may mislead.
 fn push_notes(out: &mut String, sums: &Counts, recorded: &[Recorded]) -> Result<(), AllocError>
     ensures { OnOk result (string_bytes out.new ≡ string_bytes out.old
         ++ notes_text sums.now (map recorded_seen recorded.now)) }
@@ -263,15 +262,15 @@ fn push_notes(out: &mut String, sums: &Counts, recorded: &[Recorded]) -> Result<
 // The texts of sections that are made before the recording is changed.
 #[derive(Drop)]
 struct Texts {
-    // What to change first, without what it saves.
+    // What to change first, without the savings.
     lines: Vec<Line>,
-    // What later visits ask for.
+    // What later visits request.
     visits: String,
-    // The urls that say no lifetime.
+    // The urls that state no lifetime.
     guesses: String,
     // What looks wrong.
     wrong: String,
-    // Where the other kind of cache differs.
+    // The differences to the other kind of cache.
     both: String,
     // What is in order.
     in_order: String,
@@ -339,7 +338,7 @@ fn push_change_head(
     push_first_head(out, base, picks, all)
 }
 
-// What to change first, and what that saves.
+// Adds what to change first, and the savings.
 #[tactic(auto, unfolding(crate::specs::Screen::changes_text))]
 fn push_changes(
     alloc: Global,
@@ -367,7 +366,6 @@ fn push_visit_head(out: &mut String) -> Result<(), AllocError>
     out.push_str("\nWILL COST ON A LATER VISIT, in an hour, a day, a week, thirty days\n")
 }
 
-// What later visits cost.
 #[tactic(auto, unfolding(crate::specs::Screen::later_text))]
 fn push_later(
     out: &mut String,
@@ -384,7 +382,7 @@ fn push_later(
     push_end(out, visits, after)
 }
 
-// The lines of what looks wrong: first those of urls, then those of queries.
+// Returns the lines about what looks wrong: first about urls, then about queries.
 fn wrong_lines(
     alloc: Global,
     facts: &Facts,
@@ -399,7 +397,7 @@ fn wrong_lines(
     Ok(out)
 }
 
-// What looks wrong, if anything does.
+// Returns the section about what looks wrong, if anything does.
 #[tactic(auto, unfolding(crate::specs::Screen::wrong_section))]
 fn wrong_section(alloc: Global, lines: &str) -> Result<String, AllocError>
     ensures { IfOk result (λ text. string_bytes text ≡ wrong_section lines.now) }
@@ -425,7 +423,7 @@ fn push_wrong(
     out.push_str(section.as_str())
 }
 
-// Where the other kind of cache differs, and what is in order.
+// Adds the differences to the other kind of cache, and what is in order.
 fn push_both(out: &mut String, texts: &Texts) -> Result<(), AllocError>
     ensures { OnOk result (string_bytes out.new ≡ string_bytes out.old
         ++ (string_bytes texts.now.both ++ string_bytes texts.now.in_order)) }
@@ -434,7 +432,7 @@ fn push_both(out: &mut String, texts: &Texts) -> Result<(), AllocError>
     out.push_str(texts.in_order.as_str())
 }
 
-// The sections, of texts and of what comes of what is advised.
+// Returns the sections, from their texts and the costs with what is advised.
 fn sections_text(
     alloc: Global,
     facts: &Facts,
@@ -455,7 +453,7 @@ fn sections_text(
     Ok(out)
 }
 
-// The sections of a recording that has a first load.
+// Returns the sections of a recording that has a first load.
 fn sections(
     alloc: Global,
     recorded: Vec<Recorded>,
@@ -503,7 +501,7 @@ fn sections(
     )
 }
 
-// The sections, if the recording has a first load.
+// Returns the sections, if the recording has a first load.
 fn sections_of(
     alloc: Global,
     recorded: Vec<Recorded>,
@@ -540,7 +538,7 @@ pub fn notes_text(alloc: Global, sums: &Counts, recorded: &[Recorded]) -> Result
     Ok(out)
 }
 
-// The head, the sections, what isn't judged, and notes.
+// Returns the head, the sections, what isn't judged, and the notes.
 fn screen_text(
     alloc: Global,
     facts: &Facts,
@@ -557,13 +555,10 @@ fn screen_text(
     Ok(out)
 }
 
-/// Returns the report of a recording: its loads and what they send; what to change first, with what that
-/// saves; what later visits cost; what looks wrong; and what isn't judged. With it comes how many repeated
-/// requests a stored response answers.
+/// Returns the report of a recording, and how many repeated requests a stored response answers.
 ///
-/// # Errors
-///
-/// Returns an error only if there is no memory.
+/// The report has the loads, what to change first with the savings, the costs of later visits, what
+/// looks wrong, and what isn't judged.
 pub fn screen(
     alloc: Global,
     recorded: Vec<Recorded>,

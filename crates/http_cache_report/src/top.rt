@@ -1,4 +1,4 @@
-//! The head of a report: which loads there are, and what they send.
+//! The head of a report: the loads, and what was sent for them.
 ghost use Rattle.std.specs.Prelude.{◌≡◌, ◌++◌, ◌-◌, [], length, map, IfOk, OnOk, option_map, string_bytes};
 ghost use Rattle.std.specs.List.{find};
 ghost use Rattle.std.specs.Option.{option_map_or};
@@ -38,7 +38,7 @@ fn is_new(counts: &Counts, page: Option<&str>) -> Result<bool, AllocError>
     }
 }
 
-// Adds the index of a row, if that is the first of its page.
+// Adds the index of a row, if it is the first one of its page.
 fn push_load(
     all: &mut Vec<usize>,
     counts: &Counts,
@@ -55,10 +55,6 @@ fn push_load(
 }
 
 /// Returns the loads of a recording: the index of the first row of each page.
-///
-/// # Errors
-///
-/// Returns an error only if there is no memory.
 pub fn loads_of(alloc: Global, rows: &[Row<'_>]) -> Result<Vec<usize>, AllocError>
     ensures { IfOk result (λ loads. loads.items ≡ loads_of (map row_seen rows.now)) }
 {
@@ -80,7 +76,7 @@ fn url_at<'a>(rows: &'a [Row<'_>], index: usize) -> &'a str
     }
 }
 
-/// Returns the url of the first load: of its page, else of the first request.
+/// Returns the url of the first load: its page's, else that of the first request.
 pub fn page_url<'a>(rows: &'a [Row<'_>], loads: &[usize]) -> &'a str
     ensures { result.now ≡ page_url (map row_seen rows.now) loads.now }
 {
@@ -94,7 +90,6 @@ fn add_load(counts: &mut Counts, rows: &[Row<'_>], index: usize) -> Result<(), A
     counts.add("load", url_at(rows, index), 1)
 }
 
-// How many loads there are of each url.
 fn load_counts(alloc: Global, rows: &[Row<'_>], loads: &[usize]) -> Result<Counts, AllocError>
     ensures { IfOk result (HoldsCounts (load_additions (map row_seen rows.now) loads.now)) }
 {
@@ -123,7 +118,6 @@ fn find_other<'a>(rows: &[Row<'_>], url: &str, loads: &'a [usize]) -> Option<&'a
     loads.iter().find(|index| is_other(rows, url, **index))
 }
 
-// The first load of another url.
 fn other_load(rows: &[Row<'_>], url: &str, loads: &[usize]) -> Option<usize>
     ensures { result ≡ other_load (map row_seen rows.now) url.now loads.now }
 {
@@ -143,7 +137,7 @@ fn loads_word(count: u64) -> &'static str
     }
 }
 
-// The name of the other loads: their url if they have one.
+// Returns the name of the other loads: their url if they have one url.
 fn other_name<'a>(
     rows: &'a [Row<'_>],
     counts: &Counts,
@@ -188,7 +182,7 @@ fn push_took(out: &mut String, seconds: u128) -> Result<(), AllocError>
     write!(out, ", in {seconds} s")
 }
 
-/// Returns the words for which cache is asked, with the end of the line.
+/// Returns the words for the kind of cache, with the end of the line.
 pub fn cache_text(is_shared: bool) -> &'static str
     ensures { result.now ≡ cache_text is_shared }
 {
@@ -199,7 +193,6 @@ pub fn cache_text(is_shared: bool) -> &'static str
     }
 }
 
-// How many loads there are of the page.
 fn page_text(alloc: Global, counts: &Counts, page: &str) -> Result<String, AllocError>
     ensures { IfOk result (λ text. string_bytes text ≡ page_text counts.now page.now) }
 {
@@ -208,11 +201,8 @@ fn page_text(alloc: Global, counts: &Counts, page: &str) -> Result<String, Alloc
     format!(in alloc; "{count}{word}{url}")
 }
 
-/// Returns the first line of a report: its loads, how many seconds they took, and which cache is asked.
-///
-/// # Errors
-///
-/// Returns an error only if there is no memory.
+/// Returns the first line of a report: its loads, how many seconds they took, and the kind of
+/// cache.
 pub fn first_line(
     alloc: Global,
     rows: &[Row<'_>],
@@ -239,14 +229,13 @@ fn kilobytes_in(sums: &Counts, group: &str, name: &str) -> Result<u64, AllocErro
     Ok(rounded(sums.total_of(group, name)?, 1_000))
 }
 
-// What the first load sent, and the later ones.
+// Adds what was sent for the first load, and for the later ones.
 fn push_loads(out: &mut String, first: u64, later: u64) -> Result<(), AllocError>
     ensures { OnOk result (string_bytes out.new ≡ string_bytes out.old ++ loads_text first later) }
 {
     write!(out, "  first load {first} kB, later loads {later} kB; ")
 }
 
-// What the loads sent.
 fn push_all(out: &mut String, sums: &Counts) -> Result<(), AllocError>
     ensures { OnOk result (string_bytes out.new ≡ string_bytes out.old ++ all_text sums.now) }
 {
@@ -261,7 +250,7 @@ fn push_head(out: &mut String) -> Result<(), AllocError>
     out.push_str("\nON THE WIRE\n")
 }
 
-// What they sent for requests that a cache could answer.
+// Adds what was sent for requests that a cache could answer.
 fn push_asked(out: &mut String, sums: &Counts) -> Result<(), AllocError>
     ensures { OnOk result (string_bytes out.new ≡ string_bytes out.old ++ asked_text sums.now) }
 {
@@ -281,11 +270,7 @@ fn push_sent(out: &mut String, sums: &Counts) -> Result<(), AllocError>
     push_asked(out, sums)
 }
 
-/// Adds what the loads sent, and what a cache spared.
-///
-/// # Errors
-///
-/// Returns an error only if there is no memory.
+/// Adds what was sent for the loads, and what a cache saved.
 pub fn push_wire(out: &mut String, sums: &Counts) -> Result<(), AllocError>
     ensures { OnOk result (string_bytes out.new ≡ string_bytes out.old
         ++ (sent_text sums.now ++ hits_text sums.now)) }
@@ -294,7 +279,7 @@ pub fn push_wire(out: &mut String, sums: &Counts) -> Result<(), AllocError>
     push_hits(out, sums)
 }
 
-// How many repeated requests need nothing.
+// Adds how many repeated requests need nothing.
 fn push_fresh(out: &mut String, sums: &Counts) -> Result<(), AllocError>
     ensures { OnOk result (string_bytes out.new ≡ string_bytes out.old ++ fresh_text sums.now) }
 {
@@ -306,7 +291,6 @@ fn push_fresh(out: &mut String, sums: &Counts) -> Result<(), AllocError>
     )
 }
 
-// What that saves.
 fn push_saved(out: &mut String, sums: &Counts) -> Result<(), AllocError>
     ensures { OnOk result (string_bytes out.new ≡ string_bytes out.old ++ saved_text sums.now) }
 {
@@ -315,7 +299,6 @@ fn push_saved(out: &mut String, sums: &Counts) -> Result<(), AllocError>
     write!(out, "{part} %), which saves {saved} kB\n")
 }
 
-// What a cache spared.
 fn push_hits(out: &mut String, sums: &Counts) -> Result<(), AllocError>
     ensures { OnOk result (string_bytes out.new ≡ string_bytes out.old ++ hits_text sums.now) }
 {

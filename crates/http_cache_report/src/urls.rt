@@ -1,4 +1,4 @@
-//! What a report knows of each url, and the sums of a recording's loads.
+//! The facts that a report has about each url, and the sums of a recording's loads.
 ghost use Rattle.std.specs.Prelude.{◌≡◌, ◌++◌, [], length, map, IfOk, OnOk, option_map};
 ghost use Rattle.std.specs.Option.{option_map_or};
 ghost use Rattle.http_cache_recording.specs.Entry.{recorded_seen};
@@ -23,17 +23,17 @@ use std::alloc::{AllocError, Global};
 pub enum Life {
     /// The recording doesn't show it.
     Unknown,
-    /// It isn't stored.
+    /// The response isn't stored.
     NotStored,
-    /// It is validated at each use.
+    /// The response is validated at each use.
     NoCache,
-    /// So many seconds, guessed from Last-Modified.
+    /// A number of seconds, guessed from Last-Modified.
     Guessed(u64),
-    /// So many seconds, as its headers say.
+    /// A number of seconds that the headers state.
     Given(u64),
 }
 
-/// What a report knows of a url.
+/// The facts about a url.
 #[derive(Clone, Copy)]
 pub struct Url {
     /// The index of the row of its first request that a store could have answered.
@@ -58,7 +58,7 @@ fn load_name(is_first: bool) -> &'static str
     }
 }
 
-/// Returns the words for an entry that no store is asked for.
+/// Returns the words for an entry that no store could have answered.
 pub fn apart_text(recorded: &Recorded) -> &str
     ensures { result.now ≡ apart_text (recorded_seen recorded.now) }
 {
@@ -85,7 +85,7 @@ fn add_apart(counts: &mut Counts, recorded: &Recorded) -> Result<(), AllocError>
     Ok(())
 }
 
-/// Returns what a stored response saved that answers.
+/// Returns what the stored response of a hit saved.
 pub fn saved_by(row: &Row<'_>) -> u64
     ensures { result ≡ saved_by (row_seen row.now) }
 {
@@ -113,7 +113,7 @@ fn is_forced(row: &Row<'_>) -> bool
     row.no_cache && row.repeated
 }
 
-// What shows that the cache was off.
+// Counts what shows that the cache was off.
 fn add_no_cache(counts: &mut Counts, row: &Row<'_>) -> Result<(), AllocError>
     ensures { OnOk result (CountsAlso (no_cache_additions (row_seen row.now))
         counts.old counts.new) }
@@ -124,7 +124,6 @@ fn add_no_cache(counts: &mut Counts, row: &Row<'_>) -> Result<(), AllocError>
     Ok(())
 }
 
-// Whether something is sent in a later load.
 fn is_sent_later(is_first: bool, sent: u64) -> bool
     ensures { result ≡ is_sent_later is_first sent }
 {
@@ -142,7 +141,7 @@ fn add_sent(counts: &mut Counts, row: &Row<'_>, is_first: bool) -> Result<(), Al
     Ok(())
 }
 
-// A request that a store could have answered.
+// Counts a request that a store could have answered.
 fn add_asked(counts: &mut Counts, row: &Row<'_>, is_first: bool) -> Result<(), AllocError>
     ensures { OnOk result (CountsAlso (asked_additions (row_seen row.now) is_first)
         counts.old counts.new) }
@@ -186,11 +185,7 @@ fn add_row_at(counts: &mut Counts, row: &Row<'_>, known: Option<Known>) -> Resul
     }
 }
 
-/// Returns the sums of a recording, by its rows and what is known of each.
-///
-/// # Errors
-///
-/// Returns an error only if there is no memory.
+/// Returns the sums of a recording, by its rows and the facts about each.
 pub fn sums_of(alloc: Global, rows: &[Row<'_>], known: &[Known]) -> Result<Counts, AllocError>
     ensures { IfOk result (HoldsCounts (sums_of (map row_seen rows.now) known.now)) }
 {
@@ -272,10 +267,6 @@ fn push_at(
 }
 
 /// Returns the urls that a store could have answered for, in the order of their first requests.
-///
-/// # Errors
-///
-/// Returns an error only if there is no memory.
 pub fn urls_in(
     alloc: Global,
     recorded: &[Recorded],

@@ -1,6 +1,5 @@
-//! What a later visit of the first load costs: its requests once more, after the recording.
-//!
-//! The same cache is asked, by a second walk over the recording with their copies at its end.
+//! The costs of a later visit, which repeats the requests of the first load after the recording.
+//! The same cache answers them, in a second walk over the recording with the copies at its end.
 ghost use Rattle.std.specs.Prelude.{◌≡◌, ◌++◌, ◌-ℤ◌, ◌+ℤ◌, ◌*◌, pos, length, map, option_map, IfOk, OnOk};
 ghost use Rattle.std.specs.List.{flat_map, find};
 ghost use Rattle.std.specs.Option.{option_to_list};
@@ -29,7 +28,7 @@ use http_cache_semantics::CacheOptions;
 use jiff::Timestamp;
 use std::alloc::{AllocError, Global};
 
-/// A request of the first load that a later visit makes once more.
+/// A request of the first load that a later visit repeats.
 #[derive(Clone, Copy)]
 pub struct Repeat {
     /// The index of the request in the recording.
@@ -38,21 +37,21 @@ pub struct Repeat {
     pub full: usize,
     /// What the recording shows of that response.
     pub known: Known,
-    /// Whether it has another query then, so that nothing is stored for it.
+    /// Whether its query will have changed, so that nothing is stored for it.
     pub other_query: bool,
 }
 
-/// When the first load began, and when the recording ended.
+/// The beginning of the first load, and the end of the recording.
 #[derive(Clone, Copy)]
 pub struct Span {
-    /// When the first request of the first load was sent.
+    /// The time at which the first request of the first load was sent.
     pub begun: Timestamp,
-    /// When the last response was received.
+    /// The time at which the last response was received.
     pub ended: Timestamp,
 }
 
-/// Returns the index of the entry with the full response to a request: its own, or that of the stored
-/// response.
+/// Returns the index of the entry with the full response to a request: its own, or the stored
+/// response's.
 pub fn full_of(len: usize, row: &Row<'_>) -> usize
     ensures { result ≡ full_of len (row_seen row.now) }
 {
@@ -65,7 +64,6 @@ pub fn full_of(len: usize, row: &Row<'_>) -> usize
     }
 }
 
-// Whether the request of a row is made once more.
 fn is_repeated(row: &Row<'_>, known: &Known) -> bool
     ensures { result ≡ is_repeated (row_seen row.now) known.now }
 {
@@ -86,7 +84,6 @@ fn repeat_by(len: usize, row: &Row<'_>, known: Known, other_query: bool) -> Opti
     })
 }
 
-// The request of a row once more, if it is.
 fn repeat_of(len: usize, row: &Row<'_>, known: Option<Known>, other_query: bool) -> Option<Repeat>
     ensures { result ≡ repeat_of len (row_seen row.now) known other_query }
 {
@@ -111,12 +108,8 @@ fn push_some(all: &mut Vec<Repeat>, repeat: Option<Repeat>) -> Result<(), AllocE
     }
 }
 
-/// Returns the requests of the first load that a store could have answered, in the order of the rows. A
-/// request has another query at the later visit if `changing` has `true` for its row.
-///
-/// # Errors
-///
-/// Returns an error only if there is no memory.
+/// Returns the requests of the first load that a store could have answered, in the order of the
+/// rows. `changing` says for each row whether its query changes until the later visit.
 pub fn repeats_of(
     alloc: Global,
     recorded: &[Recorded],
@@ -138,14 +131,12 @@ pub fn repeats_of(
     Ok(all)
 }
 
-// Whether a row is an entry of the first load.
 fn is_first_entry(first: &FirstLoad<'_>, row: &Row<'_>) -> bool
     ensures { result ≡ is_first_entry (first_seen first.now) (row_seen row.now) }
 {
     is_of_first(first, row) && entry_of(row.recorded).is_some()
 }
 
-// The first entry of the first load.
 fn first_entry<'a, 'b>(rows: &'a [Row<'b>], first: &FirstLoad<'_>) -> Option<&'a Row<'b>>
     ensures { option_map (λ r. row_seen r.now) result
         ≡ find (is_first_entry (first_seen first.now)) (map row_seen rows.now) }
@@ -162,8 +153,8 @@ fn sent_at(row: &Row<'_>) -> Option<Timestamp>
     }
 }
 
-/// Returns when the first request of the first load was sent, if it has one. The rows are in the order in
-/// which their requests were sent.
+/// Returns when the first request of the first load was sent, if it has one. The rows have the
+/// order in which their requests were sent.
 pub fn first_sent(rows: &[Row<'_>]) -> Option<Timestamp>
     ensures { option_map (λ t. t.nanosecond) result ≡ first_sent (map row_seen rows.now) }
 {
@@ -183,7 +174,6 @@ fn received_in(recorded: &Recorded) -> Option<Timestamp>
     }
 }
 
-// The later of two times, as far as they are known.
 fn later(a: Option<Timestamp>, b: Option<Timestamp>) -> Option<Timestamp>
     ensures { option_map (λ t. t.nanosecond) result
         ≡ later (option_map (λ t. t.nanosecond) a) (option_map (λ t. t.nanosecond) b) }
@@ -207,7 +197,7 @@ pub fn last_received(recorded: &[Recorded]) -> Option<Timestamp>
     last
 }
 
-/// Returns when the first load began and the recording ended, if that has an entry of the first load.
+/// Returns when the first load began and the recording ended, if the first load has an entry.
 pub fn span_of(recorded: &[Recorded], rows: &[Row<'_>]) -> Option<Span>
     ensures { option_map span_seen result
         ≡ span_of (map recorded_seen recorded.now) (map row_seen rows.now) }
@@ -219,8 +209,8 @@ pub fn span_of(recorded: &[Recorded], rows: &[Row<'_>]) -> Option<Span>
 }
 
 impl Span {
-    /// Returns by how many nanoseconds the first load is moved, if it is visited again so many seconds
-    /// after the recording ended.
+    /// Returns by how many nanoseconds the first load is moved for a visit `delay` seconds after
+    /// the recording ended.
     pub fn shift(self, delay: u64) -> i128
         ensures { result ≡ (self.ended.nanosecond -ℤ self.begun.nanosecond)
             +ℤ pos (delay * 1_000_000_000) }
@@ -230,14 +220,14 @@ impl Span {
     }
 }
 
-// Whether a request with an outcome is sent to the origin server.
+// Returns whether a request with an outcome is sent to the origin server.
 fn is_sent(outcome: Outcome) -> bool
     ensures { result ≡ is_sent outcome }
 {
     !matches!(outcome, Outcome::Apart | Outcome::Fresh)
 }
 
-// Whether the full response to a request is sent again.
+// Returns whether the full response to a request is sent again.
 fn is_again(row: &Row<'_>, cost: Cost) -> bool
     ensures { result ≡ is_again (row_seen row.now) cost }
 {
@@ -275,7 +265,6 @@ fn add_sums(counts: &mut Counts, url: &str, row: &Row<'_>, cost: Cost) -> Result
     Ok(())
 }
 
-// The url of the recorded request at an index.
 fn url_at(recorded: &[Recorded], index: usize) -> &str
     ensures { result.now ≡ url_at (map recorded_seen recorded.now) index }
 {
@@ -298,7 +287,7 @@ fn add_repeat(
     add_sums(counts, url_at(recorded, repeat.entry), row, cost)
 }
 
-// The repeated request of which the copy is at an index, if the copies begin at another.
+// Returns the repeated request whose copy is at an index. `begin` is the index of the first copy.
 fn repeat_in(repeats: &[Repeat], begin: usize, index: usize) -> Option<Repeat>
     ensures { result ≡ repeat_in repeats.now begin index }
 {
@@ -343,7 +332,7 @@ fn counts_of(
     Ok(counts)
 }
 
-// What the requests cost of which the copies begin at an index of a recording.
+// Returns the costs of the requests whose copies begin at an index.
 fn visit_counts(
     alloc: Global,
     recorded: &[Recorded],
@@ -359,15 +348,11 @@ fn visit_counts(
     counts_of(alloc, recorded, repeats, begin, rows.as_slice())
 }
 
-/// Returns what a later visit costs that makes these requests once more, moved by so many nanoseconds. For
-/// each url, as it was recorded, `bytes/`, `confirmed/` and `unknown/` have the sums of its costs, and
-/// `again/` says how often its full response is sent again. `visit/` has the sums of all.
+/// Returns the costs of a later visit that repeats these requests, moved by so many nanoseconds.
 ///
-/// The recording is the same afterwards, also after an error.
-///
-/// # Errors
-///
-/// Returns an error only if there is no memory.
+/// For each recorded url, `bytes/`, `confirmed/` and `unknown/` have the sums of its costs, and
+/// `again/` has how often its full response is sent again. `visit/` has the sums of all. The
+/// recording is the same afterwards, even after an error.
 pub fn visit(
     alloc: Global,
     recorded: &mut Vec<Recorded>,

@@ -1,4 +1,4 @@
-//! Texts that several sections of a report have: urls, and what a response says of caching.
+//! Texts that several sections of a report use: urls, and what a response says of caching.
 ghost use Rattle.std.specs.Prelude.{◌≡◌, map, IfOk, OnOk, option_map, string_bytes};
 ghost use Rattle.http_cache_fields.specs.Headers.{headers_of};
 ghost use Rattle.http_cache_recording.specs.Entry.{recorded_seen};
@@ -18,12 +18,12 @@ use http_cache_recording::Recorded;
 use std::alloc::{AllocError, Global};
 use std::fmt::Write;
 
-/// How urls are printed.
+/// The style in which urls are printed.
 #[derive(Clone, Copy)]
 pub struct UrlStyle<'a> {
     /// The host of the page, which is left out.
     pub host: &'a str,
-    /// Queries aren't printed.
+    /// Whether queries are left out.
     pub hides_queries: bool,
 }
 
@@ -65,7 +65,7 @@ pub fn short<'a>(host: &str, url: &'a str) -> &'a str
 }
 
 impl<'a> UrlStyle<'a> {
-    /// Returns the url of an entry, shortened.
+    /// Returns the shortened url of an entry.
     pub fn url_text<'b>(&self, recorded: &'b [Recorded], index: usize) -> &'b str
         ensures { result.now ≡ url_text (style_seen self.now) (map recorded_seen recorded.now) index }
     {
@@ -77,10 +77,6 @@ impl<'a> UrlStyle<'a> {
 }
 
 /// Adds a text, with a comma before it unless it is the first.
-///
-/// # Errors
-///
-/// Returns an error only if there is no memory.
 pub fn push_piece(out: &mut String, piece: &str) -> Result<(), AllocError>
     ensures { OnOk result (string_bytes out.new ≡ with_piece (string_bytes out.old) piece.now) }
 {
@@ -90,7 +86,6 @@ pub fn push_piece(out: &mut String, piece: &str) -> Result<(), AllocError>
     out.push_str(piece)
 }
 
-// The first line of Cache-Control.
 fn control_text(alloc: Global, headers: &HeaderMap) -> Result<String, AllocError>
     ensures { IfOk result (λ text. string_bytes text ≡ control_text (headers_of headers.now)) }
 {
@@ -100,7 +95,7 @@ fn control_text(alloc: Global, headers: &HeaderMap) -> Result<String, AllocError
     }
 }
 
-// Adds a header with its name, if nothing is said yet.
+// Adds a header with its name, if there is no text yet.
 fn push_named(out: &mut String, name: &str, value: Option<&str>) -> Result<(), AllocError>
     ensures { OnOk result (string_bytes out.new
         ≡ else_named name.now (option_map (λ t. t.now) value.entry) (string_bytes out.old)) }
@@ -111,7 +106,7 @@ fn push_named(out: &mut String, name: &str, value: Option<&str>) -> Result<(), A
     }
 }
 
-// The Cache-Control of a response, else its Expires, else its Pragma.
+// Returns the Cache-Control of a response, else its Expires, else its Pragma.
 fn lifetime_text(alloc: Global, headers: &HeaderMap) -> Result<String, AllocError>
     ensures { IfOk result (λ text. string_bytes text ≡ lifetime_text (headers_of headers.now)) }
 {
@@ -133,7 +128,6 @@ fn validator_text(headers: &HeaderMap) -> &'static str
     }
 }
 
-// What a response says of caching.
 fn said_by(alloc: Global, headers: &HeaderMap) -> Result<String, AllocError>
     ensures { IfOk result (λ text. string_bytes text ≡ said_by (headers_of headers.now)) }
 {
@@ -151,12 +145,8 @@ fn said_in(alloc: Global, recorded: &Recorded) -> Result<String, AllocError>
     }
 }
 
-/// Returns what the response of an entry says of caching: its Cache-Control, else Expires or Pragma, and its
-/// validator.
-///
-/// # Errors
-///
-/// Returns an error only if there is no memory.
+/// Returns what the response of an entry says of caching: Cache-Control, else Expires or Pragma,
+/// and its validator.
 pub fn said_at(alloc: Global, recorded: &[Recorded], index: usize) -> Result<String, AllocError>
     ensures { IfOk result (λ text. string_bytes text
         ≡ said_at (map recorded_seen recorded.now) index) }
@@ -168,10 +158,6 @@ pub fn said_at(alloc: Global, recorded: &[Recorded], index: usize) -> Result<Str
 }
 
 /// Returns how long a response stays fresh, in words.
-///
-/// # Errors
-///
-/// Returns an error only if there is no memory.
 pub fn life_text(alloc: Global, life: Life) -> Result<String, AllocError>
     ensures { IfOk result (λ text. string_bytes text ≡ life_text life) }
 {

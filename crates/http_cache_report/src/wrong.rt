@@ -1,4 +1,4 @@
-//! What looks wrong, and what to send instead.
+//! Finds what looks wrong, and says what to send instead.
 ghost use Rattle.std.specs.Prelude.{◌≡◌, ◌++◌, map, codes, IfOk, OnOk, string_bytes};
 ghost use Rattle.std.specs.List.{flat_map};
 ghost use Rattle.http_cache_recording.specs.Entry.{recorded_seen, reading_seen};
@@ -44,7 +44,7 @@ fn push_in_full(alloc: Global, all: &mut Vec<String>, in_full: bool) -> Result<(
     Ok(())
 }
 
-/// Returns what looks wrong of a url: in its headers, and in how its server answers a condition.
+/// Returns the faults of a url: in its headers, and in how its server answers a condition.
 pub fn faults_of(alloc: Global, recorded: &[Recorded], url: &Url) -> Result<Vec<String>, AllocError>
     ensures { IfOk result (λ all. map string_bytes all.items
         ≡ faults_of (map recorded_seen recorded.now) url.now) }
@@ -54,7 +54,7 @@ pub fn faults_of(alloc: Global, recorded: &[Recorded], url: &Url) -> Result<Vec<
     Ok(all)
 }
 
-/// Returns what to send where something looks wrong, by the words for that.
+/// Returns what to send instead, by the words for a fault.
 #[tactic(auto, unfolding(crate::specs::Wrong::send_for))]
 pub fn send_for(words: &str) -> &'static str
     ensures { result.now ≡ send_for words.now }
@@ -114,7 +114,7 @@ fn push_url(
     push_faults(out, short.url_text(recorded, url.entry), faults.as_slice())
 }
 
-/// Returns whether something looks wrong of a url.
+/// Returns whether a url has faults.
 pub fn has_faults(alloc: Global, recorded: &[Recorded], url: &Url) -> Result<bool, AllocError>
     ensures { IfOk result (λ holds. holds ≡ has_faults (map recorded_seen recorded.now) url.now) }
 {
@@ -122,7 +122,7 @@ pub fn has_faults(alloc: Global, recorded: &[Recorded], url: &Url) -> Result<boo
     Ok(!faults.is_empty())
 }
 
-/// Returns for each url whether something looks wrong.
+/// Returns for each url whether it has faults.
 pub fn wrong_of(alloc: Global, recorded: &[Recorded], urls: &[Url]) -> Result<Vec<bool>, AllocError>
     ensures { IfOk result (λ all. all.items ≡ wrong_of (map recorded_seen recorded.now) urls.now) }
 {
@@ -168,7 +168,7 @@ fn push_first(
     Ok(())
 }
 
-// Of the first twelve, and how many there are more.
+// Adds the lines of the first twelve urls, with the number of further ones.
 fn push_order(
     alloc: Global,
     out: &mut String,
@@ -200,11 +200,7 @@ fn order_text(
     Ok(out)
 }
 
-/// Returns the lines of what looks wrong: of twelve urls at most, those of which most bytes were sent.
-///
-/// # Errors
-///
-/// Returns an error only if there is no memory.
+/// Returns the lines about what looks wrong, for at most twelve urls, most bytes first.
 pub fn wrong_text(
     alloc: Global,
     short: &UrlStyle<'_>,

@@ -1,4 +1,4 @@
--- What a request asks, one piece after another.
+-- What a request asks, piece by piece.
 use Rattle.std.proofs.Common.{◌≡◌, ℕ, Bool, true, false, cond, ◌||◌, true≢false}
 use Rattle.std.proofs.Common.{List, [], ◌∷◌, ◌++◌, codes, length, Option, Some, None}
 use Rattle.std.proofs.Common.{option_map, refl, sym, ap, ◌∙◌, bytes_eq, nat_lt}
@@ -7,7 +7,7 @@ use Rattle.std.specs.List.{list_any, find}
 use Rattle.std.proofs.lemmas.List.Folds.{find-append, list_any-append}
 use Rattle.http_cache_fields.specs.Directives.{name_of, unquoted_value_of, directives}
 use Rattle.http_cache_rules.specs.DeltaSeconds.{said_by_value, said_by_pieces, delta_seconds_under, is_said}
-use Rattle.http_cache_rules.specs.Asks.{asked_of, asked_by_pieces}
+use Rattle.http_cache_rules.specs.Asks.{requested_by, requested_by_pieces}
 use Rattle.http_cache_fields.proofs.FirstPieceLemmas.{value_under-first_piece, named-by_directive}
 use Rattle.http_cache_rules.proofs.DeltaSecondsLemmas.{said-by_value}
 
@@ -19,7 +19,7 @@ module _ (n : List ℕ) (ps : List (List ℕ)) (p : List ℕ) where
       ≡ first_said (option_or (find (λ q. bytes_eq n (name_of q)) ps) (cond (bytes_eq n (name_of p)) (Some p) None))
   next = ap first_said (find-append (λ q. bytes_eq n (name_of q)) ps (p ∷ []))
 
-  -- what is said once stays
+  -- a value that is known isn't changed by a later piece
   pub said-kept : is_said (said_by_pieces n ps) ≡ true → said_by_pieces n ps ≡ said_by_pieces n (ps ++ p ∷ [])
   said-kept h = by (find (λ q. bytes_eq n (name_of q)) ps) (bytes_eq n (name_of p)) h ∙ sym next
     where
@@ -28,7 +28,7 @@ module _ (n : List ℕ) (ps : List (List ℕ)) (p : List ℕ) where
       by None b e = absurd (true≢false (sym e))
       by (Some q) b e = refl
 
-  -- a piece of another name says nothing of this one
+  -- a piece of another name changes nothing
   pub said-other : bytes_eq n (name_of p) ≡ false → said_by_pieces n ps ≡ said_by_pieces n (ps ++ p ∷ [])
   said-other h = by (find (λ q. bytes_eq n (name_of q)) ps) (bytes_eq n (name_of p)) h ∙ sym next
     where
@@ -38,7 +38,7 @@ module _ (n : List ℕ) (ps : List (List ℕ)) (p : List ℕ) where
       by None false e = refl
       by (Some q) b e = refl
 
-  -- the first piece of a name says it
+  -- the first piece of a name decides
   pub said-first : is_said (said_by_pieces n ps) ≡ false → bytes_eq n (name_of p) ≡ true
       → said_by_value (Some (unquoted_value_of p)) ≡ said_by_pieces n (ps ++ p ∷ [])
   said-first new h = by (find (λ q. bytes_eq n (name_of q)) ps) (bytes_eq n (name_of p)) new h ∙ sym next
@@ -49,7 +49,6 @@ module _ (n : List ℕ) (ps : List (List ℕ)) (p : List ℕ) where
       by None false e k = absurd (true≢false (sym k))
       by (Some q) b e k = absurd (true≢false (sym (said-by_value (Some (unquoted_value_of q))) ∙ e))
 
--- a name is there behind one piece more where it was, or the piece has it
 pub named-next : (n : List ℕ) (ps : List (List ℕ)) (p : List ℕ)
     → list_any (λ q. bytes_eq n (name_of q)) (ps ++ p ∷ [])
     ≡ (list_any (λ q. bytes_eq n (name_of q)) ps || bytes_eq n (name_of p))
@@ -61,14 +60,12 @@ named-next n ps p =
     or_false true = refl
     or_false false = refl
 
--- ---- what is asked by directives
-
--- what the first piece of a name says is what its directive says
+-- the first piece of a name says what its directive says
 pub said-by_directive : (ps : List (List ℕ)) (n : List ℕ) → nat_lt 0 (length n) ≡ true
     → bytes_eq n (codes "must-revalidate") ≡ false → said_by_pieces n ps ≡ delta_seconds_under (directives ps) n
 said-by_directive ps n named other = ap said_by_value (sym (value_under-first_piece ps n named other))
 
-pub asked-by_directives : (ps : List (List ℕ)) → asked_by_pieces ps ≡ asked_of (directives ps)
+pub asked-by_directives : (ps : List (List ℕ)) → requested_by_pieces ps ≡ requested_by (directives ps)
 asked-by_directives ps = λ i. record {
   no_cache = named-by_directive ps (codes "no-cache") refl refl i;
   max_age = said-by_directive ps (codes "max-age") refl refl i;

@@ -1,4 +1,4 @@
--- What is between the quotes of a text, one tag after another.
+-- The texts between the quotes of a line, tag by tag.
 use Rattle.std.proofs.Common.{◌≡◌, ℕ, ◌<◌, List, [], ◌∷◌, length, refl, sym, ap, subst, ◌∙◌, arith, length-append}
 use Rattle.std.proofs.Common.{get_or, Option, Some, None, MatchOption, Bool, true, false, ◌||◌, if◌then◌else◌}
 use Rattle.std.specs.Borrow.{Bor}
@@ -16,13 +16,11 @@ use Rattle.http_cache_rules.specs.Conditions.{at_odd, without_last, opaque_tags,
 use Rattle.http_cache_rules.specs.Conditions.{is_unchanged, last_change, asked_since, has_stored_already, is_conditional}
 use Rattle.std.proofs.Common.{true≢false, codes, is_some, slice_get}
 
--- the second part of three or more is a tag
 at_odd-cut : (a b : List ℕ) (parts : List (List ℕ)) → 0 < length parts
     → at_odd (without_last (a ∷ b ∷ parts)) ≡ b ∷ at_odd (without_last parts)
 at_odd-cut a b [] h = absurd (omega arith)
 at_odd-cut a b (c ∷ parts) h = simp unary_clauses refl
 
--- what follows the first quote is shorter
 pub after_quote-shorter : (text : List ℕ) → position_or_len is_quote text < length text
     → length (after_first is_quote text) < length text
 after_quote-shorter text h =
@@ -31,11 +29,9 @@ after_quote-shorter text h =
     (get_or text (position_or_len is_quote text) 0 ∷ after_first is_quote text) in
     omega (arith, cut, parts)
 
--- a text without a quote has no tag
 pub opaque_tags-whole : (text : List ℕ) → position_or_len is_quote text ≡ length text → opaque_tags text ≡ []
 opaque_tags-whole text e = ap (λ parts. at_odd (without_last parts)) (slice_split-whole is_quote text e)
 
--- nor one with a single quote
 pub opaque_tags-open : (text rest : List ℕ) → position_or_len is_quote text < length text
     → rest ≡ after_first is_quote text → position_or_len is_quote rest ≡ length rest → opaque_tags text ≡ []
 opaque_tags-open text rest h is e =
@@ -44,7 +40,7 @@ opaque_tags-open text rest h is e =
     ∙ ap (λ r. before_first is_quote text ∷ slice_split is_quote r) (sym is)
     ∙ ap (λ parts. before_first is_quote text ∷ parts) (slice_split-whole is_quote rest e))
 
--- a text with two quotes has what is between them, and then the tags behind them
+-- a text with two quotes has the tag between them, and then the tags after them
 pub opaque_tags-cut : (text rest : List ℕ) → position_or_len is_quote text < length text
     → rest ≡ after_first is_quote text → position_or_len is_quote rest < length rest
     → opaque_tags text ≡ before_first is_quote rest ∷ opaque_tags (after_first is_quote rest)
@@ -57,7 +53,7 @@ opaque_tags-cut text rest h is k =
     ∙ at_odd-cut (before_first is_quote text) (before_first is_quote rest)
     (slice_split is_quote (after_first is_quote rest)) (omega (arith, behind))
 
--- what the second cut of a text gives is its first tag
+-- the second split of a text yields its first tag
 pub opaque_tags-after_quote : (text rest : List ℕ) (r : Option (Bor (List ℕ) × Bor (List ℕ)))
     → position_or_len is_quote text < length text → rest ≡ after_first is_quote text
     → MatchOption r (position_or_len is_quote rest ≡ length rest)
@@ -75,9 +71,6 @@ opaque_tags-after_quote text rest (Some (tag, after)) h is cut =
       omega (arith, shorter, more),
     )
 
--- ---- one of several lines
-
--- a line names what is stored, or one behind it does
 pub any-lines : (names : List ℕ → Bool) (value : List ℕ) (more : List (List ℕ))
     → list_any names (text_lines (value ∷ more))
     ≡ (list_any names (text_lines (value ∷ [])) || list_any names (text_lines more))
@@ -96,7 +89,7 @@ any-lines names value more = by (is_text value)
         or_assoc false b = refl
     by false = refl
 
--- a value that is text names what is stored where its line does
+-- a value that is text names the stored response if its line does
 pub any-text : (names : List ℕ → Bool) (value : List ℕ) → is_text value ≡ true
     → names value ≡ list_any names (text_lines (value ∷ []))
 any-text names value text =
@@ -106,14 +99,11 @@ any-text names value text =
     or_false true = refl
     or_false false = refl
 
--- and any other names nothing
+-- a value that isn't text names nothing
 pub any-hidden : (names : List ℕ → Bool) (value : List ℕ) → is_text value ≡ false
     → false ≡ list_any names (text_lines (value ∷ []))
 any-hidden names value hidden = ap (λ b. list_any names (if b then value ∷ [] else [])) (sym hidden)
 
--- ---- a request that has the stored response has a condition
-
--- a date that is asked for is a value
 since-there : (dates : List (List ℕ)) (changed : Option ℕ)
     → is_unchanged changed (option_and_then parse_secs (option_and_then text_of (only dates))) ≡ true
     → is_some (slice_get dates 0) ≡ true

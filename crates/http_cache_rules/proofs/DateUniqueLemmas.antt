@@ -1,4 +1,4 @@
--- A moment has one date text.
+-- A time has one date text.
 use Rattle.std.proofs.Common.{◌≡◌, ℕ, ℤ, List, sym, ◌∙◌}
 use Rattle.jiff_core.specs.declared.civil.datetime.DateTime.{DateTime}
 use Rattle.jiff_core.specs.DateTime.{civil_nanos}
@@ -6,7 +6,6 @@ use Rattle.jiff_core.proofs.DateLemmas.{epoch_day_injective}
 use Rattle.jiff_core.proofs.DateTimeLemmas.{time_nanos_injective, civil_nanos_injective}
 use Rattle.http_cache_rules.specs.Dates.{clock_text, IsDateText}
 
--- clocks at one moment have one text
 clock_text-same : (a b : DateTime) → civil_nanos a ≡ civil_nanos b → clock_text a ≡ clock_text b
 clock_text-same a b e =
     let parts = civil_nanos_injective a b e in

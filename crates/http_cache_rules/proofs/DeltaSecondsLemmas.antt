@@ -1,4 +1,4 @@
--- What is kept of a directive that counts seconds tells whether it is there.
+-- The value that is kept of a directive shows whether the directive is present.
 use Rattle.std.proofs.Common.{◌≡◌, ℕ, List, Option, Some, None, is_some, refl}
 use Rattle.http_cache_fields.specs.Number.{number}
 use Rattle.http_cache_rules.specs.DeltaSeconds.{said_by_number, said_by_value, is_said}

@@ -3,13 +3,12 @@ use Rattle.std.proofs.Common.{◌≡◌, ℕ, Bool, true, false, List, [], ◌�
 use Rattle.std.proofs.Common.{append_assoc, append-nil}
 use Rattle.http_cache_rules.specs.DisplayText.{listed}
 
--- the separator of a row after others
+-- the separator of a row after these rows
 abbrev pub separator_after : List ℕ → List (Bool × List ℕ) → List ℕ
 separator_after separator [] = separator
 separator_after separator ((true, words) ∷ rows) = separator_after (codes ", ") rows
 separator_after separator ((false, words) ∷ rows) = separator_after separator rows
 
--- what a row adds to the list
 abbrev pub added : List ℕ → Bool × List ℕ → List ℕ
 added separator row = if row.0 then separator ++ row.1 else []
 

@@ -1,4 +1,4 @@
--- Headers without the names that texts spell, text by text.
+-- Headers without the names that texts list, text by text.
 use Rattle.std.proofs.Common.{◌≡◌, ℕ, Bool, true, false, not, ◌||◌, List, [], ◌∷◌, ◌++◌, cond, bytes_eq}
 use Rattle.std.proofs.Common.{None, refl, sym, ap, ◌∙◌}
 use Rattle.std.specs.Cmp.Lexicographic.{nat_list_cmp_total}
@@ -7,20 +7,19 @@ use Rattle.std.proofs.lemmas.List.Folds.{list_any-append}
 use Rattle.http_header.specs.Token.{lowercase}
 use Rattle.http_cache_fields.specs.Headers.{Headers}
 use Rattle.http_cache_fields.proofs.HeadersLemmas.{ties, same_headers}
-use Rattle.http_cache_rules.specs.Filter.{is_spelled}
+use Rattle.http_cache_rules.specs.Filter.{is_listed}
 use Rattle.http_cache_rules.specs.Forwarding.{without_named}
 
 get-without_named : (texts : List (List ℕ)) (h : Headers) (name : List ℕ)
-    → fin.get (without_named texts h) name ≡ cond (not (is_spelled texts name)) (fin.get h name) None
+    → fin.get (without_named texts h) name ≡ cond (not (is_listed texts name)) (fin.get h name) None
 get-without_named texts h name =
-    let keep = λ (n : List ℕ). not (is_spelled texts n) in
+    let keep = λ (n : List ℕ). not (is_listed texts n) in
     fin.get-retain_keys h keep name
     (λ x t. ap keep (sym (fin.slice_cmp-IsAntisymmetric fin.nat_cmp-IsAntisymmetric name x t)))
 
 pub without_named-none : (h : Headers) → without_named [] h ≡ h
 without_named-none h = same_headers (without_named [] h) h (get-without_named [] h)
 
--- one text more
 pub without_named-push : (texts : List (List ℕ)) (text : List ℕ) (h : Headers)
     → fin.remove (without_named texts h) (lowercase text) ≡ without_named (texts ++ text ∷ []) h
 without_named-push texts text h =
@@ -29,7 +28,7 @@ without_named-push texts text h =
     (λ name. fin.get-remove nat_list_cmp_total (without_named texts h) (lowercase text) name
     ∙ ap (λ b. cond b None (fin.get (without_named texts h) name)) (ties name (lowercase text))
     ∙ ap (cond (bytes_eq (lowercase text) name) None) (get-without_named texts h name)
-    ∙ by name (is_spelled texts name) (bytes_eq (lowercase text) name)
+    ∙ by name (is_listed texts name) (bytes_eq (lowercase text) name)
     ∙ ap (λ b. cond (not b) (fin.get h name) None)
     (sym (list_any-append (λ t. bytes_eq (lowercase t) name) texts (text ∷ [])))
     ∙ sym (get-without_named (texts ++ text ∷ []) h name))

@@ -25,13 +25,9 @@ use Rattle.http_cache_rules.specs.Joined.{is_singleton, joined_text, stays_apart
 use Rattle.http_cache_rules.proofs.FilterLemmas.{IsFilled, get-with_values, filled-headers_of}
 use Rattle.http_cache_rules.proofs.SweepLemmas.{IsSettling, IsSwept, IsSwept-end, changes-same}
 
--- ---- the sweep
-
--- to put the lines of a name on one line
 abbrev pub joins : List ℕ → Option (List (List ℕ)) → Option (List (List ℕ))
 joins name = option_map (joined_values name)
 
--- one line stays as it is
 pub joined_values-one : (name line : List ℕ) → joined_values name (line ∷ []) ≡ line ∷ []
 joined_values-one name line =
     by (is_singleton name) (stays_apart name (line ∷ []))
@@ -60,7 +56,7 @@ again : (name : List ℕ) (o : Option (List (List ℕ))) → joins name (joins n
 again name None = refl
 again name (Some vs) = ap Some (joined_values-twice name vs)
 
--- is done once and for all
+-- joining twice changes nothing more
 pub joins-settle : IsSettling joins
 joins-settle = record { again = again; nothing = λ name. refl }
 
@@ -80,7 +76,6 @@ joined_values-non_empty name (line ∷ lines) =
     by false true = refl
     by false false = refl
 
--- what stands under a name, joined
 pub get-joined_headers : (h : Headers) → IsFilled h → (name : List ℕ)
     → fin.get (joined_headers h) name ≡ joins name (fin.get h name)
 unfolding joined_headers
@@ -91,14 +86,13 @@ get-joined_headers h filled name =
     (filled name)
     ∙ sym (joined_values-non_empty name vs) ∙ ap (option_map (joined_values name)) (sym (filled name))
 
--- after the sweep the headers are the joined ones
 pub joined_headers-by_sweep : (h out : Headers) → IsFilled h
     → ((name : List ℕ) → IsSwept joins h out [] name) → out ≡ joined_headers h
 joined_headers-by_sweep h out filled swept =
     same_headers out (joined_headers h)
     (λ name. IsSwept-end joins joins-settle.again h out swept name ∙ sym (get-joined_headers h filled name))
 
--- where no name has two lines nothing is left to do
+-- if no name has two lines, joining changes nothing
 one_line : (name : List ℕ) (o : Option (List (List ℕ))) → o ≡ option_map last_only o → o ≡ joins name o
 one_line name None same = refl
 one_line name (Some []) same = refl
@@ -116,9 +110,7 @@ joined_headers-single m valid count =
     (rw ((bytes_eq-Decides name name).1 refl) at (retain_last-single m name valid count name))
     ∙ sym (get-joined_headers (headers_of m) (filled-headers_of m valid) name))
 
--- ---- the loop over lines
-
--- what is still to be written of lines, with a separator before the first of them
+-- the text of the lines that are left, with a separator before the first
 abbrev pub rest_text : List ℕ → List (List ℕ) → List ℕ
 rest_text separator [] = []
 rest_text separator (line ∷ lines) = separator ++ (line ++ flat_map comma_and_text lines)
@@ -131,7 +123,6 @@ rest_text-comma : (lines : List (List ℕ)) → rest_text (codes ", ") lines ≡
 rest_text-comma [] = refl
 rest_text-comma (line ∷ lines) = refl
 
--- a turn writes the separator and a line
 pub rest_text-turn : (separator line joined new : List ℕ) (lines : List (List ℕ))
     → new ≡ (joined ++ separator) ++ line
     → new ++ rest_text (codes ", ") lines ≡ joined ++ rest_text separator (line ∷ lines)
@@ -142,8 +133,6 @@ rest_text-turn separator line joined new lines is =
   where
     regroup : (a b c d : List ℕ) → ((a ++ b) ++ c) ++ d ≡ a ++ (b ++ (c ++ d))
     regroup a b c d = simp append_assoc
-
--- ---- a turn of the sweep
 
 changes-to : (h new : Headers) (name value : List ℕ)
     (change : Option (List (List ℕ)) → Option (List (List ℕ)))
@@ -159,7 +148,6 @@ changes-to h new name value change gives is other =
       | inr n ↦ rw (ties other name, n) refl
     ]
 
--- one line in place of those of a name
 pub changes-one : (m : Entries FieldValue) (name value : List ℕ) (new : Headers) → IsHeaderMap m
     → joined_values name (bytes_of (get_all m name)) ≡ value ∷ [] → new ≡ set (headers_of m) name value
     → ChangesUnder name (joins name) (headers_of m) new
@@ -171,19 +159,16 @@ changes-one m name value new valid one is =
     by [] e = let no = e in cc
     by (v ∷ vs) e = ap Some e
 
--- the first line of a singleton
 pub joined_values-singleton : (name line : List ℕ) (vs : List (List ℕ)) → is_singleton name ≡ true
     → slice_get vs 0 ≡ Some line → joined_values name vs ≡ line ∷ []
 joined_values-singleton name line [] single first = let no = first in cc
 joined_values-singleton name line (v ∷ vs) single first = let same : v ≡ line = cc in rw (single, same) refl
 
--- the lines of another name, on one
 pub joined_values-joined : (name : List ℕ) (vs : List (List ℕ)) → is_singleton name ≡ false
     → stays_apart name vs ≡ false → is_some (slice_get vs 0) ≡ true → joined_values name vs ≡ joined_text vs ∷ []
 joined_values-joined name [] single apart some = let no = some in cc
 joined_values-joined name (v ∷ vs) single apart some = rw (single, apart) refl
 
--- lines that stay apart
 pub changes-none : (m : Entries FieldValue) (name : List ℕ) → IsHeaderMap m → is_singleton name ≡ false
     → stays_apart name (bytes_of (get_all m name)) ≡ true
     → ChangesUnder name (joins name) (headers_of m) (headers_of m)
@@ -196,7 +181,7 @@ changes-none m name valid single apart =
     by [] e = refl
     by (v ∷ vs) e = rw (single, e) refl
 
--- lines that are text make a value on one
+-- lines of text make a value when they are joined
 text_lines-text : (lines : List (List ℕ)) → list_all is_text lines ≡ true
     → is_text (flat_map comma_and_text lines) ≡ true
 text_lines-text [] all = refl
@@ -216,8 +201,6 @@ joined_text-text (line ∷ lines) all =
 
 pub joined_text-is_value : (lines : List (List ℕ)) → list_all is_text lines ≡ true → IsFieldValue (joined_text lines)
 joined_text-is_value lines all = text-is_value (joined_text lines) (joined_text-text lines all)
-
--- ---- the pieces stay
 
 onto_first-append : (x : ℕ) (ps qs : List (List ℕ)) → 0 < length ps
     → onto_first x (ps ++ qs) ≡ onto_first x ps ++ qs
@@ -243,7 +226,6 @@ trimmed-blank : (ps : List (List ℕ)) → 0 < length ps → map trim (onto_firs
 trimmed-blank [] some = absurd (omega arith)
 trimmed-blank (p ∷ ps) some = refl
 
--- the pieces of two lines, joined
 pieces-behind : (xs ys : List ℕ)
     → pieces_of_line (xs ++ comma_and_text ys) ≡ pieces_of_line xs ++ pieces_of_line ys
 pieces-behind xs ys =
@@ -291,13 +273,13 @@ values-joined h filled name = ap (λ o. unwrap_or o []) (get-joined_headers h fi
     by None = refl
     by (Some vs) = refl
 
--- under each name but those of singletons there are the same pieces
+-- a name that is no singleton keeps its pieces
 pub pieces-joined_headers : (h : Headers) → IsFilled h → (name : List ℕ) → is_singleton name ≡ false
     → pieces_under (joined_headers h) name ≡ pieces_under h name
 pieces-joined_headers h filled name single =
     ap pieces_of_values (values-joined h filled name) ∙ pieces-values name (values h name) single
 
--- and under a singleton the same first line
+-- a singleton keeps its first line
 pub first-joined_headers : (h : Headers) → IsFilled h → (name : List ℕ) → is_singleton name ≡ true
     → first (joined_headers h) name ≡ first h name
 first-joined_headers h filled name single =
@@ -307,7 +289,6 @@ first-joined_headers h filled name single =
     by [] = refl
     by (v ∷ vs) = rw single refl
 
--- the directives are the same
 pub directives-joined_headers : (h : Headers) → IsFilled h → cache_control (joined_headers h) ≡ cache_control h
 unfolding is_singleton
 directives-joined_headers h filled = ap directives (pieces-joined_headers h filled (codes "cache-control") refl)

@@ -15,8 +15,6 @@ use Rattle.http_cache_rules.specs.Freshness.{freshness_rows, floor_source, fresh
 use Rattle.http_cache_rules.proofs.FirstRowLemmas.{first_said-append}
 use Rattle.http_cache_rules.specs.declared.freshness.LifetimeSource.{LifetimeSource}
 
--- ---- which group of rows decides
-
 module _ (e : Exchange) where
   by_groups : freshness e
       ≡ unwrap_or
@@ -51,9 +49,7 @@ module _ (e : Exchange) where
   freshness-dates found zero seconds dates =
       dates ∙ (λ i. by_group (zero i) (seconds i) (first_said (date_sources e))) ∙ sym by_groups
 
--- ---- the lifetimes are those of the table
-
--- a row without what it goes by
+-- a row without its source
 abbrev bare : Bool × Sourced → Row
 bare row = (row.0, row.1.1)
 
@@ -63,7 +59,7 @@ first_row-bare [] otherwise = refl
 first_row-bare ((true, what) ∷ rows) otherwise = refl
 first_row-bare ((false, what) ∷ rows) otherwise = first_row-bare rows otherwise
 
--- two rows that say the same are one
+-- two rows with one lifetime are one row
 first_row-joined : (a b : Bool) (said : ℕ) (rows : List Row) (otherwise : ℕ)
     → first_row ((a, said) ∷ (b, said) ∷ rows) otherwise ≡ first_row ((a || b, said) ∷ rows) otherwise
 first_row-joined true b said rows otherwise = refl
@@ -77,20 +73,15 @@ freshness-lifetime e =
     ∙ first_row-joined (not (is_storable e)) (has (stored_directives e) (codes "no-cache")) 0
     (drop 1 (lifetime_rows e)) otherwise.1
 
--- ---- the rows of directives that count seconds
-
 abbrev pub nanos : ℕ → ℕ
 nanos seconds = seconds * 1_000_000_000
 
--- so many seconds, behind what gives them
 abbrev pub timed : LifetimeSource → ℕ → Sourced
 timed source seconds = (source, nanos seconds)
 
--- the lifetime that a directive gives
 abbrev pub given_by : LifetimeSource → Option (Option (List ℕ)) → Option Sourced
 given_by source said = option_map (timed source) (seconds_in (said_by_value said))
 
--- the row of a directive, by what it says
 abbrev row_of : LifetimeSource → Bool → Option (Option (List ℕ)) → Bool × Sourced
 row_of source heeded said =
     (heeded && is_some (unwrap_or said None), (source, table.seconds_in (unwrap_or said None)))
@@ -114,7 +105,7 @@ first_said-last : (o : Option Sourced) → option_or o None ≡ o
 first_said-last None = refl
 first_said-last (Some x) = refl
 
--- of two directives the first that is heeded and has a value decides
+-- the first of two directives that the cache heeds, and that has a value, decides
 pub first_said-seconds : (shared_source source : LifetimeSource) (shared : Bool)
     (shared_age age : Option (Option (List ℕ)))
     → option_or (if shared then given_by shared_source shared_age else None) (given_by source age)

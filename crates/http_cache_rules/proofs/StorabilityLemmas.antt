@@ -1,4 +1,4 @@
--- A response may be stored exactly where no condition forbids it.
+-- A response may be stored exactly if no condition forbids it.
 use Rattle.std.proofs.Common.{◌≡◌, Bool, true, false, not, ◌&&◌, ◌||◌, [], ◌∷◌, codes, Option, Some, None}
 use Rattle.std.proofs.Common.{is_none, cond, refl, sym, ap, ◌∙◌}
 use Rattle.http_cache_fields.specs.Headers.{contains_key}
@@ -36,7 +36,7 @@ allowed-by (Some p) os none = by (is_any os)
     by true = refl
     by false = refl
 
--- something lets a response be stored where one of five conditions holds
+-- a response may be stored if one of five conditions holds
 some-permission : (shared_age age expires public by_default : Bool)
     → not (is_none (first_said ((expires, Expires) ∷ (age, MaxAge) ∷ (shared_age, SMaxage) ∷ (public, Public)
     ∷ (by_default, Status) ∷ [])))
@@ -52,7 +52,6 @@ some-permission false false false true by_default = refl
 some-permission false false false false true = refl
 some-permission false false false false false = refl
 
--- the conditions in turn
 none-forbids : (asked_not method status not_stored shared private withheld none : Bool)
     → not (asked_not || not method || not status || not_stored || (shared && private) || (shared && withheld) || none)
     ≡ (not asked_not && method && status && not not_stored && not (shared && (private || withheld)) && not none)

@@ -1,4 +1,4 @@
--- What is found of directives, where a conflict or a Pragma adds one.
+-- Directives are found as before, after a conflict or a Pragma adds one.
 use Rattle.std.proofs.Common.{◌≡◌, ℕ, Bool, true, false, ◌||◌, List, codes, is_some, refl, ap, ◌∙◌, bytes_eq}
 use Rattle.http_cache_fields.specs.Directives.{Directive, value_under, has, must_revalidate, with_conflict}
 use Rattle.http_cache_fields.specs.Pragma.{no_cache, with_no_cache}
@@ -10,7 +10,6 @@ with_no_cache-other : (said : Bool) (ds : List Directive) (n : List ℕ)
 with_no_cache-other true ds n apart = value_under-set_other ds no_cache n apart
 with_no_cache-other false ds n apart = refl
 
--- other names are left
 pub found-other : (said conflict : Bool) (ds : List Directive) (n : List ℕ)
     → bytes_eq n (codes "no-cache") ≡ false → bytes_eq n (codes "must-revalidate") ≡ false
     → value_under (with_no_cache said (with_conflict conflict ds)) n ≡ value_under ds n

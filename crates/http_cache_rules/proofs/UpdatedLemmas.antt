@@ -14,19 +14,10 @@ use Rattle.http_cache_fields.proofs.HeadersLemmas.{ties}
 use Rattle.http_cache_rules.specs.Updated.{updated_values, HasNoRoom, StopsAt}
 use Rattle.http_cache_rules.proofs.SweepLemmas.{IsFinal, IsSwept, get-missing}
 
--- to add what is missing under a name
 abbrev pub adds : Headers → List ℕ → Option (List (List ℕ)) → Option (List (List ℕ))
 adds stored name o = option_or o (fin.get stored name)
 
-pub adds-again : (stored : Headers) → IsFinal (adds stored)
-adds-again stored name o = by o (fin.get stored name)
-  where
-    by : (o p : Option (List (List ℕ))) → option_or (option_or o p) p ≡ option_or o p
-    by (Some vs) p = refl
-    by None (Some vs) = refl
-    by None None = refl
-
--- before the sweep each stored name is still to come, and the others are done
+-- before the sweep each stored name is still to do, and the others are done
 pub adds-start : (stored : Entries FieldValue) (h : Headers) (name : List ℕ)
     → IsSwept (adds (headers_of stored)) h h (keys stored) name
 adds-start stored h name =
@@ -39,21 +30,19 @@ adds-start stored h name =
     by None = refl
     by (Some vs) = refl
 
--- one value more under a name
 pub values-further : (h : Headers) (name value : List ℕ)
     → values (with_further_value h name value) name ≡ values h name ++ value ∷ []
 values-further h name value =
     ap (λ o. unwrap_or o []) (fin.get-insert nat_list_cmp_total h name (values h name ++ value ∷ []) name)
     ∙ rw (ties name name, (bytes_eq-Decides name name).1 refl) refl
 
--- leaves the others
 pub get-further_other : (h : Headers) (name value other : List ℕ) → bytes_eq name other ≡ false
     → fin.get (with_further_value h name value) other ≡ fin.get h other
 get-further_other h name value other apart =
     fin.get-insert nat_list_cmp_total h name (values h name ++ value ∷ []) other
     ∙ rw (ties other name, apart) refl
 
--- a name that is there is left as it is
+-- a name that is present is left as it is
 pub adds-there : (h stored : Headers) (name : List ℕ) → contains_key h name ≡ true
     → ChangesUnder name (λ o. option_or o (fin.get stored name)) h h
 adds-there h stored name there other =
@@ -70,7 +59,6 @@ adds-there h stored name there other =
     by None there = let never = there in cc
     by (Some vs) some = refl
 
--- all values of a name that wasn't there were added
 pub added : (old new stored : Headers) (name : List ℕ) → fin.get old name ≡ None
     → fin.get new name ≡ fin.get stored name
     → ((other : List ℕ) → bytes_eq name other ≡ false → fin.get new other ≡ fin.get old other)
@@ -85,7 +73,7 @@ added old new stored name absent here others other =
       | inr f ↦ rw f (others other f)
     ]
 
--- a stop while a name is added is a want of room
+-- the sweep stops at a name only if there is no room for its values
 pub no_room : (h out stored : Headers) (names : List (List ℕ)) (at : List ℕ)
     → ((name : List ℕ) → IsSwept (adds stored) h out names name) → StopsAt out stored at
     → HasNoRoom (updated_values stored h)

@@ -1,4 +1,4 @@
--- What the conditions of a request say of a stored response (RFC 9110, sections 13.1 and 13.2.2).
+-- The conditions of a request, for a stored response (RFC 9110, sections 13.1 and 13.2.2).
 use Rattle.std.specs.Prelude.{ℕ, ◌-◌, Bool, false, ◌||◌, List, [], ◌∷◌, length, take, slice_get, codes, bytes_eq}
 use Rattle.std.specs.Prelude.{nat_le, Option, Some, None, option_map, option_and_then, unwrap_or, if◌then◌else◌}
 use Rattle.std.specs.List.{list_any, slice_split}
@@ -8,64 +8,61 @@ use Rattle.http_cache_fields.specs.Text.{is_quote, trim, text_of}
 use Rattle.http_cache_fields.specs.Headers.{Headers, values, first_text, contains_key}
 use Rattle.http_cache_fields.specs.Pieces.{text_lines}
 
--- the elements at odd positions, where the first position is 0
+-- the elements at odd indices
 abbrev pub at_odd : List (List ℕ) → List (List ℕ)
 at_odd [] = []
 at_odd (a ∷ []) = []
 at_odd (a ∷ b ∷ rest) = b ∷ at_odd rest
 
--- a list without its last element
 abbrev pub without_last : List (List ℕ) → List (List ℕ)
 without_last parts = take (length parts - 1) parts
 
--- the opaque tags of a text: of the parts between quotes those at odd positions, but for the last
--- part, which no quote ends (RFC 9110, section 8.8.3)
+-- the opaque tags of a text: its parts at odd indices between quotes, without a last part that no
+-- quote ends (RFC 9110, section 8.8.3)
 abbrev pub opaque_tags : List ℕ → List (List ℕ)
 opaque_tags text = at_odd (without_last (slice_split is_quote text))
 
--- a line has an opaque tag; where a stored tag has no quotes the texts are the same but for blanks
+-- a line has an opaque tag; a stored tag without quotes has to be the whole line, except for blanks
 abbrev pub has_opaque : List ℕ → List ℕ → Option (List ℕ) → Bool
 has_opaque line tag None = bytes_eq (trim line) (trim tag)
 has_opaque line tag (Some opaque) = list_any (bytes_eq opaque) (opaque_tags line)
 
--- a line has a stored tag by weak comparison (RFC 9110, section 8.8.3.2)
+-- by weak comparison (RFC 9110, section 8.8.3.2)
 abbrev pub has_tag : List ℕ → List ℕ → Bool
 has_tag line tag = has_opaque line tag (slice_get (opaque_tags tag) 0)
 
--- a line of If-None-Match names the stored response, by `*` or by its tag (RFC 9110, section 13.1.2)
+-- If-None-Match names the stored response, by `*` or by its tag (RFC 9110, section 13.1.2)
 abbrev pub names_stored : Option (List ℕ) → List ℕ → Bool
 names_stored tag line =
     bytes_eq (trim line) (codes "*") || unwrap_or (option_map (has_tag line) tag) false
 
--- the element of a list of one
 abbrev pub only : List (List ℕ) → Option (List ℕ)
 only [] = None
 only (value ∷ []) = Some value
 only (value ∷ further ∷ values) = None
 
--- the only value under a name, if it is text
 abbrev pub only_text : Headers → List ℕ → Option (List ℕ)
 only_text h name = option_and_then text_of (only (values h name))
 
--- the second of If-Modified-Since, in any of the three forms of a date; further values make it
--- unreadable (RFC 9110, sections 5.6.7 and 13.1.3)
+-- the second of If-Modified-Since; several values make it unreadable (RFC 9110, sections 5.6.7 and
+-- 13.1.3)
 abbrev pub asked_since : Headers → Option ℕ
 asked_since request = option_and_then parse_secs (only_text request (codes "if-modified-since"))
 
--- the second of the stored Last-Modified, or where there is none of Date (RFC 9111, section 4.3.2)
+-- the second of the stored Last-Modified, or of Date if it is missing (RFC 9111, section 4.3.2)
 abbrev pub last_change : Headers → Option ℕ
 last_change stored =
     let modified = first_text stored (codes "last-modified") in
     option_and_then parse_secs (option_or modified (first_text stored (codes "date")))
 
--- both dates are readable, and the change isn't after the other (RFC 9110, section 13.1.3)
+-- both dates are readable, and the change isn't later (RFC 9110, section 13.1.3)
 abbrev pub is_unchanged : Option ℕ → Option ℕ → Bool
 is_unchanged None since = false
 is_unchanged (Some changed) None = false
 is_unchanged (Some changed) (Some since) = nat_le changed since
 
--- the request has the stored response already: by If-None-Match, and only where there is none by
--- If-Modified-Since (RFC 9110, section 13.2.2)
+-- the client has the stored response, by If-None-Match, or by If-Modified-Since if there is none
+-- (RFC 9110, section 13.2.2)
 unfoldable pub has_stored_already : Headers → Headers → Bool
 has_stored_already stored request =
     if contains_key request (codes "if-none-match")
@@ -73,7 +70,6 @@ has_stored_already stored request =
     (text_lines (values request (codes "if-none-match")))
     else is_unchanged (last_change stored) (asked_since request)
 
--- the request has a condition on what it has already
 abbrev pub is_conditional : Headers → Bool
 is_conditional request =
     contains_key request (codes "if-none-match") || contains_key request (codes "if-modified-since")

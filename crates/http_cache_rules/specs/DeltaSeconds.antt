@@ -1,4 +1,4 @@
--- What a directive that counts seconds says (RFC 7234, section 1.2.1).
+-- The value of a directive that counts seconds (RFC 7234, section 1.2.1).
 use Rattle.std.specs.Prelude.{ℕ, Bool, true, false, List, Option, Some, None, option_map, bytes_eq}
 use Rattle.std.specs.List.{find}
 use Rattle.http_cache_fields.specs.Number.{number}
@@ -7,41 +7,36 @@ use Rattle.http_cache_rules.specs.declared.delta_seconds.DeltaSeconds.{DeltaSeco
 use Rattle.http_cache_rules.specs.declared.delta_seconds.DeltaSeconds.TheVariants.{Absent, WithoutValue, NoNumber}
 use Rattle.http_cache_rules.specs.declared.delta_seconds.DeltaSeconds.TheVariants.{Number}
 
--- by the number of a value, if it is one
 abbrev pub said_by_number : Option ℕ → DeltaSeconds
 said_by_number None = NoNumber
 said_by_number (Some seconds) = Number seconds
 
--- by the value of a directive that may be there, and may have one
+-- the outer option is the directive, the inner one its value
 abbrev pub said_by_value : Option (Option (List ℕ)) → DeltaSeconds
 said_by_value None = Absent
 said_by_value (Some None) = WithoutValue
 said_by_value (Some (Some text)) = said_by_number (number text)
 
--- by the directive of a name
 abbrev pub delta_seconds_under : List Directive → List ℕ → DeltaSeconds
 delta_seconds_under ds name = said_by_value (value_under ds name)
 
--- by the first piece of a name
 abbrev pub said_by_pieces : List ℕ → List (List ℕ) → DeltaSeconds
 said_by_pieces name ps =
     said_by_value (option_map unquoted_value_of (find (λ p. bytes_eq name (name_of p)) ps))
 
--- the directive is there
 abbrev pub is_said : DeltaSeconds → Bool
 is_said Absent = false
 is_said WithoutValue = true
 is_said NoNumber = true
 is_said (Number seconds) = true
 
--- the number, if there is one
 abbrev pub number_in : DeltaSeconds → Option ℕ
 number_in Absent = None
 number_in WithoutValue = None
 number_in NoNumber = None
 number_in (Number seconds) = Some seconds
 
--- the seconds of a directive that has a value; what is no number counts as 0
+-- the seconds of a directive that has a value; a value that is no number counts as 0
 abbrev pub seconds_in : DeltaSeconds → Option ℕ
 seconds_in Absent = None
 seconds_in WithoutValue = None

@@ -1,4 +1,4 @@
--- The texts of lifetimes and of why a response may be stored or not.
+-- The texts of lifetimes, and of why a response may be stored or not.
 use Rattle.std.specs.Prelude.{ℕ, ◌/◌, Bool, List, [], ◌∷◌, ◌++◌, codes, decimal}
 use Rattle.std.specs.Prelude.{if◌then◌else◌}
 use Rattle.http_cache_rules.specs.Freshness.{Sourced}
@@ -17,7 +17,6 @@ use Rattle.http_cache_rules.specs.declared.storability.Obstacles.{Obstacles}
 use Rattle.http_cache_rules.specs.declared.storability.Storability.{Storability}
 use Rattle.http_cache_rules.specs.declared.storability.Storability.TheVariants.{Allowed, Forbidden}
 
--- the words for what a lifetime goes by
 abbrev pub source_words : LifetimeSource → List ℕ
 source_words NotStorable = codes "not storable"
 source_words NoCache = codes "no-cache"
@@ -33,7 +32,7 @@ source_words LastModified = codes "Last-Modified"
 source_words Immutable = codes "immutable"
 source_words Nothing = codes "nothing says how long"
 
--- the seconds of a lifetime after the words of its source, where that source may give any
+-- the seconds of a lifetime, unless its source always means zero
 abbrev pub seconds_after : LifetimeSource → ℕ → List ℕ
 seconds_after NotStorable seconds = []
 seconds_after NoCache seconds = []
@@ -49,11 +48,9 @@ seconds_after LastModified seconds = codes ", " ++ decimal seconds ++ codes " s"
 seconds_after Immutable seconds = codes ", " ++ decimal seconds ++ codes " s"
 seconds_after Nothing seconds = []
 
--- what decides a lifetime, and the whole seconds of it
 abbrev pub freshness_text : Sourced → List ℕ
 freshness_text f = source_words f.0 ++ seconds_after f.0 (f.1 / 1_000_000_000)
 
--- what lets a response be stored
 abbrev pub permission_text : Permission → List ℕ
 permission_text ByExpires = codes "Expires"
 permission_text ByMaxAge = codes "max-age"
@@ -61,7 +58,6 @@ permission_text BySMaxage = codes "s-maxage"
 permission_text Public = codes "public"
 permission_text Status = codes "status"
 
--- of each condition that forbids to store a response, whether it holds, and its words
 abbrev pub obstacle_rows : Obstacles → List (Bool × List ℕ)
 obstacle_rows o =
     (o.request_no_store, codes "no-store of the request")
@@ -73,17 +69,15 @@ obstacle_rows o =
     ∷ (o.no_permission, codes "nothing allows it")
     ∷ []
 
--- the words of the rows that hold, the first after a separator, each other one after a comma
+-- the words of the rows that hold, with commas between them
 abbrev pub listed : List ℕ → List (Bool × List ℕ) → List ℕ
 listed separator [] = []
 listed separator ((holds, words) ∷ rows) =
     if holds then separator ++ words ++ listed (codes ", ") rows else listed separator rows
 
--- the conditions that hold
 abbrev pub obstacles_text : Obstacles → List ℕ
 obstacles_text o = listed [] (obstacle_rows o)
 
--- why a response may be stored, or may not
 abbrev pub storability_text : Storability → List ℕ
 storability_text (Allowed permission) = codes "storable: " ++ permission_text permission
 storability_text (Forbidden obstacles) = codes "not storable: " ++ obstacles_text obstacles

@@ -1,4 +1,4 @@
--- What is known of a request, its response and when it came.
+-- A request, its response and the time of receipt.
 use Rattle.std.specs.Prelude.{ℕ, ℤ, List, refl}
 use Rattle.std.specs.Coded.{Coded, code_by, coded×, coded_list, coded_ℕ, coded_ℤ}
 use Rattle.http_uri.specs.declared.uri.Uri.{Uri}
@@ -9,7 +9,7 @@ use Rattle.http_cache_fields.specs.Pragma.{with_pragma}
 use Rattle.http_cache_rules.specs.Options.{Options, options_code, options_of}
 use Rattle.http_cache_rules.specs.declared.parts.StoredParts.{StoredParts}
 
--- what a policy keeps; the response time is the nanosecond since 1970 at which the response came
+-- what a policy keeps; the response time is the nanosecond since 1970 of the receipt
 pub record Exchange : Type 0 where
   pub target : Uri
   pub method : List ℕ
@@ -19,7 +19,6 @@ pub record Exchange : Type 0 where
   pub options : Options
   pub response_time : ℤ
 
--- what the parts of it say
 abbrev pub exchange_in : StoredParts → Exchange
 exchange_in p = record {
   target = p.target;
@@ -31,7 +30,6 @@ exchange_in p = record {
   response_time = p.response_time.nanosecond;
 }
 
--- the tuple of the fields
 abbrev pub Fields : Type 0
 Fields = Uri × (List ℕ × (ℕ × (Headers × (Headers × (Options × ℤ)))))
 
@@ -58,7 +56,6 @@ exchange_with t = record {
   response_time = t.1.1.1.1.1.1;
 }
 
--- how that tuple is stored
 abbrev pub fields_code : Coded Fields
 fields_code =
     coded× uri.the_row.coded (coded× (coded_list coded_ℕ) (coded× coded_ℕ
@@ -68,10 +65,9 @@ fields_code =
 abbrev pub exchange_code : Coded Exchange
 exchange_code = code_by Fields fields_code fields_of exchange_with (λ _. refl)
 
--- the directives of the response, those of its Pragma too where it has no Cache-Control
+-- the response's directives; Pragma counts if there is no Cache-Control (RFC 7234, section 5.4)
 abbrev pub stored_directives : Exchange → List Directive
 stored_directives e = with_pragma e.response_headers (cache_control e.response_headers)
 
--- the directives of the request
 abbrev pub request_directives : Exchange → List Directive
 request_directives e = cache_control e.request_headers

@@ -1,12 +1,12 @@
--- The headers of a message that a proxy passes on (RFC 7230, section 6.1).
+-- The headers of a message that a proxy forwards (RFC 7230, section 6.1).
 use Rattle.std.specs.Prelude.{ℕ, not, List, [], ◌∷◌, codes}
 use Rattle.std.specs.FinMap as fin
 use Rattle.http_cache_fields.specs.Headers.{Headers}
 use Rattle.http_cache_fields.specs.Pieces.{pieces_under}
-use Rattle.http_cache_rules.specs.Filter.{is_spelled}
+use Rattle.http_cache_rules.specs.Filter.{is_listed}
 
--- names that speak of one connection alone, whether Connection spells them or not (RFC 7230, section
--- 6.1, and of proxy-authenticate and proxy-authorization RFC 7235, sections 4.3 and 4.4)
+-- always connection-specific (RFC 7230, section 6.1; for the two `proxy-` ones, RFC 7235, sections
+-- 4.3 and 4.4)
 abbrev pub connection_fields : List (List ℕ)
 connection_fields =
     codes "connection"
@@ -20,11 +20,10 @@ connection_fields =
     ∷ codes "upgrade"
     ∷ []
 
--- the headers without the names that the texts spell, in any case
 abbrev pub without_named : List (List ℕ) → Headers → Headers
-without_named texts h = fin.retain_keys h (λ name. not (is_spelled texts name))
+without_named texts h = fin.retain_keys h (λ name. not (is_listed texts name))
 
--- the headers that are passed on: no such name, and none that Connection spells
+-- no connection-specific name, and none that Connection lists
 unfoldable pub forwarded_headers : Headers → Headers
 forwarded_headers h =
     without_named (pieces_under h (codes "connection")) (without_named connection_fields h)

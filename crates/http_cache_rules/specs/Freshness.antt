@@ -1,4 +1,4 @@
--- How long a response stays fresh, and what decides that (RFC 7234, section 4.2.1).
+-- The freshness lifetime and its source (RFC 7234, section 4.2.1).
 use Rattle.std.specs.Prelude.{ℕ, ℤ, ◌-ℤ◌, max, nat_lt, int_le, Bool, not, ◌&&◌, List, [], ◌∷◌, ◌++◌, codes, is_some, Option, Some, None}
 use Rattle.std.specs.Prelude.{unwrap_or, if◌then◌else◌}
 use Rattle.std.specs.Duration.{as_nanos}
@@ -20,16 +20,14 @@ use Rattle.http_cache_rules.specs.declared.freshness.LifetimeSource.TheVariants.
 use Rattle.http_cache_rules.specs.declared.freshness.LifetimeSource.TheVariants.{PastExpires, Expires, LastModified}
 use Rattle.http_cache_rules.specs.declared.freshness.LifetimeSource.TheVariants.{Immutable, Nothing}
 
--- a lifetime in nanoseconds, behind what gives it
+-- a source and its lifetime, in nanoseconds
 abbrev pub Sourced : Type 0
 Sourced = LifetimeSource × ℕ
 
--- what is seen of a lifetime and its source
 abbrev pub freshness_seen : Freshness → Sourced
 freshness_seen f = (f.source, as_nanos f.lifetime)
 
--- the rows that give zero, whatever else the response says: those of `zero_rows`, the first by its
--- two parts
+-- the rows of `zero_rows`, the first of them split in two
 abbrev pub zero_sources : Exchange → List (Bool × Sourced)
 zero_sources e =
     let ds = stored_directives e in
@@ -40,7 +38,7 @@ zero_sources e =
     ∷ (e.options.shared && has ds (codes "proxy-revalidate"), (ProxyRevalidate, 0))
     ∷ []
 
--- the rows of directives that count seconds
+-- s-maxage, then max-age (RFC 7234, section 4.2.1)
 abbrev pub seconds_sources : Exchange → List (Bool × Sourced)
 seconds_sources e =
     let shared_age = text_under (stored_directives e) (codes "s-maxage") in
@@ -49,25 +47,24 @@ seconds_sources e =
     ∷ (is_some age, (MaxAge, seconds_in age))
     ∷ []
 
--- what decides a lifetime: its source, or that the response is immutable where the floor is longer
--- (RFC 8246, section 2)
+-- the source is `immutable` if the floor is longer (RFC 8246, section 2)
 abbrev pub above_floor : ℕ → ℕ → LifetimeSource → LifetimeSource
 above_floor floor lifetime source = if nat_lt lifetime floor then Immutable else source
 
--- Expires, by whether it is a date, and one that isn't past at a moment (RFC 7234, section 5.3)
+-- Expires, by whether it is a date that is later than a time (RFC 7234, section 5.3)
 abbrev pub expires_source : Option ℤ → ℤ → ℕ → LifetimeSource
 expires_source None from floor = UnreadableExpires
 expires_source (Some date) from floor =
     above_floor floor (elapsed_time (from_1970 date -ℤ from))
     (if int_le (from_1970 date) from then PastExpires else Expires)
 
--- the row by Last-Modified, seen from a moment
+-- the row of Last-Modified (RFC 7234, section 4.2.2)
 abbrev pub modified_sources : Option ℤ → ℤ → ℕ → Ratio → List (Bool × Sourced)
 modified_sources modified from floor part =
     let lifetime = fraction_of part (seconds_since modified from) in
     (is_by modified from, (above_floor floor lifetime LastModified, max floor lifetime)) ∷ []
 
--- the rows by Expires and by Last-Modified, seen from the server's date
+-- the rows of Expires and of Last-Modified, counted from Date
 abbrev pub date_sources : Exchange → List (Bool × Sourced)
 date_sources e =
     let from = server_date e.response_headers e.response_time in
@@ -79,16 +76,14 @@ date_sources e =
     )
     ∷ modified_sources modified from floor e.options.heuristic
 
--- where no row applies: the least lifetime of an immutable response, or none
+-- if no row applies, the least lifetime of an immutable response, or zero
 abbrev pub floor_source : List Directive → Options → Sourced
 floor_source ds options =
     (if has ds (codes "immutable") then Immutable else Nothing, immutable_floor ds options)
 
--- the table of lifetimes with what each row goes by
 abbrev pub freshness_rows : Exchange → List (Bool × Sourced)
 freshness_rows e = zero_sources e ++ seconds_sources e ++ date_sources e
 
--- the lifetime of the first row that applies, and what that row goes by
 unfoldable pub freshness : Exchange → Sourced
 freshness e =
     unwrap_or (first_said (freshness_rows e)) (floor_source (stored_directives e) e.options)

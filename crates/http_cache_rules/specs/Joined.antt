@@ -6,7 +6,7 @@ use Rattle.http_cache_fields.specs.Headers.{Headers, values}
 use Rattle.http_cache_fields.specs.Pieces.{comma_and_text}
 use Rattle.http_cache_rules.specs.Filter.{with_values}
 
--- fields that are no lists, of which the rules of caching read the first line alone
+-- fields that are no lists; the rules of caching read only their first line
 abbrev pub singletons : List (List ℕ)
 singletons =
     codes "age"
@@ -16,21 +16,18 @@ singletons =
     ∷ codes "last-modified"
     ∷ []
 
--- the name is one of them
 unfoldable pub is_singleton : List ℕ → Bool
 is_singleton name = list_any (bytes_eq name) singletons
 
--- lines in order, with `, ` before each but the first
 abbrev pub joined_text : List (List ℕ) → List ℕ
 joined_text [] = []
 joined_text (line ∷ lines) = line ++ flat_map comma_and_text lines
 
--- the lines of Set-Cookie are no list, but all count; and a line that isn't text has no pieces, so
--- that the pieces of the others would be lost beside it
+-- Set-Cookie is no list, but all its lines count. A line that isn't text has no pieces, and would
+-- hide the others if it were joined to them.
 abbrev pub stays_apart : List ℕ → List (List ℕ) → Bool
 stays_apart name lines = bytes_eq name (codes "set-cookie") || not (list_all is_text lines)
 
--- the lines of a name on one line, or the first line of a singleton
 abbrev pub joined_values : List ℕ → List (List ℕ) → List (List ℕ)
 joined_values name [] = []
 joined_values name (line ∷ lines) =
@@ -38,6 +35,5 @@ joined_values name (line ∷ lines) =
     else if stays_apart name (line ∷ lines) then line ∷ lines
     else joined_text (line ∷ lines) ∷ []
 
--- the headers with one line for each of these names
 unfoldable pub joined_headers : Headers → Headers
 joined_headers h = with_values (λ name. joined_values name (values h name)) h

@@ -6,19 +6,18 @@ use Rattle.http_uri.specs.declared.uri.Uri.{Uri}
 use Rattle.http_uri.specs.Uri.{uri_eq}
 use Rattle.http_cache_fields.specs.Headers.{Headers, headers_of}
 
--- a request: its target, which targets it takes for its own, its method and its headers
+-- `is_same_target` decides which targets the request takes for its own
 pub record RequestSeen : Type 0 where
   pub target : Uri
   pub is_same_target : Uri → Bool
   pub method : List ℕ
   pub headers : Headers
 
--- a response: its status and its headers
 pub record ResponseSeen : Type 0 where
   pub status : ℕ
   pub headers : Headers
 
--- what is read of the head of a request, which compares targets as their library does
+-- targets are compared as their library does
 abbrev pub request_seen : RequestParts → RequestSeen
 request_seen r = record {
   target = r.uri;
@@ -27,6 +26,5 @@ request_seen r = record {
   headers = headers_of r.headers;
 }
 
--- what is read of the head of a response
 abbrev pub response_seen : ResponseParts → ResponseSeen
 response_seen r = record { status = r.status; headers = headers_of r.headers }

@@ -1,4 +1,4 @@
--- Why a response may be stored, or may not (RFC 7234, section 3).
+-- Why a response may be stored or not (RFC 7234, section 3).
 use Rattle.std.specs.Prelude.{Bool, true, false, not, ◌&&◌, ◌||◌, List, [], ◌∷◌, codes, Option, Some, None, is_none}
 use Rattle.std.specs.Prelude.{if◌then◌else◌}
 use Rattle.http_cache_fields.specs.Headers.{contains_key}
@@ -14,7 +14,7 @@ use Rattle.http_cache_rules.specs.declared.storability.Obstacles.{Obstacles}
 use Rattle.http_cache_rules.specs.declared.storability.Storability.{Storability}
 use Rattle.http_cache_rules.specs.declared.storability.Storability.TheVariants.{Allowed, Forbidden}
 
--- what lets a response be stored, one row for each
+-- the rules that allow to store a response, in order
 abbrev pub permission_rows : Exchange → List (Bool × Permission)
 permission_rows e =
     let ds = stored_directives e in
@@ -25,11 +25,9 @@ permission_rows e =
     ∷ (is_status_cacheable_by_default e.status, Status)
     ∷ []
 
--- the first that does
 abbrev pub permission : Exchange → Option Permission
 permission e = first_said (permission_rows e)
 
--- of each condition that forbids it whether it holds
 abbrev pub obstacles : Exchange → Obstacles
 obstacles e =
     let ds = stored_directives e in
@@ -45,7 +43,6 @@ obstacles e =
       no_permission = is_none (permission e);
     }
 
--- one of them holds
 abbrev pub is_any : Obstacles → Bool
 is_any o =
     o.request_no_store
@@ -56,7 +53,6 @@ is_any o =
     || o.authorization
     || o.no_permission
 
--- it may be stored for what lets it, where nothing forbids it
 abbrev pub storability_by : Option Permission → Obstacles → Storability
 storability_by None os = Forbidden os
 storability_by (Some p) os = if is_any os then Forbidden os else Allowed p
@@ -64,7 +60,6 @@ storability_by (Some p) os = if is_any os then Forbidden os else Allowed p
 unfoldable pub storability : Exchange → Storability
 storability e = storability_by (permission e) (obstacles e)
 
--- the answer is that it may be stored
 abbrev pub is_allowed : Storability → Bool
 is_allowed (Allowed p) = true
 is_allowed (Forbidden os) = false

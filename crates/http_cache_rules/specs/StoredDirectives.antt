@@ -1,10 +1,9 @@
--- What the rules ask of the directives of a stored response.
+-- The directives of a stored response that the rules use.
 use Rattle.std.specs.Prelude.{List, codes}
 use Rattle.http_cache_fields.specs.Directives.{Directive, has}
 use Rattle.http_cache_rules.specs.DeltaSeconds.{delta_seconds_under}
 use Rattle.http_cache_rules.specs.declared.stored_directives.StoredDirectives.{StoredDirectives}
 
--- of each directive whether it is there, or what it says
 abbrev pub stored_directives_of : List Directive → StoredDirectives
 stored_directives_of ds = record {
   no_store = has ds (codes "no-store");

@@ -6,23 +6,21 @@ use Rattle.http_cache_fields.specs.Headers.{Headers, values, RefusesValue}
 use Rattle.http_cache_rules.specs.Forwarding.{without_named, forwarded_headers}
 use Rattle.http_cache_rules.specs.Renewed.{names_of_body}
 
--- the fields of a 304 that update stored ones: none of one hop, and none that describes the body
+-- connection-specific fields and those that describe the body don't update
 abbrev pub updating_fields : Headers → Headers
 updating_fields h = without_named names_of_body (forwarded_headers h)
 
--- the values of a name, as received if there are any, else as stored
+-- the values of the 304, or else the stored ones
 abbrev pub updated_values : Headers → Headers → List ℕ → Option (List (List ℕ))
 updated_values stored new name = option_or (fin.get new name) (fin.get stored name)
 
--- each name has the values that the 304 has for it, else the stored ones
 abbrev pub AreUpdated : Headers → Headers → Headers → Type 0
 AreUpdated stored received h =
     (name : List ℕ) → fin.get h name ≡ updated_values stored (updating_fields received) name
 
--- ---- where they have no room
+-- ---- if they have no room
 
--- some headers of which each name has the first of the values that it is to have, and a name with
--- values to come for which there is no room
+-- some headers with the first values of each name, and a name whose next value has no room
 pub record HasNoRoom (whole : List ℕ → Option (List (List ℕ))) : Type 0 where
   pub part : Headers
   pub others : (name : List ℕ)
@@ -33,7 +31,7 @@ pub record HasNoRoom (whole : List ℕ → Option (List (List ℕ))) : Type 0 wh
   pub missing : values part name ++ value ∷ rest ≡ unwrap_or (whole name) []
   pub full : RefusesValue part name
 
--- the headers with the first of the values of a name that isn't in them, and no room for the next
+-- the headers with the first values of an absent name, and no room for the next
 pub record StopsAt (old stored : Headers) (name : List ℕ) : Type 0 where
   pub absent : fin.get old name ≡ None
   pub part : Headers

@@ -1,5 +1,5 @@
-//! What the conditions of a request say of a stored response (RFC 9110, sections 13.1 and 13.2.2).
-//! Nothing here allocates.
+//! Evaluates If-None-Match and If-Modified-Since against a stored response (RFC 9110, sections 13.1
+//! and 13.2.2). Nothing here allocates.
 ghost use Rattle.std.specs.Prelude.{◌≡◌, ◌∷◌, ◌<◌, [], ℕ, List, length, bytes_eq, option_copied, MatchOption};
 ghost use Rattle.std.specs.Prelude.{option_map, unwrap_or, false, codes};
 ghost use Rattle.std.specs.List.{list_any};
@@ -15,7 +15,7 @@ use http_cache_fields::headers::{contains_key, first_text};
 use http_cache_fields::text::trim;
 use httpdate::HttpDate;
 
-// The first opaque tag of a text, and what follows its second quote.
+// Returns the first opaque tag of a text, and the text after its second quote.
 fn first_tag(text: &str) -> Option<(&str, &str)>
     ensures { MatchOption result (opaque_tags text.now ≡ [])
         (λ cut. (opaque_tags text.now ≡ cut.0.now ∷ opaque_tags cut.1.now)
@@ -27,7 +27,6 @@ fn first_tag(text: &str) -> Option<(&str, &str)>
     }
 }
 
-// Whether a line has an opaque tag.
 fn has_opaque(line: &str, opaque: &str) -> bool
     ensures { result ≡ list_any (bytes_eq opaque.now) (opaque_tags line.now) }
 {
@@ -41,7 +40,7 @@ fn has_opaque(line: &str, opaque: &str) -> bool
     false
 }
 
-// Whether a line has a stored tag by weak comparison (RFC 9110, section 8.8.3.2).
+// Compares weakly (RFC 9110, section 8.8.3.2).
 fn has_tag(line: &str, tag: &str) -> bool
     ensures { result ≡ has_tag line.now tag.now }
 {
@@ -51,7 +50,7 @@ fn has_tag(line: &str, tag: &str) -> bool
     }
 }
 
-// Whether a line of If-None-Match names the stored response (RFC 9110, section 13.1.2).
+// RFC 9110, section 13.1.2.
 fn names_stored(tag: Option<&str>, line: &str) -> bool
     ensures { result ≡ names_stored (option_copied tag.entry) line.now }
 {
@@ -64,7 +63,6 @@ fn names_stored(tag: Option<&str>, line: &str) -> bool
     }
 }
 
-// Whether a value of If-None-Match is text, and names the stored response.
 fn is_named_by(value: &HeaderValue, tag: Option<&str>) -> bool
     ensures { result ≡ list_any (names_stored (option_copied tag.entry))
         (text_lines (value.now.bytes ∷ [])) }
@@ -75,7 +73,6 @@ fn is_named_by(value: &HeaderValue, tag: Option<&str>) -> bool
     }
 }
 
-// Whether a line of If-None-Match names the stored response.
 fn is_named(request: &HeaderMap, tag: Option<&str>) -> bool
     ensures { result ≡ list_any (names_stored (option_copied tag.entry))
         (text_lines (values (headers_of request.now) (codes "if-none-match"))) }
@@ -89,7 +86,7 @@ fn is_named(request: &HeaderMap, tag: Option<&str>) -> bool
     false
 }
 
-// The only If-Modified-Since, if it is text.
+// Several values make the field unreadable (RFC 9110, section 13.1.3).
 fn only_date(request: &HeaderMap) -> Option<&str>
     ensures { option_copied result
         ≡ only_text (headers_of request.now) (codes "if-modified-since") }
@@ -104,7 +101,7 @@ fn only_date(request: &HeaderMap) -> Option<&str>
     }
 }
 
-// The second of a date in any of the three forms of HTTP (RFC 9110, section 5.6.7).
+// Reads any of the three forms of an HTTP date (RFC 9110, section 5.6.7).
 fn second_of(text: &str) -> Option<u64>
     ensures { result ≡ parse_secs text.now }
 {
@@ -114,14 +111,13 @@ fn second_of(text: &str) -> Option<u64>
     }
 }
 
-// The second of If-Modified-Since.
 fn asked_since(request: &HeaderMap) -> Option<u64>
     ensures { result ≡ asked_since (headers_of request.now) }
 {
     second_of(only_date(request)?)
 }
 
-// The second of the stored last change.
+// Date stands in for a missing Last-Modified (RFC 9111, section 4.3.2).
 fn last_change(stored: &HeaderMap) -> Option<u64>
     ensures { result ≡ last_change (headers_of stored.now) }
 {
@@ -131,7 +127,6 @@ fn last_change(stored: &HeaderMap) -> Option<u64>
     }
 }
 
-// Whether both seconds are known, and the change isn't after the other.
 fn is_unchanged(changed: Option<u64>, since: Option<u64>) -> bool
     ensures { result ≡ is_unchanged changed since }
 {
@@ -141,9 +136,10 @@ fn is_unchanged(changed: Option<u64>, since: Option<u64>) -> bool
     }
 }
 
-/// Returns whether the conditions of a request say that it has the stored response already, by the
-/// stored headers: If-None-Match, and only where there is none If-Modified-Since (RFC 9110, section
-/// 13.2.2). The method and the status aren't looked at.
+/// Returns whether a request's conditions say that the client has the stored response already.
+///
+/// If-None-Match decides, or If-Modified-Since if there is none (RFC 9110, section 13.2.2). The
+/// method and the status aren't examined.
 #[tactic(auto, unfolding(crate::specs::Conditions::has_stored_already))]
 pub fn has_stored_already(stored: &HeaderMap, request: &HeaderMap) -> bool
     ensures { result ≡ has_stored_already (headers_of stored.now) (headers_of request.now) }

@@ -1,24 +1,24 @@
-//! The seconds that a directive gives (RFC 7234, section 1.2.1).
+//! Reads the value of a directive that counts seconds (RFC 7234, section 1.2.1).
 ghost use Rattle.std.specs.Prelude.{◌≡◌, Option, Some, None, option_copied};
 ghost use Rattle.http_cache_rules.specs.DeltaSeconds.{said_by_value, is_said, number_in, seconds_in};
 
 use http_cache_fields::text::number;
 
-/// What a directive that counts seconds says.
+/// The value of a directive that counts seconds.
 #[derive(Clone, Copy, Debug, PartialEq, Eq)]
 pub enum DeltaSeconds {
-    /// The directive isn't there.
+    /// The directive is missing.
     Absent,
-    /// It has no value.
+    /// The directive has no value.
     WithoutValue,
-    /// Its value is no number.
+    /// The value isn't a number.
     NoNumber,
-    /// Its value is this number.
+    /// The number of seconds.
     Number(u64),
 }
 
 impl DeltaSeconds {
-    /// What a directive that is there says by its value.
+    /// Returns the reading of a directive that is present, by its value.
     pub fn of_value(value: Option<&str>) -> DeltaSeconds
         ensures { result ≡ said_by_value (Some (option_copied value.entry)) }
     {
@@ -31,7 +31,7 @@ impl DeltaSeconds {
         }
     }
 
-    /// Whether the directive is there.
+    /// Returns whether the directive is present.
     pub fn is_said(self) -> bool
         ensures { result ≡ is_said self }
     {
@@ -41,7 +41,7 @@ impl DeltaSeconds {
         }
     }
 
-    /// The number, if there is one.
+    /// Returns the number, if there is one.
     pub fn number(self) -> Option<u64>
         ensures { result ≡ number_in self }
     {
@@ -51,7 +51,7 @@ impl DeltaSeconds {
         }
     }
 
-    /// The seconds of a directive that is there and has a value. What is no number counts as 0.
+    /// Returns the seconds of a directive that has a value. A value that is no number counts as 0.
     pub fn seconds(self) -> Option<u64>
         ensures { result ≡ seconds_in self }
     {

@@ -1,4 +1,4 @@
-//! The headers of a message that is passed on (RFC 7230, section 6.1).
+//! Removes the connection-specific fields of a message that is forwarded (RFC 7230, section 6.1).
 ghost use Rattle.std.specs.Prelude.{◌≡◌, map, IfOk};
 ghost use Rattle.http_cache_fields.specs.Headers.{headers_of};
 ghost use Rattle.http_cache_rules.specs.Forwarding.{without_named, forwarded_headers};
@@ -9,7 +9,7 @@ use http_cache_fields::headers::{copy_of_map, remove};
 use http_cache_fields::pieces::{Commas, pieces_under};
 use std::alloc::AllocError;
 
-// They speak of one connection alone, whether Connection spells them or not.
+// They are connection-specific whether Connection lists them or not.
 const CONNECTION_FIELDS: [&str; 9] = [
     "connection",
     "keep-alive",
@@ -32,23 +32,23 @@ pub(crate) fn remove_all(headers: &mut HeaderMap, names: &[&str])
     }
 }
 
-// Takes away the names that texts spell, in any case.
-fn remove_spelled(headers: &mut HeaderMap, spelled: Commas<'_>)
-    ensures { headers_of headers.new ≡ without_named spelled.entry (headers_of headers.old) }
+fn remove_listed(headers: &mut HeaderMap, listed: Commas<'_>)
+    ensures { headers_of headers.new ≡ without_named listed.entry (headers_of headers.old) }
 {
-    for name in spelled {
+    for name in listed {
         remove(headers, name);
     }
 }
 
-/// Returns the headers of a message as a proxy passes them on: all values of each name, but not
-/// the names that concern one connection nor those that Connection lists (RFC 7230, section 6.1).
+/// Returns the header fields that a proxy forwards, with all values of each name.
+///
+/// Connection-specific fields and those that Connection lists are removed (RFC 7230, section 6.1).
 #[tactic(auto, unfolding(crate::specs::Forwarding::forwarded_headers))]
 pub fn forwarded_headers(headers: &HeaderMap) -> Result<HeaderMap, AllocError>
     ensures { IfOk result (λ out. headers_of out ≡ forwarded_headers (headers_of headers.now)) }
 {
     let mut out = copy_of_map(headers)?;
     remove_all(&mut out, &CONNECTION_FIELDS);
-    remove_spelled(&mut out, pieces_under(headers, CONNECTION));
+    remove_listed(&mut out, pieces_under(headers, CONNECTION));
     Ok(out)
 }

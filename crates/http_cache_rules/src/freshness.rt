@@ -1,44 +1,43 @@
-//! How long a response stays fresh, and what decides that.
+//! What decides a freshness lifetime, and its text. Adding a source changes `lifetime` too.
 ghost use Rattle.std.specs.Prelude.{◌≡◌};
 ghost use Rattle.http_cache_rules.specs.DisplayText.{source_words};
 
 use std::fmt;
 use std::time::Duration;
 
-/// What decides how long a response stays fresh: the first that applies (RFC 7234, section 4.2.1).
+/// The rule that decides a freshness lifetime: the first that applies (RFC 7234, section 4.2.1).
 #[derive(Clone, Copy, Debug, PartialEq, Eq)]
 pub enum LifetimeSource {
-    /// It may not be stored: zero.
+    /// The response may not be stored, so the lifetime is zero (RFC 7234, section 3).
     NotStorable,
-    /// It says `no-cache`: zero (RFC 7234, section 5.2.2.2).
+    /// `no-cache` makes the lifetime zero (RFC 7234, section 5.2.2.2).
     NoCache,
-    /// It sets cookies, says neither `public` nor `immutable`, and the cache is shared: zero.
+    /// The response sets cookies, and is neither `public` nor `immutable`: zero in a shared cache.
     OwnCookies,
-    /// Its first Vary is `*`: zero (RFC 7234, section 4.1).
+    /// The first Vary is `*`: zero (RFC 7234, section 4.1).
     VaryAny,
-    /// It says `proxy-revalidate`, and the cache is shared: zero.
+    /// `proxy-revalidate` makes the lifetime zero in a shared cache (RFC 7234, section 5.2.2.7).
     ProxyRevalidate,
-    /// Its `s-maxage`, as the cache is shared (RFC 7234, section 5.2.2.9).
+    /// `s-maxage`, in a shared cache (RFC 7234, section 5.2.2.9).
     SMaxage,
-    /// Its `max-age` (RFC 7234, section 5.2.2.8).
+    /// `max-age` (RFC 7234, section 5.2.2.8).
     MaxAge,
-    /// Its Expires, which is no date: zero (RFC 7234, section 5.3).
+    /// An Expires that is no date: zero (RFC 7234, section 5.3).
     UnreadableExpires,
-    /// Its Expires, which isn't after Date: zero.
+    /// An Expires that isn't after Date: zero.
     PastExpires,
-    /// Its Expires, seen from Date (RFC 7234, section 5.3).
+    /// Expires less Date (RFC 7234, section 5.3).
     Expires,
     /// A part of the time since Last-Modified (RFC 7234, section 4.2.2).
     LastModified,
-    /// It is `immutable`: the least lifetime of such a response, where Expires or Last-Modified gives
-    /// less, or nothing says how long.
+    /// The least lifetime of an `immutable` response, if Expires or Last-Modified yields less or is
+    /// missing (RFC 8246, section 2).
     Immutable,
     /// Nothing says how long: zero.
     Nothing,
 }
 
 impl LifetimeSource {
-    // The words of the headers for it.
     fn words(self) -> &'static str
         ensures { result.now ≡ source_words self }
     {
@@ -60,13 +59,13 @@ impl LifetimeSource {
     }
 }
 
-/// How long a response stays fresh, and what decides that. Its text has the lifetime in whole
-/// seconds, where that isn't zero for want of anything else.
+/// A freshness lifetime and its source. Its text has whole seconds, unless its source always means
+/// zero.
 #[derive(Clone, Copy, Debug, PartialEq, Eq)]
 pub struct Freshness {
-    /// What decides it.
+    /// The rule that decides the lifetime.
     pub source: LifetimeSource,
-    /// The whole lifetime, from when the response was made.
+    /// The whole lifetime, counted from when the origin server made the response.
     pub lifetime: Duration,
 }
 

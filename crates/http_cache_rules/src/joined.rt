@@ -1,4 +1,4 @@
-//! One field line for each name (RFC 9110, section 5.3).
+//! Combines the field lines of each name (RFC 9110, section 5.3).
 ghost use Rattle.std.specs.Prelude.{◌≡◌, true, Some, None, string_bytes, option_map, IfOk, OnOk, if◌then◌else◌};
 ghost use Rattle.std.specs.List.{list_all};
 ghost use Rattle.http_cache_fields.specs.Text.{is_text};
@@ -10,7 +10,6 @@ use http::header::{GetAll, HeaderName, HeaderValue};
 use http_cache_fields::headers::{contains_key, copy_of_map, replace, reveal_header_map, value_of};
 use std::alloc::{AllocError, Global};
 
-// Whether a name is of a field that is no list.
 #[tactic(auto, unfolding(crate::specs::Joined::is_singleton))]
 fn is_singleton(name: &HeaderName) -> bool
     ensures { result ≡ is_singleton name.now }
@@ -21,7 +20,6 @@ fn is_singleton(name: &HeaderName) -> bool
     )
 }
 
-// The lines in order on one line, if each of them is text.
 fn joined_text(alloc: Global, lines: GetAll<'_, HeaderValue>) -> Result<Option<String>, AllocError>
     ensures { IfOk result (λ line. option_map string_bytes line
         ≡ (if list_all is_text (bytes_of lines.entry)
@@ -40,7 +38,6 @@ fn joined_text(alloc: Global, lines: GetAll<'_, HeaderValue>) -> Result<Option<S
     Ok(Some(joined))
 }
 
-// Leaves a name its first line alone.
 fn retain_first(map: &mut HeaderMap, name: &HeaderName) -> Result<(), AllocError>
     requires { is_singleton name.now ≡ true }
     ensures { OnOk result (ChangesUnder name.now (option_map (joined_values name.now))
@@ -55,7 +52,6 @@ fn retain_first(map: &mut HeaderMap, name: &HeaderName) -> Result<(), AllocError
     Ok(())
 }
 
-// Puts the lines of a name on one line, if each is text, and leaves a singleton its first.
 fn join_lines(alloc: Global, map: &mut HeaderMap, name: &HeaderName) -> Result<(), AllocError>
     ensures { OnOk result (ChangesUnder name.now (option_map (joined_values name.now))
         (headers_of map.old) (headers_of map.new)) }
@@ -74,9 +70,11 @@ fn join_lines(alloc: Global, map: &mut HeaderMap, name: &HeaderName) -> Result<(
     Ok(())
 }
 
-/// Returns the headers with one line for each name: its lines in order, with `, ` between them
-/// (RFC 9110, section 5.3). Set-Cookie keeps its lines, as does a name with a line that isn't text;
-/// Age, Date, ETag, Expires and Last-Modified, which are no lists, keep their first line.
+/// Returns the headers with one line for each name: its lines in order, with `, ` between them (RFC
+/// 9110, section 5.3).
+///
+/// Set-Cookie keeps its lines, as does a name with a line that isn't text. Age, Date, ETag, Expires
+/// and Last-Modified are no lists, and keep their first line.
 pub fn joined_headers(alloc: Global, headers: &HeaderMap) -> Result<HeaderMap, AllocError>
     ensures { IfOk result (λ out. headers_of out ≡ joined_headers (headers_of headers.now)) }
 {

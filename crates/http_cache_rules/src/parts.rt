@@ -1,14 +1,14 @@
-//! What is kept of a request and its response.
+//! The parts of an exchange that a cache keeps.
 use crate::options::CacheOptions;
 use http::{HeaderMap, Method, StatusCode, Uri};
 use jiff::Timestamp;
 
-/// A request, the response that came for it, and when it came.
+/// A request, its response, and when the response was received.
 #[derive(Debug, Drop)]
 pub struct StoredParts {
-    /// The target of the request.
+    /// The target URI of the request.
     pub target: Uri,
-    /// Its method.
+    /// The method of the request.
     pub method: Method,
     /// The status of the response.
     pub status: StatusCode,
@@ -16,8 +16,8 @@ pub struct StoredParts {
     pub request_headers: HeaderMap,
     /// The headers of the response.
     pub response_headers: HeaderMap,
-    /// How a cache is to behave.
+    /// The options of the cache.
     pub options: CacheOptions,
-    /// When the response came.
+    /// The time at which the response was received.
     pub response_time: Timestamp,
 }

@@ -1,4 +1,4 @@
-//! Why a response may be stored, or may not (RFC 7234, section 3).
+//! Explains why a response may be stored or not (RFC 7234, section 3).
 ghost use Rattle.std.specs.Prelude.{◌≡◌, is_none, codes};
 ghost use Rattle.http_cache_fields.specs.Directives.{has};
 ghost use Rattle.http_cache_rules.specs.Exchange.{exchange_in, stored_directives, request_directives};
@@ -15,18 +15,18 @@ use http::header::{AUTHORIZATION, EXPIRES};
 use http_cache_fields::headers::contains_key;
 use std::fmt;
 
-/// What lets a response be stored: the first of these that does (RFC 7234, section 3).
+/// The first rule that allows to store a response (RFC 7234, section 3).
 #[derive(Clone, Copy, Debug, PartialEq, Eq)]
 pub enum Permission {
-    /// It has Expires.
+    /// The response has Expires.
     Expires,
-    /// It says `max-age`.
+    /// The response has `max-age`.
     MaxAge,
-    /// It says `s-maxage`, and the cache is shared.
+    /// The response has `s-maxage`, and the cache is shared.
     SMaxage,
-    /// It says `public`.
+    /// The response has `public`.
     Public,
-    /// Its status is cacheable by default (RFC 7231, section 6.1).
+    /// The status is cacheable by default (RFC 7231, section 6.1).
     Status,
 }
 
@@ -48,24 +48,25 @@ impl fmt::Display for Permission {
     }
 }
 
-/// Of each condition that forbids to store a response, whether it holds (RFC 7234, section 3).
+/// The conditions that forbid to store a response, each with whether it holds (RFC 7234, section
+/// 3).
 #[derive(Clone, Copy, Debug, PartialEq, Eq)]
 pub struct Obstacles {
-    /// The request says `no-store` (RFC 7234, section 5.2.1.5).
+    /// The request has `no-store` (RFC 7234, section 5.2.1.5).
     pub request_no_store: bool,
-    /// The method isn't cacheable: GET and HEAD are, and POST where the response says when it
-    /// expires (RFC 7231, section 4.2.3).
+    /// The method isn't cacheable. GET and HEAD are, and POST with an explicit lifetime (RFC 7231,
+    /// section 4.2.3).
     pub method: bool,
-    /// The status isn't understood.
+    /// The cache doesn't understand the status (RFC 7234, section 3).
     pub status: bool,
-    /// The response says `no-store` (RFC 7234, section 5.2.2.3).
+    /// The response has `no-store` (RFC 7234, section 5.2.2.3).
     pub response_no_store: bool,
-    /// The response says `private`, and the cache is shared (RFC 7234, section 5.2.2.6).
+    /// The response has `private`, and the cache is shared (RFC 7234, section 5.2.2.6).
     pub private: bool,
-    /// The request has Authorization, nothing lets the response out all the same, and the cache is
-    /// shared (RFC 7234, section 3.2).
+    /// The request has Authorization, and no directive allows a shared cache to store its response
+    /// (RFC 7234, section 3.2).
     pub authorization: bool,
-    /// Nothing lets it be stored: there is no `Permission`.
+    /// No `Permission` applies.
     pub no_permission: bool,
 }
 
@@ -74,7 +75,7 @@ impl Obstacles {
     ghost use Rattle.http_cache_rules.specs.Storability.{is_any};
     ghost use Rattle.http_cache_rules.specs.DisplayText.{obstacle_rows};
 
-    /// Whether one of them holds.
+    /// Returns whether any condition holds.
     pub fn is_any(&self) -> bool
         ensures { result ≡ is_any self.now }
     {
@@ -87,7 +88,6 @@ impl Obstacles {
             || self.no_permission
     }
 
-    // Each with the words for it.
     fn with_words(&self) -> [(bool, &'static str); 7]
         ensures { map (λ row. (row.0, row.1.now)) result ≡ obstacle_rows self.now }
     {
@@ -122,12 +122,12 @@ impl fmt::Display for Obstacles {
     }
 }
 
-/// Why a response may be stored, or may not.
+/// Why a response may be stored or not.
 #[derive(Clone, Copy, Debug, PartialEq, Eq)]
 pub enum Storability {
-    /// It may be stored, for what lets it.
+    /// The response may be stored, by this rule.
     Allowed(Permission),
-    /// It may not be stored: one of the conditions holds at least.
+    /// The response may not be stored. At least one condition holds.
     Forbidden(Obstacles),
 }
 
@@ -145,7 +145,6 @@ impl fmt::Display for Storability {
     }
 }
 
-// What lets the response be stored, the first of all that does.
 fn permission_of(parts: &StoredParts, directives: &StoredDirectives) -> Option<Permission>
     ensures { directives.now ≡ stored_directives_of (stored_directives (exchange_in parts.now))
         → result ≡ permission (exchange_in parts.now) }
@@ -168,7 +167,6 @@ fn permission_of(parts: &StoredParts, directives: &StoredDirectives) -> Option<P
     None
 }
 
-// Which conditions forbid to store the response, by whether nothing lets it be stored too.
 fn obstacles_of(
     parts: &StoredParts,
     request_no_store: bool,
@@ -194,8 +192,9 @@ fn obstacles_of(
     }
 }
 
-/// Why the response may be stored, or may not, by whether its request says `no-store` and by its
-/// directives.
+/// Returns why the response may be stored or not (RFC 7234, section 3).
+///
+/// The caller passes whether the request has `no-store`, and the directives of the response.
 #[tactic(auto, unfolding(crate::specs::Storability::storability))]
 pub fn storability_of(
     parts: &StoredParts,

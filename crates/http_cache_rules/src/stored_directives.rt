@@ -1,46 +1,45 @@
-//! What the rules ask of the directives of a stored response.
+//! Reads the directives of a stored response that the rules use.
 ghost use Rattle.std.specs.Prelude.{◌≡◌, ℕ, List, option_map, option_copied, IfOk};
 ghost use Rattle.http_cache_fields.specs.Headers.{headers_of};
 ghost use Rattle.http_cache_fields.specs.Directives.{directives, cache_control};
 ghost use Rattle.http_cache_fields.specs.Pragma.{with_no_cache, with_pragma};
 ghost use Rattle.http_cache_rules.specs.DeltaSeconds.{said_by_value};
 ghost use Rattle.http_cache_rules.specs.StoredDirectives.{stored_directives_of};
-ghost use Rattle.http_cache_rules.specs.Told.{IsTold};
+ghost use Rattle.http_cache_rules.specs.KnownDirectives.{AreKnownDirectives};
 
 use crate::delta_seconds::DeltaSeconds;
-use crate::told::{Said, told_by};
+use crate::known_directives::{Said, read_known};
 use http_cache_fields::pragma::pragma_stands_in;
 use http_header::HeaderMap;
 use std::alloc::{AllocError, Global};
 
-/// What storability, the lifetime and the use of a stale response ask of the directives, found once.
+/// The directives that storability, the lifetime and the use of a stale response depend on.
 #[derive(Clone, Copy, Debug)]
 pub struct StoredDirectives {
-    /// Whether no-store is there.
+    /// Whether `no-store` is present.
     pub no_store: bool,
-    /// Whether no-cache is there.
+    /// Whether `no-cache` is present.
     pub no_cache: bool,
-    /// Whether private is there.
+    /// Whether `private` is present.
     pub private: bool,
-    /// Whether public is there.
+    /// Whether `public` is present.
     pub public: bool,
-    /// Whether must-revalidate is there.
+    /// Whether `must-revalidate` is present.
     pub must_revalidate: bool,
-    /// Whether proxy-revalidate is there.
+    /// Whether `proxy-revalidate` is present.
     pub proxy_revalidate: bool,
-    /// Whether immutable is there.
+    /// Whether `immutable` is present.
     pub immutable: bool,
-    /// What s-maxage says.
+    /// The value of `s-maxage`.
     pub s_maxage: DeltaSeconds,
-    /// What max-age says.
+    /// The value of `max-age`.
     pub max_age: DeltaSeconds,
-    /// What stale-while-revalidate says (RFC 5861, section 3).
+    /// The value of `stale-while-revalidate` (RFC 5861, section 3).
     pub stale_while_revalidate: DeltaSeconds,
-    /// What stale-if-error says (RFC 5861, section 4).
+    /// The value of `stale-if-error` (RFC 5861, section 4).
     pub stale_if_error: DeltaSeconds,
 }
 
-// What a directive says that counts seconds, if it is there.
 fn delta_seconds(said: Said<'_>) -> DeltaSeconds
     ensures { result ≡ said_by_value (option_map option_copied said.entry) }
 {
@@ -50,9 +49,8 @@ fn delta_seconds(said: Said<'_>) -> DeltaSeconds
     }
 }
 
-// What directives say that were read, where a Pragma may say no-cache.
 fn found_in(asked: [Said<'_>; 11], conflict: bool, no_cache: bool) -> StoredDirectives
-    ensures { (pieces : List (List ℕ)) → IsTold pieces asked.entry conflict
+    ensures { (pieces : List (List ℕ)) → AreKnownDirectives pieces asked.entry conflict
         → result ≡ stored_directives_of (with_no_cache no_cache (directives pieces)) }
 {
     StoredDirectives {
@@ -71,13 +69,14 @@ fn found_in(asked: [Said<'_>; 11], conflict: bool, no_cache: bool) -> StoredDire
 }
 
 impl StoredDirectives {
-    /// What the directives of a response say, those of a Pragma too that stands in for them.
+    /// Returns the directives of a response. Pragma counts if there is no Cache-Control (RFC 7234,
+    /// section 5.4).
     #[tactic(auto, unfolding(http_cache_fields::specs::Pragma::with_pragma))]
     pub fn of(alloc: Global, res: &HeaderMap) -> Result<StoredDirectives, AllocError>
         ensures { IfOk result (λ found. found ≡ stored_directives_of
             (with_pragma (headers_of res.now) (cache_control (headers_of res.now)))) }
     {
-        let (asked, conflict) = told_by(alloc, res)?;
+        let (asked, conflict) = read_known(alloc, res)?;
         Ok(found_in(asked, conflict, pragma_stands_in(res)))
     }
 }

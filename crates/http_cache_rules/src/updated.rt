@@ -1,4 +1,4 @@
-//! The stored fields after a 304, new names too (RFC 9111, section 3.2).
+//! Updates the stored fields after a 304, new names too (RFC 9111, section 3.2).
 ghost use Rattle.std.specs.Prelude.{◌≡◌, ◌⊎◌, IfOk, IfErr, OnOk, IsErrOf};
 ghost use Rattle.std.specs.Option.{option_or};
 ghost use Rattle.std.specs.FinMap as fin;
@@ -12,7 +12,6 @@ use http_cache_fields::CacheError;
 use http_cache_fields::headers::{append, contains_key, reveal_header_map};
 use std::alloc::AllocError;
 
-// They describe the body, which a 304 doesn't have.
 const FIELDS_OF_BODY: [&str; 4] = [
     "content-length",
     "content-encoding",
@@ -20,7 +19,6 @@ const FIELDS_OF_BODY: [&str; 4] = [
     "content-range",
 ];
 
-// The fields of a 304 that update stored ones.
 fn updating_fields(received: &HeaderMap) -> Result<HeaderMap, AllocError>
     ensures { IfOk result (λ out. headers_of out ≡ updating_fields (headers_of received.now)) }
 {
@@ -29,7 +27,6 @@ fn updating_fields(received: &HeaderMap) -> Result<HeaderMap, AllocError>
     Ok(fields)
 }
 
-// Adds the stored values of a name that isn't there.
 fn add_missing(out: &mut HeaderMap, name: &HeaderName, stored: &HeaderMap) -> Result<(), CacheError>
     ensures ok { OnOk result (ChangesUnder name.now
         (λ o. option_or o (fin.get (headers_of stored.now) name.now))
@@ -50,8 +47,9 @@ fn add_missing(out: &mut HeaderMap, name: &HeaderName, stored: &HeaderMap) -> Re
     Ok(())
 }
 
-/// Returns the stored fields with those of a 304, new names too, but for fields of one connection
-/// and those that describe the body (RFC 9111, section 3.2).
+/// Returns the stored fields with those of a 304, new names too (RFC 9111, section 3.2).
+///
+/// Connection-specific fields and those that describe the body aren't updated.
 pub fn updated_headers(stored: &HeaderMap, received: &HeaderMap) -> Result<HeaderMap, CacheError>
     ensures value { IfOk result (λ out.
         AreUpdated (headers_of stored.now) (headers_of received.now) (headers_of out)) }

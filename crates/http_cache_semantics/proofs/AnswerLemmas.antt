@@ -1,4 +1,4 @@
--- An answer to a request is none that is refused.
+-- A request that is answered isn't refused.
 use Rattle.std.proofs.Common.{◌≡◌, ℤ, inl, inr, sym, ◌∙◌, true≢false}
 use Rattle.http_cache_fields.specs.Headers.{headers_of}
 use Rattle.http_cache_policy.specs.Messages.{RequestSeen}
@@ -18,7 +18,6 @@ fresh-room e now h fresh (inr (inl age)) = fresh.age_fits age
 fresh-room e now h fresh (inr (inr date)) = fresh.date_fits date.1
 
 module _ (e : Exchange) (request : RequestSeen) (now : ℤ) where
-  -- each step of an answer had room
   pub answer-room : (answer : BeforeRequest) → is_fresh answer ≡ is_fresh_for e request now
       → WhereFresh (IsFreshParts e now) answer → WhereStale (λ sent _. IsStaleRequest e request sent) answer
       → ¬ (RefusesAnswer e request now)
@@ -29,7 +28,6 @@ module _ (e : Exchange) (request : RequestSeen) (now : ℤ) where
   answer-room (Stale sent matches) verdict fresh stale (inl refused) = true≢false (sym (verdict ∙ refused.0))
   answer-room (Stale sent matches) verdict fresh stale (inr refused) = stale.fits refused.1 refused.2
 
-  -- and the date of a fresh one was printed
   pub answer-dated : (answer : BeforeRequest) → is_fresh answer ≡ is_fresh_for e request now
       → WhereFresh (IsFreshParts e now) answer → ¬ (HasUndatedAnswer e request now)
   unfolding HasNoDate

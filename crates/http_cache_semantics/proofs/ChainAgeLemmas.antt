@@ -14,9 +14,7 @@ use Rattle.http_cache_semantics.specs.ChainLaws.{IsAt, NeverGoDown, whole_second
 use Rattle.http_cache_policy.proofs.AgeLemmas.{elapsed-is}
 use Rattle.http_cache_semantics.proofs.HopLemmas.{received_age-bound, received_age-handed_on}
 
--- ---- one hand-over
-
--- the fresh headers came at the moment
+-- the fresh headers were received at the time
 response_time-handed_on : (e : Exchange) (now : ℤ) (next : Exchange) → IsHandedOn e now next → next.response_time ≡ now
 unfolding kept_exchange
 response_time-handed_on e now next handed = ap (λ (x : Exchange). x.response_time) handed.is_kept
@@ -24,7 +22,7 @@ response_time-handed_on e now next handed = ap (λ (x : Exchange). x.response_ti
 elapsed-through : (a b c : ℤ) → a ≤ℤ b → b ≤ℤ c → elapsed_time (c -ℤ a) ≡ elapsed_time (b -ℤ a) + elapsed_time (c -ℤ b)
 elapsed-through a b c h k = omega (arith, ints, elapsed-is (c -ℤ a), elapsed-is (b -ℤ a), elapsed-is (c -ℤ b))
 
--- the next age, by the seconds r and nanoseconds d before the hand-over and those after it
+-- r seconds and d nanoseconds before the next cache received the response
 no_older_by : (r d later : ℕ)
     → min (min (r + d / 1_000_000_000) (2 ^ 64 - 1) * 1_000_000_000 + later) max_nanos
     ≤ min (r * 1_000_000_000 + (d + later)) max_nanos
@@ -54,19 +52,16 @@ module _ (e : Exchange) (now : ℤ) (next : Exchange) (handed : IsHandedOn e now
       (λ i. min (received_age-handed_on e now next handed i * 1_000_000_000
       + elapsed_time (later -ℤ response_time-handed_on e now next handed i)) max_nanos)
 
-  -- the next cache is no older
   age-handed_on-le : age_at next later ≤ age_at e later
   age-handed_on-le =
       rw (age-here, age-next)
       (no_older_by (received_age e) (elapsed_time (now -ℤ e.response_time)) (elapsed_time (later -ℤ now)))
 
-  -- and less than a second behind
+  -- less than a second is lost
   age-handed_on-near : age_at e later ≤ age_at next later + 999_999_999
   age-handed_on-near =
       rw (age-here, age-next)
       (not_far_by (received_age e) (elapsed_time (now -ℤ e.response_time)) (elapsed_time (later -ℤ now)))
-
--- ---- the whole chain
 
 stops_twice : (r s more : ℕ) → min (min (r + s) (2 ^ 64 - 1) + more) (2 ^ 64 - 1) ≡ min (r + (s + more)) (2 ^ 64 - 1)
 stops_twice r s more = omega arith
@@ -77,34 +72,34 @@ le-trans a b c h k = omega (arith, ints)
 le-refl : (a : ℤ) → a ≤ℤ a
 le-refl a = omega (arith, ints)
 
--- one that is reached is aged like the first, and came no earlier
+-- an exchange that is reached is aged like the first, and was received no earlier
 record IsReached (first : Exchange) (hops : ℕ) (e : Exchange) : Type 0 where
   aged : IsAgedLike first hops e
-  came : first.response_time ≤ℤ e.response_time
+  no_earlier : first.response_time ≤ℤ e.response_time
 
 reached-first : (e : Exchange) → IsReached e 0 e
 reached-first e = record {
   aged = record { no_older = λ now after. omega arith; not_far_behind = λ now after. omega arith };
-  came = le-refl e.response_time;
+  no_earlier = le-refl e.response_time;
 }
 
 reached-next : (e next x : Exchange) (now : ℤ) (hops : ℕ) → e.response_time ≤ℤ now
     → IsHandedOn e now next → IsReached next hops x → IsReached e (suc hops) x
 reached-next e next x now hops before handed rest =
-    let came : now ≤ℤ x.response_time =
-    subst (λ (m : ℤ). m ≤ℤ x.response_time) (response_time-handed_on e now next handed) rest.came in
+    let no_earlier : now ≤ℤ x.response_time =
+    subst (λ (m : ℤ). m ≤ℤ x.response_time) (response_time-handed_on e now next handed) rest.no_earlier in
     record {
       aged = record {
         no_older = λ later after.
-            let since = le-trans now x.response_time later came after in
+            let since = le-trans now x.response_time later no_earlier after in
             let one = age-handed_on-le e now next handed before later since in
             omega (arith, rest.aged.no_older later after, one);
         not_far_behind = λ later after.
-            let since = le-trans now x.response_time later came after in
+            let since = le-trans now x.response_time later no_earlier after in
             let one = age-handed_on-near e now next handed before later since in
             omega (arith, rest.aged.not_far_behind later after, one);
       };
-      came = le-trans e.response_time now x.response_time before came;
+      no_earlier = le-trans e.response_time now x.response_time before no_earlier;
     }
 
 none-behind : (k : ℕ) (e x : Exchange) → IsAt (e ∷ []) (suc k) x → ⊥
@@ -112,47 +107,46 @@ none-behind k e x at = absurd (omega (arith, slice_get_within (e ∷ []) (suc k)
 
 module _ (request : RequestSeen) where
   follow-received : (e : Exchange) (moments : List ℤ) (behind : List Exchange) → Follow request e moments behind
-      → (place : ℕ) (x : Exchange) → IsAt (e ∷ behind) place x → HasReceived moments e place x
+      → (index : ℕ) (x : Exchange) → IsAt (e ∷ behind) index x → HasReceived moments e index x
   follow-received e moments behind chain zero x at =
       let same : e ≡ x = cc in
       subst (HasReceived moments e 0) same (omega (arith, received_age-bound e))
-  follow-received e moments [] chain (suc place) x at = absurd (none-behind place e x at)
-  follow-received e [] (next ∷ behind) chain (suc place) x at =
+  follow-received e moments [] chain (suc index) x at = absurd (none-behind index e x at)
+  follow-received e [] (next ∷ behind) chain (suc index) x at =
       let none = chain in
       absurd (omega (arith, ap length none))
-  follow-received e (now ∷ moments) (next ∷ behind) chain (suc place) x at =
-      follow-received next moments behind chain.2 place x at
+  follow-received e (now ∷ moments) (next ∷ behind) chain (suc index) x at =
+      follow-received next moments behind chain.2 index x at
       ∙ (λ i. min (received_age-handed_on e now next chain.1 i
-      + whole_seconds (response_time-handed_on e now next chain.1 i) (take place moments)) (2 ^ 64 - 1))
+      + whole_seconds (response_time-handed_on e now next chain.1 i) (take index moments)) (2 ^ 64 - 1))
       ∙ stops_twice (received_age e) (elapsed_time (now -ℤ e.response_time) / 1_000_000_000)
-      (whole_seconds now (take place moments))
+      (whole_seconds now (take index moments))
 
   follow-reached : (e : Exchange) (moments : List ℤ) (behind : List Exchange)
       → NeverGoDown e.response_time moments → Follow request e moments behind
-      → (place : ℕ) (x : Exchange) → IsAt (e ∷ behind) place x → IsReached e place x
+      → (index : ℕ) (x : Exchange) → IsAt (e ∷ behind) index x → IsReached e index x
   follow-reached e moments behind order chain zero x at =
       let same : e ≡ x = cc in
       subst (IsReached e 0) same (reached-first e)
-  follow-reached e moments [] order chain (suc place) x at = absurd (none-behind place e x at)
-  follow-reached e [] (next ∷ behind) order chain (suc place) x at =
+  follow-reached e moments [] order chain (suc index) x at = absurd (none-behind index e x at)
+  follow-reached e [] (next ∷ behind) order chain (suc index) x at =
       let none = chain in
       absurd (omega (arith, ap length none))
-  follow-reached e (now ∷ moments) (next ∷ behind) order chain (suc place) x at =
+  follow-reached e (now ∷ moments) (next ∷ behind) order chain (suc index) x at =
       let later : NeverGoDown next.response_time moments =
       subst (λ (m : ℤ). NeverGoDown m moments) (sym (response_time-handed_on e now next chain.1)) order.1 in
-      reached-next e next x now place order.0 chain.1 (follow-reached next moments behind later chain.2 place x at)
+      reached-next e next x now index order.0 chain.1 (follow-reached next moments behind later chain.2 index x at)
 
   module _ (first : Exchange) (moments : List ℤ) (exchanges : List Exchange)
       (chain : IsChain request first moments exchanges) where
-    there : (place : ℕ) (e : Exchange) → IsAt exchanges place e → IsAt (first ∷ chain.behind) place e
-    there place e at = ap (λ es. slice_get es place) (sym chain.are) ∙ at
+    there : (index : ℕ) (e : Exchange) → IsAt exchanges index e → IsAt (first ∷ chain.behind) index e
+    there index e at = ap (λ es. slice_get es index) (sym chain.are) ∙ at
 
-    -- each cache of a chain has received the first one's age and the whole seconds since
-    pub received-along_chain : (place : ℕ) (e : Exchange) → IsAt exchanges place e → HasReceived moments first place e
-    received-along_chain place e at = follow-received first moments chain.behind chain.follow place e (there place e at)
+    -- each cache has received the first Age plus the whole seconds since
+    pub received-along_chain : (index : ℕ) (e : Exchange) → IsAt exchanges index e → HasReceived moments first index e
+    received-along_chain index e at = follow-received first moments chain.behind chain.follow index e (there index e at)
 
-    -- and is aged like the first
     pub ages-along_chain : NeverGoDown first.response_time moments
-        → (place : ℕ) (e : Exchange) → IsAt exchanges place e → IsAgedLike first place e
-    ages-along_chain order place e at =
-        (follow-reached first moments chain.behind order chain.follow place e (there place e at)).aged
+        → (index : ℕ) (e : Exchange) → IsAt exchanges index e → IsAgedLike first index e
+    ages-along_chain order index e at =
+        (follow-reached first moments chain.behind order chain.follow index e (there index e at)).aged

@@ -19,7 +19,6 @@ use Rattle.http_cache_semantics.proofs.ChainUniqueLemmas.{handed_on-unique}
 use Rattle.http_cache_semantics.proofs.ChainAgeLemmas.{received-along_chain, ages-along_chain}
 use Rattle.http_cache_semantics.proofs.ChainLifeLemmas.{says-along_chain, expires-along_chain}
 
--- an exchange of the request, handed on, is one of the request
 IsFor-handed_on : (request : RequestSeen) (options : Options) (e : Exchange) (now : ℤ) (next : Exchange)
     → IsHandedOn e now next → IsFor request options e → IsFor request options next
 unfolding kept_exchange
@@ -30,14 +29,13 @@ IsFor-handed_on request options e now next handed same = record {
   same_options = ap (λ (x : Exchange). x.options) handed.is_kept ∙ same.same_options;
 }
 
--- what the first cache keeps is of the request
 pub IsFor-first : (request : RequestSeen) (response : ResponseSeen) (options : Options) (received : ℤ)
     → IsFor request options (first_kept request response options received)
 unfolding kept_exchange
 IsFor-first request response options received =
     record { same_target = refl; same_method = refl; same_headers = refl; same_options = refl }
 
--- the exchanges so far, the last of them, and how what follows it makes all that follows the first
+-- the exchanges so far, the last of them, and what still follows it
 pub record HasReached
     (request : RequestSeen) (first : Exchange) (moments rest : List ℤ) (reached : List Exchange) : Type 0 where
   pub front : List Exchange
@@ -56,7 +54,6 @@ no_more [] = refl
 no_more (e ∷ es) = ap (λ xs. e ∷ xs) (no_more es)
 
 module _ (request : RequestSeen) (first : Exchange) (moments : List ℤ) where
-  -- in the beginning there is the first alone
   pub reached-first : IsFor request first.options first → HasReached request first moments moments (first ∷ [])
   reached-first is_for = record {
     front = [];
@@ -70,7 +67,6 @@ module _ (request : RequestSeen) (first : Exchange) (moments : List ℤ) where
     undated_later = λ met. met;
   }
 
-  -- there is one, and it is the last
   pub reached-some : (rest : List ℤ) (reached : List Exchange)
       → HasReached request first moments rest reached → 0 < length reached
   reached-some rest reached so_far = omega (arith, ap length so_far.are, length-append so_far.front (so_far.last ∷ []))
@@ -79,11 +75,11 @@ module _ (request : RequestSeen) (first : Exchange) (moments : List ℤ) where
       → (so_far : HasReached request first moments rest reached)
       → (n : ℕ) (e : Exchange) → n ≡ length reached → e ≡ get_or reached (n - 1) e → e ≡ so_far.last
   reached-last rest reached so_far n e count is =
-      let place : n - 1 ≡ length so_far.front =
+      let index : n - 1 ≡ length so_far.front =
       omega (arith, count, ap length so_far.are, length-append so_far.front (so_far.last ∷ [])) in
-      is ∙ (λ i. get_or (so_far.are i) (place i) e) ∙ get_or-append_seam so_far.front so_far.last [] e
+      is ∙ (λ i. get_or (so_far.are i) (index i) e) ∙ get_or-append_seam so_far.front so_far.last [] e
 
-  -- where nothing follows the last, the chain is whole
+  -- if nothing follows the last exchange, the chain is complete
   whole : (rest : List ℤ) (reached : List Exchange) → (so_far : HasReached request first moments rest reached)
       → Follow request so_far.last rest [] → IsChain request first moments reached
   whole rest reached so_far ends = subst (IsChain request first moments) (no_more reached) (so_far.goes_on [] ends)
@@ -98,11 +94,11 @@ module _ (request : RequestSeen) (first : Exchange) (moments : List ℤ) where
       cc
 
   module _ (exchanges : List Exchange) (chain : IsChain request first moments exchanges) where
-    -- what holds of the first and of each, holds so of the list
+    -- what the first exchange and each index satisfy holds of the list
     from-first : (P : Exchange → ℕ → Exchange → Type 0)
-        → ((place : ℕ) (e : Exchange) → IsAt exchanges place e → P first place e) → ForEach exchanges P
-    from-first P each one at place e there =
-        subst (λ (x : Exchange). P x place e) (first-in exchanges chain one at) (each place e there)
+        → ((index : ℕ) (e : Exchange) → IsAt exchanges index e → P first index e) → ForEach exchanges P
+    from-first P each one at index e there =
+        subst (λ (x : Exchange). P x index e) (first-in exchanges chain one at) (each index e there)
 
     pub each-received : ForEach exchanges (HasReceived moments)
     each-received = from-first (HasReceived moments) (received-along_chain request first moments exchanges chain)
@@ -110,41 +106,39 @@ module _ (request : RequestSeen) (first : Exchange) (moments : List ℤ) where
     pub each-aged : NeverGoDown first.response_time moments → ForEach exchanges IsAgedLike
     each-aged order = from-first IsAgedLike (ages-along_chain request first moments exchanges chain order)
 
-    pub each-says : kept_exchange first ≡ first → ForEach exchanges (λ one place e. IsExplicit one → SaysLike one e)
+    pub each-says : kept_exchange first ≡ first → ForEach exchanges (λ one index e. IsExplicit one → SaysLike one e)
     each-says settled =
-        from-first (λ one place e. IsExplicit one → SaysLike one e)
-        (λ place e there explicit.
-        says-along_chain request first moments exchanges chain settled explicit place e there)
+        from-first (λ one index e. IsExplicit one → SaysLike one e)
+        (λ index e there explicit.
+        says-along_chain request first moments exchanges chain settled explicit index e there)
 
     pub each-expires : kept_exchange first ≡ first → NeverGoDown first.response_time moments
-        → ForEach exchanges (λ one place e. IsExplicit one → ExpiresLike one place e)
+        → ForEach exchanges (λ one index e. IsExplicit one → ExpiresLike one index e)
     each-expires settled order =
-        from-first (λ one place e. IsExplicit one → ExpiresLike one place e)
-        (λ place e there explicit.
-        expires-along_chain request first moments exchanges chain settled explicit order place e there)
+        from-first (λ one index e. IsExplicit one → ExpiresLike one index e)
+        (λ index e there explicit.
+        expires-along_chain request first moments exchanges chain settled explicit order index e there)
 
--- ---- the moments
+-- ---- the times
 
--- one more
-drop-nanoseconds : (moments : List Timestamp) (place : ℕ) (m : Timestamp)
-    → place < length moments → m ≡ get_or moments place m
-    → drop place (nanoseconds moments) ≡ m.nanosecond ∷ drop (place + 1) (nanoseconds moments)
-drop-nanoseconds moments place m inside is =
+drop-nanoseconds : (moments : List Timestamp) (index : ℕ) (m : Timestamp)
+    → index < length moments → m ≡ get_or moments index m
+    → drop index (nanoseconds moments) ≡ m.nanosecond ∷ drop (index + 1) (nanoseconds moments)
+drop-nanoseconds moments index m inside is =
     let f = λ (t : Timestamp). t.nanosecond in
-    let up : suc place ≡ place + 1 = omega arith in
-    drop-map f place moments
-    ∙ ap (map f) (drop-cons moments place m inside)
-    ∙ (λ i. f (sym is i) ∷ sym (drop-map f (suc place) moments) i)
+    let up : suc index ≡ index + 1 = omega arith in
+    drop-map f index moments
+    ∙ ap (map f) (drop-cons moments index m inside)
+    ∙ (λ i. f (sym is i) ∷ sym (drop-map f (suc index) moments) i)
     ∙ ap (λ n. m.nanosecond ∷ drop n (nanoseconds moments)) up
 
--- none
-drop-nanoseconds_past : (moments : List Timestamp) (place : ℕ)
-    → length moments ≤ place → drop place (nanoseconds moments) ≡ []
-drop-nanoseconds_past moments place past =
-    nil_from_length (drop place (nanoseconds moments))
-    (omega (arith, length-drop place (nanoseconds moments), length-map moments (λ (t : Timestamp). t.nanosecond)))
+drop-nanoseconds_past : (moments : List Timestamp) (index : ℕ)
+    → length moments ≤ index → drop index (nanoseconds moments) ≡ []
+drop-nanoseconds_past moments index past =
+    nil_from_length (drop index (nanoseconds moments))
+    (omega (arith, length-drop index (nanoseconds moments), length-map moments (λ (t : Timestamp). t.nanosecond)))
 
--- a refusal behind a cache that hands its answer on without one is that of a cache behind it
+-- an error after a cache that returns its answer is a later cache's
 later : (P : Exchange → RequestSeen → ℤ → Type 0) (request : RequestSeen) (e : Exchange) (now : ℤ)
     (moments : List ℤ) (next : Exchange)
     → ¬ (P e request now) → IsHandedOn e now next → Meets P request e (now ∷ moments) → Meets P request next moments
@@ -152,40 +146,38 @@ later P request e now moments next none handed (inl here) = absurd (none here)
 later P request e now moments next none handed (inr (other, met, on, more)) =
     subst (λ (x : Exchange). Meets P request x moments) (handed_on-unique e now other next on handed) more
 
--- a cache that has no fresh answer is the last that can refuse one
+-- a cache without a fresh answer is the last that can return an error
 nowhere : (P : Exchange → RequestSeen → ℤ → Type 0) (request : RequestSeen) (e : Exchange) (now : ℤ) (moments : List ℤ)
     → ¬ (P e request now) → is_fresh_for e request now ≡ false → ¬ (Meets P request e (now ∷ moments))
 nowhere P request e now moments none stale (inl here) = none here
 nowhere P request e now moments none stale (inr (next, met, on, more)) = true≢false (sym met ∙ stale)
 
--- ---- a turn: the request asks the last cache, which keeps e, at a moment m
+-- ---- a turn: the request asks the last cache, which keeps e, at time m
 
-module _ (request : RequestSeen) (first : Exchange) (moments : List Timestamp) (place : ℕ) (m : Timestamp)
-    (inside : place < length moments) (here : m ≡ get_or moments place m) (reached : List Exchange)
-    (so_far : HasReached request first (nanoseconds moments) (drop place (nanoseconds moments)) reached)
+module _ (request : RequestSeen) (first : Exchange) (moments : List Timestamp) (index : ℕ) (m : Timestamp)
+    (inside : index < length moments) (here : m ≡ get_or moments index m) (reached : List Exchange)
+    (so_far : HasReached request first (nanoseconds moments) (drop index (nanoseconds moments)) reached)
     (n : ℕ) (count : n ≡ length reached) (e : Exchange) (is : e ≡ get_or reached (n - 1) e) where
   abbrev now : ℤ
   now = m.nanosecond
 
   abbrev rest : List ℤ
-  rest = drop (place + 1) (nanoseconds moments)
+  rest = drop (index + 1) (nanoseconds moments)
 
   before : HasReached request first (nanoseconds moments) (now ∷ rest) reached
   before =
       subst (λ (ms : List ℤ). HasReached request first (nanoseconds moments) ms reached)
-      (drop-nanoseconds moments place m inside here) so_far
+      (drop-nanoseconds moments index m inside here) so_far
 
   last-is : e ≡ before.last
   last-is = reached-last request first (nanoseconds moments) (now ∷ rest) reached before n e count is
 
-  -- it may break the chain off
   pub turn-refused : RefusesAnswer e request now → Meets RefusesAnswer request first (nanoseconds moments)
   turn-refused cause = before.refused (inl (subst (λ (x : Exchange). RefusesAnswer x request now) last-is cause))
 
   pub turn-undated : HasUndatedAnswer e request now → Meets HasUndatedAnswer request first (nanoseconds moments)
   turn-undated cause = before.undated (inl (subst (λ (x : Exchange). HasUndatedAnswer x request now) last-is cause))
 
-  -- or have no fresh answer
   stale-last : is_fresh_for e request now ≡ false → is_fresh_for before.last request now ≡ false
   stale-last stale = subst (λ (x : Exchange). is_fresh_for x request now ≡ false) last-is stale
 
@@ -210,7 +202,6 @@ module _ (request : RequestSeen) (first : Exchange) (moments : List Timestamp) (
       nowhere HasUndatedAnswer request before.last now rest (has_date none) (stale-last stale)
       (before.undated_later met)
 
-  -- or hand its answer on
   pub turn-next : (next : Exchange) → is_fresh_for e request now ≡ true → IsHandedOn e now next
       → ¬ (RefusesAnswer e request now) → ¬ (HasUndatedAnswer e request now)
       → HasReached request first (nanoseconds moments) rest (reached ++ next ∷ [])
@@ -233,29 +224,27 @@ module _ (request : RequestSeen) (first : Exchange) (moments : List Timestamp) (
             later HasUndatedAnswer request before.last now rest next (has_date dated) on (before.undated_later more);
       }
 
--- no moment is left
-pub turns-end : (request : RequestSeen) (first : Exchange) (moments : List Timestamp) (place : ℕ)
-    → length moments ≤ place → (reached : List Exchange)
-    → HasReached request first (nanoseconds moments) (drop place (nanoseconds moments)) reached
+pub turns-end : (request : RequestSeen) (first : Exchange) (moments : List Timestamp) (index : ℕ)
+    → length moments ≤ index → (reached : List Exchange)
+    → HasReached request first (nanoseconds moments) (drop index (nanoseconds moments)) reached
     → IsChain request first (nanoseconds moments) reached
-turns-end request first moments place past reached so_far =
+turns-end request first moments index past reached so_far =
     whole request first (nanoseconds moments) [] reached
     (subst (λ (ms : List ℤ). HasReached request first (nanoseconds moments) ms reached)
-    (drop-nanoseconds_past moments place past) so_far) refl
+    (drop-nanoseconds_past moments index past) so_far) refl
 
--- and no cache has refused
-pub turns-end_unrefused : (request : RequestSeen) (first : Exchange) (moments : List Timestamp) (place : ℕ)
-    → length moments ≤ place → (reached : List Exchange)
-    → HasReached request first (nanoseconds moments) (drop place (nanoseconds moments)) reached
+pub turns-end_unrefused : (request : RequestSeen) (first : Exchange) (moments : List Timestamp) (index : ℕ)
+    → length moments ≤ index → (reached : List Exchange)
+    → HasReached request first (nanoseconds moments) (drop index (nanoseconds moments)) reached
     → ¬ (Meets RefusesAnswer request first (nanoseconds moments))
-turns-end_unrefused request first moments place past reached so_far = λ met.
+turns-end_unrefused request first moments index past reached so_far = λ met.
     subst (λ (ms : List ℤ). Meets RefusesAnswer request so_far.last ms)
-    (drop-nanoseconds_past moments place past) (so_far.refused_later met)
+    (drop-nanoseconds_past moments index past) (so_far.refused_later met)
 
-pub turns-end_dated : (request : RequestSeen) (first : Exchange) (moments : List Timestamp) (place : ℕ)
-    → length moments ≤ place → (reached : List Exchange)
-    → HasReached request first (nanoseconds moments) (drop place (nanoseconds moments)) reached
+pub turns-end_dated : (request : RequestSeen) (first : Exchange) (moments : List Timestamp) (index : ℕ)
+    → length moments ≤ index → (reached : List Exchange)
+    → HasReached request first (nanoseconds moments) (drop index (nanoseconds moments)) reached
     → ¬ (Meets HasUndatedAnswer request first (nanoseconds moments))
-turns-end_dated request first moments place past reached so_far = λ met.
+turns-end_dated request first moments index past reached so_far = λ met.
     subst (λ (ms : List ℤ). Meets HasUndatedAnswer request so_far.last ms)
-    (drop-nanoseconds_past moments place past) (so_far.undated_later met)
+    (drop-nanoseconds_past moments index past) (so_far.undated_later met)

@@ -21,7 +21,7 @@ module _ (request : RequestSeen) where
   next-is e now next met handed settled explicit =
       handed.is_kept ∙ kept-handed request e now handed.headers handed.are_fresh met settled explicit
 
-  -- so the next one says the same
+  -- the next cache's response has the directives of the one before
   next-says : (e : Exchange) (now : ℤ) (next : Exchange) → is_fresh_for e request now ≡ true
       → IsHandedOn e now next → kept_exchange e ≡ e → IsExplicit e → SaysLike e next
   next-says e now next met handed settled explicit =
@@ -32,7 +32,6 @@ module _ (request : RequestSeen) where
         lifetime_is = lifetime-same request e now h handed.are_fresh met settled explicit;
       })
 
-  -- as explicitly
   next-explicit : (e : Exchange) (now : ℤ) (next : Exchange) → is_fresh_for e request now ≡ true
       → IsHandedOn e now next → kept_exchange e ≡ e → IsExplicit e → IsExplicit next
   next-explicit e now next met handed settled explicit =
@@ -44,27 +43,27 @@ module _ (request : RequestSeen) where
 
   follow-says : (e : Exchange) (moments : List ℤ) (behind : List Exchange)
       → kept_exchange e ≡ e → IsExplicit e → Follow request e moments behind
-      → (place : ℕ) (x : Exchange) → IsAt (e ∷ behind) place x → SaysLike e x
+      → (index : ℕ) (x : Exchange) → IsAt (e ∷ behind) index x → SaysLike e x
   follow-says e moments behind settled explicit chain zero x at =
       let same : e ≡ x = cc in
       subst (SaysLike e) same (record { storable = refl; directives = refl; lifetime_is = refl })
-  follow-says e moments [] settled explicit chain (suc place) x at =
-      absurd (omega (arith, slice_get_within (e ∷ []) (suc place) x at))
-  follow-says e [] (next ∷ behind) settled explicit chain (suc place) x at =
+  follow-says e moments [] settled explicit chain (suc index) x at =
+      absurd (omega (arith, slice_get_within (e ∷ []) (suc index) x at))
+  follow-says e [] (next ∷ behind) settled explicit chain (suc index) x at =
       let none = chain in
       absurd (omega (arith, ap length none))
-  follow-says e (now ∷ moments) (next ∷ behind) settled explicit chain (suc place) x at =
+  follow-says e (now ∷ moments) (next ∷ behind) settled explicit chain (suc index) x at =
       let here = next-says e now next chain.0 chain.1 settled explicit in
       let rest =
       follow-says next moments behind (next-settled e now next chain.1)
-      (next-explicit e now next chain.0 chain.1 settled explicit) chain.2 place x at in
+      (next-explicit e now next chain.0 chain.1 settled explicit) chain.2 index x at in
       record {
         storable = rest.storable ∙ here.storable;
         directives = rest.directives ∙ here.directives;
         lifetime_is = rest.lifetime_is ∙ here.lifetime_is;
       }
 
-  -- with like ages, like lifetimes expire alike
+  -- equal lifetimes with close ages expire close together
   expires-like : (first : Exchange) (hops : ℕ) (e : Exchange)
       → SaysLike first e → IsAgedLike first hops e → ExpiresLike first hops e
   unfolding time_to_live_at
@@ -76,15 +75,13 @@ module _ (request : RequestSeen) where
   module _ (first : Exchange) (moments : List ℤ) (exchanges : List Exchange)
       (chain : IsChain request first moments exchanges)
       (settled : kept_exchange first ≡ first) (explicit : IsExplicit first) where
-    -- where the first one's lifetime is explicit, each cache of a chain says the same
-    pub says-along_chain : (place : ℕ) (e : Exchange) → IsAt exchanges place e → SaysLike first e
-    says-along_chain place e at =
-        follow-says first moments chain.behind settled explicit chain.follow place e
-        (ap (λ es. slice_get es place) (sym chain.are) ∙ at)
+    pub says-along_chain : (index : ℕ) (e : Exchange) → IsAt exchanges index e → SaysLike first e
+    says-along_chain index e at =
+        follow-says first moments chain.behind settled explicit chain.follow index e
+        (ap (λ es. slice_get es index) (sym chain.are) ∙ at)
 
-    -- and expires like the first
     pub expires-along_chain : NeverGoDown first.response_time moments
-        → (place : ℕ) (e : Exchange) → IsAt exchanges place e → ExpiresLike first place e
-    expires-along_chain order place e at =
-        expires-like first place e (says-along_chain place e at)
-        (ages-along_chain request first moments exchanges chain order place e at)
+        → (index : ℕ) (e : Exchange) → IsAt exchanges index e → ExpiresLike first index e
+    expires-along_chain order index e at =
+        expires-like first index e (says-along_chain index e at)
+        (ages-along_chain request first moments exchanges chain order index e at)

@@ -1,4 +1,4 @@
--- There is one chain: what a cache hands on is determined.
+-- There is one chain, since what a cache sends is determined.
 use Rattle.std.proofs.Common.{◌≡◌, ℤ, List, [], ◌∷◌, refl, sym, ap, subst, ◌∙◌, true≢false}
 use Rattle.http_cache_fields.specs.Headers.{Headers}
 use Rattle.http_cache_policy.specs.Messages.{RequestSeen}
@@ -7,7 +7,6 @@ use Rattle.http_cache_policy.specs.Kept.{kept_exchange}
 use Rattle.http_cache_semantics.specs.Chain.{IsHandedOn, Follow, IsChain}
 use Rattle.http_cache_policy.proofs.FreshUniqueLemmas.{IsFreshHeaders-unique}
 
--- a cache hands one exchange on at a moment
 pub handed_on-unique : (e : Exchange) (now : ℤ) (x y : Exchange) → IsHandedOn e now x → IsHandedOn e now y → x ≡ y
 handed_on-unique e now x y a b =
     a.is_kept
@@ -27,7 +26,6 @@ module _ (request : RequestSeen) where
       let rest : Follow request x moments ys = subst (λ (z : Exchange). Follow request z moments ys) same g.2 in
       (λ i. sym same i ∷ follow-unique x moments xs ys f.2 rest i)
 
-  -- a first exchange and the moments have one chain
   pub chain-unique : (first : Exchange) (moments : List ℤ) (xs ys : List Exchange)
       → IsChain request first moments xs → IsChain request first moments ys → xs ≡ ys
   chain-unique first moments xs ys c d =

@@ -1,4 +1,4 @@
--- An explicit lifetime survives a hand-over.
+-- An explicit lifetime survives the step from one cache to the next.
 use Rattle.std.proofs.Common.{◌≡◌, ◌-◌, ℕ, ℤ, Bool, true, false, not, ◌&&◌, ◌||◌, List, [], ◌∷◌, ◌++◌, length}
 use Rattle.std.proofs.Common.{drop}
 use Rattle.std.proofs.Common.{codes, bytes_eq, is_some, slice_get, Option, Some, None, unwrap_or, if◌then◌else◌}
@@ -19,7 +19,7 @@ use Rattle.http_cache_rules.specs.Storing.{has_explicit_expiration, is_method_ca
 use Rattle.http_cache_rules.specs.Storing.{is_withheld_from_shared, is_status_cacheable_by_default, is_storable}
 use Rattle.http_cache_rules.specs.Lifetimes.{Row, applies, first_row, seconds_in, has_own_cookies, varies_always}
 use Rattle.http_cache_rules.specs.Lifetimes.{immutable_floor, zero_rows, seconds_rows, date_rows, lifetime}
-use Rattle.http_cache_rules.specs.Filter.{is_hop_by_hop, is_spelled}
+use Rattle.http_cache_rules.specs.Filter.{is_hop_by_hop, is_listed}
 use Rattle.http_cache_rules.proofs.FilterLemmas.{values-filtered_other, filtered_headers-none}
 use Rattle.http_cache_policy.specs.Messages.{RequestSeen}
 use Rattle.http_cache_policy.specs.Exchange.{Exchange, stored_directives, request_directives}
@@ -30,8 +30,6 @@ use Rattle.http_cache_policy.specs.Fresh.{IsFreshHeaders}
 use Rattle.http_cache_semantics.specs.ChainLaws.{IsExplicit}
 use Rattle.http_cache_semantics.proofs.HopLemmas.{values-fresh}
 
--- ---- tests
-
 or-both : (a b : Bool) → a ≡ false → b ≡ false → (a || b) ≡ false
 or-both a b e f = ap (λ x. x || b) e ∙ f
 
@@ -40,16 +38,12 @@ or-none true b = refl
 or-none false true = refl
 or-none false false = refl
 
--- ---- the table
-
--- rows of which none applies don't count
 first_row-behind : (before rows : List Row) (otherwise : ℕ) → list_any applies before ≡ false
     → first_row (before ++ rows) otherwise ≡ first_row rows otherwise
 first_row-behind [] rows otherwise e = refl
 first_row-behind ((true, lifetime) ∷ before) rows otherwise e = absurd (true≢false e)
 first_row-behind ((false, lifetime) ∷ before) rows otherwise e = first_row-behind before rows otherwise e
 
--- the lifetime where no row applies
 abbrev floor : Exchange → ℕ
 floor e = immutable_floor (stored_directives e) e.options
 
@@ -58,14 +52,12 @@ lifetime-behind : (e : Exchange) → list_any applies (zero_rows e) ≡ false
 unfolding lifetime
 lifetime-behind e = first_row-behind (zero_rows e) (seconds_rows e ++ date_rows e) (floor e)
 
--- by the first of two rows that applies
 first_row-of_two : (p q : Row) (rows : List Row) (otherwise : ℕ) → list_any applies (p ∷ q ∷ []) ≡ true
     → first_row (p ∷ q ∷ rows) otherwise ≡ (if p.0 then p.1 else q.1)
 first_row-of_two (true, l) q rows otherwise e = refl
 first_row-of_two (false, l) (true, m) rows otherwise e = refl
 first_row-of_two (false, l) (false, m) rows otherwise e = absurd (true≢false (sym e))
 
--- the tests of its rows that give zero, and of those by seconds
 abbrev unusable : Exchange → Bool
 unusable e = not (is_storable e) || has (stored_directives e) (codes "no-cache")
 
@@ -84,20 +76,18 @@ has_shared_age e = e.options.shared && is_some (text_under (stored_directives e)
 abbrev has_age : Exchange → Bool
 has_age e = is_some (text_under (stored_directives e) (codes "max-age"))
 
--- the lifetime that directives tell in seconds
-abbrev told : Bool → List Directive → ℕ
-told shared ds =
+abbrev stated_lifetime : Bool → List Directive → ℕ
+stated_lifetime shared ds =
     if shared && is_some (text_under ds (codes "s-maxage")) then seconds_in (text_under ds (codes "s-maxage"))
     else seconds_in (text_under ds (codes "max-age"))
 
-lifetime-told : (e : Exchange) → list_any applies (zero_rows e) ≡ false → list_any applies (seconds_rows e) ≡ true
-    → lifetime e ≡ told e.options.shared (stored_directives e)
-lifetime-told e not_zero seconds =
+lifetime-stated_lifetime : (e : Exchange) → list_any applies (zero_rows e) ≡ false → list_any applies (seconds_rows e) ≡ true
+    → lifetime e ≡ stated_lifetime e.options.shared (stored_directives e)
+lifetime-stated_lifetime e not_zero seconds =
     lifetime-behind e not_zero
     ∙ first_row-of_two (has_shared_age e, seconds_in (text_under (stored_directives e) (codes "s-maxage")))
     (has_age e, seconds_in (text_under (stored_directives e) (codes "max-age"))) (date_rows e) (floor e) seconds
 
--- a directive with a value says when the response expires
 expires-by_directive : (shared : Bool) (s m : Option (Option (List ℕ))) (expires : Bool)
     → ((shared && is_some (unwrap_or s None)) || is_some (unwrap_or m None)) ≡ true
     → (((shared && is_some s) || is_some m) || expires) ≡ true
@@ -106,8 +96,6 @@ expires-by_directive true None (Some m) expires e = refl
 expires-by_directive true None None expires e = absurd (true≢false (sym e))
 expires-by_directive false s (Some m) expires e = refl
 expires-by_directive false s None expires e = absurd (true≢false (sym e))
-
--- ---- a hand-over
 
 held-from_one : (vs : List (List ℕ)) → length vs ≡ 1 → is_some (slice_get vs 0) ≡ true
 held-from_one [] e = absurd (omega (arith, e))
@@ -118,7 +106,6 @@ plain-where_held : (h : Headers) (ds : List Directive) → contains_key h (codes
 unfolding with_pragma
 plain-where_held h ds held = ap (λ b. if not b && pragma_forbids h then set_directive ds no_cache else ds) held
 
--- a value that is left was there
 was-there : (gone : Bool) (vs : List (List ℕ)) → is_some (slice_get (if gone then [] else last_only vs) 0) ≡ true
     → is_some (slice_get vs 0) ≡ true
 was-there true vs e = absurd (true≢false (sym e))
@@ -136,7 +123,7 @@ star_by : (gone : Bool) (vs : List (List ℕ)) → list_any is_star (pieces_of_v
 star_by true vs e = refl
 star_by false vs e = star-last vs e
 
--- a cache that answers stores no Vary with `*` among its pieces
+-- a response that may be used has no `*` among the pieces of Vary
 fresh_for-no_star : (request : RequestSeen) (e : Exchange) (now : ℤ) → is_fresh_for e request now ≡ true
     → list_any is_star (varied_names e) ≡ false
 unfolding is_fresh_for matches vary_matches
@@ -150,28 +137,25 @@ fresh_for-no_star request e now met =
 module _ (request : RequestSeen) (e : Exchange) (now : ℤ) (h : Headers)
     (fresh : IsFreshHeaders e now h) (met : is_fresh_for e request now ≡ true)
     (settled : kept_exchange e ≡ e) (explicit : IsExplicit e) where
-  -- the next exchange, before it is kept
   abbrev pub handed : Exchange
   handed = record e { response_headers = h; response_time = now }
 
   abbrev control : List ℕ
   control = codes "cache-control"
 
-  -- it isn't handed on
   abbrev is_gone : List ℕ → Bool
-  is_gone name = is_hop_by_hop name || is_spelled (pieces_under e.response_headers (codes "connection")) name
+  is_gone name = is_hop_by_hop name || is_listed (pieces_under e.response_headers (codes "connection")) name
 
   under : (name : List ℕ) → bytes_eq (codes "warning") name ≡ false → bytes_eq (codes "age") name ≡ false
       → bytes_eq (codes "date") name ≡ false → bytes_eq name (codes "warning") ≡ false
       → values h name ≡ (if is_gone name then [] else last_only (values e.response_headers name))
   under name w a d v = values-fresh e now h fresh name w a d ∙ values-filtered_other e.response_headers name v
 
-  -- Cache-Control stays
   control-stays : values h control ≡ values e.response_headers control
   unfolding is_hop_by_hop
   control-stays =
       under control refl refl refl refl
-      ∙ ap (λ (b : Bool). if b then [] else last_only (values e.response_headers control)) explicit.unspelled
+      ∙ ap (λ (b : Bool). if b then [] else last_only (values e.response_headers control)) explicit.unlisted
       ∙ ap (λ n. drop (n - 1) (values e.response_headers control)) explicit.one_value
 
   reads-same : cache_control h ≡ cache_control e.response_headers
@@ -181,7 +165,7 @@ module _ (request : RequestSeen) (e : Exchange) (now : ℤ) (h : Headers)
   unfolding kept_exchange
   same_headers = ap (λ (x : Exchange). x.response_headers) settled
 
-  -- what is handed on is kept as it is
+  -- keeping the next exchange changes nothing
   pub kept-handed : kept_exchange handed ≡ handed
   unfolding kept_exchange
   kept-handed =
@@ -208,7 +192,7 @@ module _ (request : RequestSeen) (e : Exchange) (now : ℤ) (h : Headers)
   abbrev shared : Bool
   shared = e.options.shared
 
-  -- one of the two rows applies, by directives that are the same
+  -- one of the two rows applies, since the directives are equal
   by_directive : (xs : List Directive) → xs ≡ ds
       → ((shared && is_some (text_under xs (codes "s-maxage"))) || is_some (text_under xs (codes "max-age"))) ≡ true
   by_directive xs same =
@@ -217,7 +201,7 @@ module _ (request : RequestSeen) (e : Exchange) (now : ℤ) (h : Headers)
       ∙ sym (or-none (has_shared_age e) (has_age e))
       ∙ explicit.by_seconds
 
-  -- so the response says when it expires, with Expires and without
+  -- hence the lifetime is explicit, with Expires and without
   explicit-any : (xs : List Directive) → xs ≡ ds → (expires : Bool)
       → (((shared && has xs (codes "s-maxage")) || has xs (codes "max-age")) || expires) ≡ true
   explicit-any xs same expires =
@@ -229,7 +213,6 @@ module _ (request : RequestSeen) (e : Exchange) (now : ℤ) (h : Headers)
       explicit-any (stored_directives handed) directives-same (contains_key h (codes "expires"))
       ∙ sym (explicit-any ds refl (contains_key e.response_headers (codes "expires")))
 
-  -- storability, by whether the response says when it expires and by its directives
   abbrev storable_by : Bool → List Directive → Bool
   storable_by says xs =
       not (has (request_directives e) (codes "no-store"))
@@ -243,7 +226,7 @@ module _ (request : RequestSeen) (e : Exchange) (now : ℤ) (h : Headers)
   unfolding is_storable
   storable-same = (λ i. storable_by (explicit-same i) (directives-same i))
 
-  -- no row that gives zero comes to apply
+  -- no row of zero applies that didn't before
   none-2 : (has_cookies e || (varies e || (has_proxy e || false))) ≡ false
   none-2 = or-right (unusable e) (has_cookies e || (varies e || (has_proxy e || false))) explicit.not_zero
 
@@ -291,9 +274,9 @@ module _ (request : RequestSeen) (e : Exchange) (now : ℤ) (h : Headers)
 
   pub lifetime-same : lifetime handed ≡ lifetime e
   lifetime-same =
-      lifetime-told handed not_zero-after by_seconds-after
-      ∙ ap (told e.options.shared) directives-same
-      ∙ sym (lifetime-told e explicit.not_zero explicit.by_seconds)
+      lifetime-stated_lifetime handed not_zero-after by_seconds-after
+      ∙ ap (stated_lifetime e.options.shared) directives-same
+      ∙ sym (lifetime-stated_lifetime e explicit.not_zero explicit.by_seconds)
 
   pub explicit-after : IsExplicit handed
   unfolding is_hop_by_hop
@@ -301,8 +284,8 @@ module _ (request : RequestSeen) (e : Exchange) (now : ℤ) (h : Headers)
     not_zero = not_zero-after;
     by_seconds = by_seconds-after;
     one_value = ap length control-stays ∙ explicit.one_value;
-    unspelled =
-        ap (λ vs. is_spelled (pieces_of_values vs) control)
+    unlisted =
+        ap (λ vs. is_listed (pieces_of_values vs) control)
         (values-fresh e now h fresh (codes "connection") refl refl refl
         ∙ ap (λ o. unwrap_or o []) (filtered_headers-none e.response_headers (codes "connection") refl));
   }

@@ -1,4 +1,4 @@
--- What a cache hands on under a name, and the age that the next one receives.
+-- What a cache sends under a name, and the age that the next one receives.
 use Rattle.std.proofs.Common.{◌≡◌, ℕ, ℤ, ◌+◌, ◌*◌, ◌-◌, ◌/◌, ◌^◌, ◌<◌, ◌-ℤ◌, min, Bool, true}
 use Rattle.std.proofs.Common.{false, List, [], ◌∷◌, bytes_eq, codes, decimal, slice_get, Option}
 use Rattle.std.proofs.Common.{option_and_then, unwrap_or, if◌then◌else◌, refl, ap, ◌∙◌, arith}
@@ -21,7 +21,7 @@ use Rattle.http_cache_policy.specs.Fresh.{warned_headers, age_text, aged_headers
 use Rattle.http_cache_semantics.specs.Chain.{IsHandedOn}
 use Rattle.http_cache_policy.proofs.FreshLemmas.{get-insert_other, one_age_and_date}
 
--- what fresh headers hold under a name that a fresh answer doesn't tell anew
+-- fields that a fresh answer doesn't set anew keep their values
 pub values-fresh : (e : Exchange) (now : ℤ) (h : Headers) → IsFreshHeaders e now h → (name : List ℕ)
     → bytes_eq (codes "warning") name ≡ false
     → bytes_eq (codes "age") name ≡ false → bytes_eq (codes "date") name ≡ false
@@ -41,9 +41,6 @@ values-fresh e now h fresh name not_warning not_age not_date =
     by true = ap (λ o. unwrap_or o []) (get-insert_other stored (codes "warning") _ name not_warning)
     by false = refl
 
--- ---- the age that came
-
--- the age of headers that hold one number under `age`
 received_age_of-decimal : (h : Headers) (n : ℕ) → n < 2 ^ 64
     → values h (codes "age") ≡ decimal n ∷ [] → received_age_of h ≡ n
 received_age_of-decimal h n small is =
@@ -51,7 +48,6 @@ received_age_of-decimal h n small is =
     ∙ ap (λ (o : Option (List ℕ)). unwrap_or (option_and_then number o) 0) (text_of-decimal n small)
     ∙ ap (λ (o : Option ℕ). unwrap_or o 0) (number-decimal n small)
 
--- it is a number of 64 bits
 pub received_age-bound : (e : Exchange) → received_age e < 2 ^ 64
 unfolding received_age
 received_age-bound e = number-bound (first_text e.response_headers (codes "age"))
@@ -62,7 +58,7 @@ seconds_small n = omega arith
 whole : (r d : ℕ) → min (r * 1_000_000_000 + d) max_nanos / 1_000_000_000 ≡ min (r + d / 1_000_000_000) (2 ^ 64 - 1)
 whole r d = omega arith
 
--- the next cache has the whole seconds of the age, as long as 64 bits hold them
+-- the next cache receives the whole seconds of the age, up to 64 bits
 pub received_age-handed_on : (e : Exchange) (now : ℤ) (next : Exchange) → IsHandedOn e now next
     → received_age next ≡ min (received_age e + elapsed_time (now -ℤ e.response_time) / 1_000_000_000) (2 ^ 64 - 1)
 unfolding received_age age_at kept_exchange

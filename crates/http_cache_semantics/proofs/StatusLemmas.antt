@@ -1,4 +1,4 @@
--- An item of a structured field may be the value of a header.
+-- An item of a structured field is a field value.
 use Rattle.std.proofs.Common.{◌≡◌, ℕ, pos, ◌≤◌, Bool, true, false, ◌||◌, ◌==◌, List, [], ◌∷◌}
 use Rattle.std.proofs.Common.{◌++◌, codes, decimal, refl, sym, subst, ◌∙◌, arith, if◌then◌else◌}
 use Rattle.std.specs.List.{list_all, flat_map}
@@ -16,7 +16,6 @@ use Rattle.http_cache_reasons.specs.StructuredField.{IsBareItem, is_string, is_t
 use Rattle.http_cache_reasons.specs.StructuredField.{IsParameter, is_flag, has_value}
 use Rattle.http_cache_reasons.specs.StructuredField.{IsItem, is_bare, with_parameter}
 
--- each byte is one that a value may hold
 abbrev IsSendable : List ℕ → Type 0
 IsSendable text = list_all is_value_byte text ≡ true
 
@@ -31,8 +30,6 @@ weaker p implied [] all = refl
 weaker p implied (b ∷ bs) all =
     let parts = and_parts (p b) (list_all p bs) all in
     and_from (is_value_byte b) (list_all is_value_byte bs) (implied b parts.0) (weaker p implied bs parts.1)
-
--- ---- bytes
 
 token_byte-sendable : (b : ℕ) → is_in_token b ≡ true → is_value_byte b ≡ true
 token_byte-sendable b is = by (is_token_byte b) refl
@@ -56,8 +53,6 @@ escaped-sendable b is = by (b == 34 || b == 92)
 key_byte-sendable : (b : ℕ) → is_in_key b ≡ true → is_value_byte b ≡ true
 key_byte-sendable b is = grind (arith, nat_tests)
 
--- ---- bare items
-
 all_escaped-sendable : (text : List ℕ) → list_all is_printable text ≡ true → IsSendable (flat_map escaped text)
 all_escaped-sendable [] all = refl
 all_escaped-sendable (b ∷ bs) all =
@@ -78,8 +73,6 @@ bare-sendable _ (is_token text is) =
 bare-sendable _ (is_integer n few) = decimal-sendable n few
 bare-sendable _ (is_negative n few) = joined (codes "-") (decimal n) refl (decimal-sendable n few)
 
--- ---- parameters, and the item
-
 key-sendable : (key : List ℕ) → is_key key ≡ true → IsSendable key
 key-sendable [] is = refl
 key-sendable (b ∷ bs) is =
@@ -98,6 +91,3 @@ item-sendable : (text : List ℕ) → IsItem text → IsSendable text
 item-sendable _ (is_bare item is) = bare-sendable item is
 item-sendable _ (with_parameter front parameter item is) =
     joined front parameter (item-sendable front item) (parameter-sendable parameter is)
-
-pub item-is_value : (text : List ℕ) → IsItem text → IsFieldValue text
-item-is_value text is = AllPass-from_list_all is_value_byte text (item-sendable text is)

@@ -1,5 +1,5 @@
--- A chain of caches for one request: each is handed the fresh answer of the one before
--- (RFC 7234, section 4.2.3).
+-- A chain of caches for one request: each receives the fresh answer of the one before (RFC 7234,
+-- section 4.2.3).
 use Rattle.std.specs.Prelude.{◌≡◌, ◌⊎◌, ℤ, true, false, List, [], ◌∷◌, map}
 use Rattle.jiff.specs.declared.timestamp.Timestamp.{Timestamp}
 use Rattle.http_cache_fields.specs.Headers.{Headers}
@@ -10,23 +10,21 @@ use Rattle.http_cache_policy.specs.Kept.{kept_exchange}
 use Rattle.http_cache_policy.specs.Verdict.{is_fresh_for}
 use Rattle.http_cache_policy.specs.Fresh.{IsFreshHeaders}
 
--- the nanoseconds of moments
 abbrev pub nanoseconds : List Timestamp → List ℤ
 nanoseconds moments = map (λ m. m.nanosecond) moments
 
--- what the first cache keeps of the request and of the response that came for it
 abbrev pub first_kept : RequestSeen → ResponseSeen → Options → ℤ → Exchange
 first_kept request response options response_time =
     kept_exchange (exchange_of request response options response_time)
 
--- what the next cache keeps: the same exchange, but for fresh headers that came at the moment
+-- the next cache keeps the exchange with fresh headers, received at the time
 pub record IsHandedOn (e : Exchange) (now : ℤ) (next : Exchange) : Type 0 where
   pub headers : Headers
   pub are_fresh : IsFreshHeaders e now headers
   pub is_kept : next ≡ kept_exchange (record e { response_headers = headers; response_time = now })
 
--- what the caches behind one keep: at each moment in turn the request asks the last of them, which
--- hands its fresh answer on, until one has none or no moment is left
+-- what the later caches keep: at each time the request asks the last cache, whose fresh answer the
+-- next one receives, until one has none or no time is left
 abbrev pub Follow : RequestSeen → Exchange → List ℤ → List Exchange → Type 0
 Follow request e [] behind = behind ≡ []
 Follow request e (now ∷ moments) [] = is_fresh_for e request now ≡ false
@@ -35,7 +33,7 @@ Follow request e (now ∷ moments) (next ∷ behind) =
     × IsHandedOn e now next
     × Follow request next moments behind
 
--- what the caches of a chain keep, one exchange for each cache that is reached
+-- one exchange for each cache that is reached
 pub record IsChain
     (request : RequestSeen) (first : Exchange) (moments : List ℤ)
     (exchanges : List Exchange) : Type 0 where
@@ -43,14 +41,13 @@ pub record IsChain
   pub are : exchanges ≡ first ∷ behind
   pub follow : Follow request first moments behind
 
--- an exchange of the request under the options
 pub record IsFor (request : RequestSeen) (options : Options) (e : Exchange) : Type 0 where
   pub same_target : e.target ≡ request.target
   pub same_method : e.method ≡ request.method
   pub same_headers : e.request_headers ≡ request.headers
   pub same_options : e.options ≡ options
 
--- P holds of a cache that the chain reaches, for the request and the moment at which it asks it
+-- P holds of a cache that the chain reaches, for the request and its time
 abbrev pub Meets : (Exchange → RequestSeen → ℤ → Type 0) → RequestSeen → Exchange → List ℤ → Type 0
 Meets P request e [] = ⊥
 Meets P request e (now ∷ moments) =

@@ -1,4 +1,4 @@
-//! Whole runs, and what a chain of caches keeps.
+//! Builds a chain of caches, each of which receives the answer of the one before.
 ghost use Rattle.std.specs.Prelude.{◌≡◌, ◌≢◌, List, Err, true, false, IfOk, IsErrOf, MatchOption};
 ghost use Rattle.http_cache_rules.specs.Options.{options_of};
 ghost use Rattle.http_cache_policy.specs.Exchange.{Exchange};
@@ -16,8 +16,7 @@ pub use http_cache_policy::steps::{Outcome, Step};
 use jiff::Timestamp;
 use std::alloc::Global;
 
-// What the next cache keeps: it is handed what this policy answers to the request at the moment.
-// None where the answer isn't fresh.
+// None if the answer isn't fresh.
 fn hand_on<Req: RequestLike>(
     alloc: Global,
     policy: &CachePolicy,
@@ -49,21 +48,25 @@ fn hand_on<Req: RequestLike>(
     }
 }
 
-/// The policies of a chain of caches for one request, one for each cache that is reached. The first
-/// cache is handed the response when it is received. At each moment in turn the request asks the
-/// last cache by `before_request`, and where the answer is `Fresh` the next one is handed it then.
-/// The list ends with the first cache whose answer isn't, or with the moments.
+/// Returns the policies of a chain of caches for one request, one for each cache that is reached.
 ///
-/// Each cache receives, as its Age in seconds, the first one's and the whole seconds of each
-/// hand-over, as far as 64 bits count (RFC 7234, section 4.2.3). Where the moments never go down,
-/// it is from its hand-over on no older than the first, and younger by less than a second a
-/// hand-over. Where the first one's lifetime is explicit (by `s-maxage` or `max-age`, in a
-/// Cache-Control of one value that Connection doesn't name), each stores the same directives for as
-/// long; with that order of the moments it expires no sooner than the first, and at most a second a
-/// hand-over later.
+/// The first cache receives the response. At each time the request asks the last cache, by
+/// `before_request`. If its answer is `Fresh`, the next cache receives it then; otherwise the chain
+/// ends.
 ///
-/// `HeaderMapFull` and `DateNotPrintable` come where `before_request` gives them at a cache that is
-/// reached, `HeaderMapFull` also for the request that the last one would send to the origin.
+/// Each cache receives the first Age plus the whole seconds of each hop, up to 64 bits (RFC 7234,
+/// section 4.2.3). If the times never decrease, its response is no older than the first one from
+/// the receipt on. It is less than a second younger for each hop.
+///
+/// The first lifetime is explicit if `s-maxage` or `max-age` decides it, and Cache-Control has one
+/// value and isn't listed by Connection. Each response then has equal directives and an equal
+/// lifetime. If the times never decrease, it expires no sooner than the first one, and at most a
+/// second later for each hop.
+///
+/// # Errors
+///
+/// `HeaderMapFull` and `DateNotPrintable` if `before_request` returns them at a cache that is
+/// reached, even for the last one's request to the origin server, and `Memory`.
 pub fn chain<Req: RequestLike, Res: ResponseLike>(
     alloc: Global,
     req: &Req,
@@ -84,10 +87,10 @@ pub fn chain<Req: RequestLike, Res: ResponseLike>(
         NeverGoDown received.nanosecond (nanoseconds moments.now)
         → ForEach policies.items IsAgedLike) }
     ensures steady { IfOk result (λ policies.
-        ForEach policies.items (λ first place e. IsExplicit first → SaysLike first e)) }
+        ForEach policies.items (λ first index e. IsExplicit first → SaysLike first e)) }
     ensures lifetimes { IfOk result (λ policies.
         NeverGoDown received.nanosecond (nanoseconds moments.now)
-        → ForEach policies.items (λ first place e. IsExplicit first → ExpiresLike first place e)) }
+        → ForEach policies.items (λ first index e. IsExplicit first → ExpiresLike first index e)) }
     ensures room { IfOk result (λ _. ¬ (Meets RefusesAnswer (Req.seen req.now)
         (first_kept (Req.seen req.now) (Res.seen res.now) (options_of opts) received.nanosecond)
         (nanoseconds moments.now))) }

@@ -1,4 +1,4 @@
-//! What a proxy needs of messages that it passes on (RFC 7230, section 5.7).
+//! What a proxy needs to forward messages (RFC 7230, section 5.7).
 ghost use Rattle.std.specs.Prelude.{◌≡◌, ◌⊎◌, ℕ, true, false, List, option_map, option_and_then};
 ghost use Rattle.std.specs.Prelude.{IfOk, IfErr, IsErrOf, IsOkUnless};
 ghost use Rattle.http_cache_fields.specs.Text.{text_of};
@@ -20,12 +20,10 @@ use http_cache_rules::{dates, forwarding, joined, updated};
 use jiff::Timestamp;
 use std::alloc::Global;
 
-/// Returns the headers of a message as a proxy passes them on: all values of each name, but not
-/// the names that concern one connection nor those that Connection lists (RFC 7230, section 6.1).
+/// Returns the header fields that a proxy forwards, with all values of each name.
 ///
-/// # Errors
-///
-/// Returns `Memory` if there is not enough memory.
+/// Connection-specific fields and those that Connection lists are removed (RFC 7230, section 6.1).
+/// The only error is `Memory`.
 pub fn forwarded_headers(_alloc: Global, headers: &HeaderMap) -> Result<HeaderMap, CacheError>
     ensures value { IfOk result (λ out.
         headers_of out ≡ forwarded_headers (headers_of headers.now)) }
@@ -34,13 +32,11 @@ pub fn forwarded_headers(_alloc: Global, headers: &HeaderMap) -> Result<HeaderMa
     Ok(forwarding::forwarded_headers(headers)?)
 }
 
-/// Returns the second that a field value names as a date, as the rules of lifetimes read it: by
-/// jiff's grammar of RFC 2822, with a final `GMT` read as `+0000`. Dates of RFC 850 and of asctime
-/// aren't read, and return `None`, as does a value that is no text.
+/// Returns the time of a field value that is a date, as the rules of lifetimes read it.
 ///
-/// # Errors
-///
-/// Returns `Memory` if there is not enough memory; a date of up to 62 bytes takes none.
+/// A date is what jiff reads as RFC 2822, with a final `GMT` read as `+0000`. RFC 850 and asctime
+/// dates, and values that aren't text, return `None`. The only error is `Memory`; a date of up to
+/// 62 bytes takes none.
 pub fn read_date(alloc: Global, value: &HeaderValue) -> Result<Option<Timestamp>, CacheError>
     ensures value { IfOk result (λ date. option_map (λ d. d.nanosecond) date
         ≡ option_map second_start (option_and_then when (text_of value.now.bytes))) }
@@ -52,16 +48,13 @@ pub fn read_date(alloc: Global, value: &HeaderValue) -> Result<Option<Timestamp>
     }
 }
 
-/// Returns the headers with one line for each name: its lines in order, with `, ` between them
-/// (RFC 9110, section 5.3). A policy sends the last line of each name, as the Rust crate does, so a
-/// cache that keeps all of them joins them before it makes the policy.
+/// Returns the headers with one line for each name: its lines in order, with `, ` between them (RFC
+/// 9110, section 5.3).
 ///
-/// Set-Cookie keeps its lines, as does a name with a line that isn't text. Age, Date, ETag, Expires
-/// and Last-Modified, which are no lists, keep the first line, which is the one that the rules read.
-///
-/// # Errors
-///
-/// Returns `Memory` if there is not enough memory.
+/// A policy sends only the last line of each name, as the Rust crate does. Join the lines first to
+/// keep them all. Set-Cookie keeps its lines, as does a name with a line that isn't text. Age,
+/// Date, ETag, Expires and Last-Modified are no lists, and keep their first line, which the rules
+/// read. The only error is `Memory`.
 pub fn joined_headers(alloc: Global, headers: &HeaderMap) -> Result<HeaderMap, CacheError>
     ensures value { IfOk result (λ out. headers_of out ≡ joined_headers (headers_of headers.now)) }
     ensures pieces { IfOk result (λ out. (name : List ℕ) → is_singleton name ≡ false
@@ -77,15 +70,16 @@ pub fn joined_headers(alloc: Global, headers: &HeaderMap) -> Result<HeaderMap, C
     Ok(out)
 }
 
-/// Returns the stored fields with those of a 304 in place of the stored ones of their names, new
-/// names too (RFC 9111, section 3.2). Fields of one connection, fields that Connection lists and
-/// fields that describe the body stay as they are stored. A policy adds no name after a 304, as the
-/// Rust crate doesn't, so a cache that follows RFC 9111 makes the next policy from these.
+/// Returns the stored fields with those of a 304 in place of theirs, new names too (RFC 9111,
+/// section 3.2).
+///
+/// Connection-specific fields, those that Connection lists, and those that describe the body keep
+/// their stored values. A policy adds no name after a 304, as the Rust crate doesn't. To follow RFC
+/// 9111, make the next policy from these.
 ///
 /// # Errors
 ///
-/// Returns `HeaderMapFull` if there is no room for the fields of both, and `Memory` if there is not
-/// enough memory.
+/// `HeaderMapFull` if there is no room for the fields of both, and `Memory`.
 pub fn updated_headers(
     _alloc: Global,
     stored: &HeaderMap,

@@ -1,4 +1,4 @@
-//! Several stored responses under one key, of which one answers a request (RFC 7234, section 4.1).
+//! Chooses one of several stored responses under one key (RFC 7234, section 4.1).
 ghost use Rattle.std.specs.Prelude.{◌≡◌, ◌≢◌, ◌∷◌, ◌≤◌, ◌<◌, ◌↔◌, List, [], Ok, Err, Some, None, true, length, remove};
 ghost use Rattle.std.specs.Prelude.{slice_get, slice_set, option_copied, IsTrue, IsErr, IfOk, IfErr, IfSome, OnOk, OnErr, OnSome, IfNone};
 ghost use Rattle.std.specs.Prelude.{IsErrOf, IsNone, false, is_some, is_none, option_map, position};
@@ -23,8 +23,8 @@ use std::marker::Model;
 use std::mem;
 use std::time::Duration;
 
-/// The policies of several responses that are stored under one key, the newest first. A place is
-/// counted from 0.
+/// The policies of several responses that are stored under one key, the newest first. Indices begin
+/// at 0.
 #[derive(Debug, Drop)]
 pub struct Variants {
     policies: Vec<CachePolicy>,
@@ -42,28 +42,27 @@ impl Model for Variants {
     ghost view = { λ v. v.policies.items };
 }
 
-/// Which of several policies answers a request, and with what.
+/// The policy that answers a request, and its answer.
 #[derive(Debug, Drop)]
 pub enum Choice {
     /// The stored response of a policy may be used without validation.
     Fresh {
-        /// The policy's place.
+        /// The policy's index.
         place: usize,
-        /// The stored status, and the headers as they go to the client.
+        /// The stored status, and the headers for the client.
         parts: response::Parts,
     },
-    /// The stored response of a policy answers the request once the origin has validated it.
+    /// The stored response of a policy answers the request once it is validated.
     Validate {
-        /// The policy's place.
+        /// The policy's index.
         place: usize,
-        /// The request that asks the origin about it.
+        /// The request that validates it at the origin server.
         request: request::Parts,
     },
-    /// None of the stored responses is the answer to the request: send that one as it is.
+    /// No stored response matches the request: forward it as it is.
     Nothing,
 }
 
-// Whether a request is for the stored target, by the stored method.
 fn is_for_stored<Req: RequestLike>(policy: &CachePolicy, req: &Req) -> bool
     ensures { result ≡ is_for_stored (Req.seen req.now) policy.now }
 {
@@ -71,12 +70,14 @@ fn is_for_stored<Req: RequestLike>(policy: &CachePolicy, req: &Req) -> bool
 }
 
 impl Variants {
-    ghost use Rattle.http_cache_semantics.specs.Variants.{fresh_place, matching_place, chosen_place, IsChoice};
+    ghost use Rattle.http_cache_semantics.specs.Variants.{fresh_index, matching_index};
+    ghost use Rattle.http_cache_semantics.specs.Variants.{chosen_index, IsChoice};
     ghost use Rattle.http_cache_semantics.specs.Variants.{IsOfChosen, IsOfFresh, IsOfValidate, IsPassedOver, choice_of};
-    ghost use Rattle.http_cache_semantics.specs.Variants.{matching, IsSameChoice, target_place, told_place};
+    ghost use Rattle.http_cache_semantics.specs.Variants.{matching, IsSameChoice};
+    ghost use Rattle.http_cache_semantics.specs.Variants.{target_index, explained_index};
     ghost use Rattle.http_cache_semantics.specs.Variants.{explanation_among};
 
-    /// No policies. It takes no memory; the allocator is kept for `add`.
+    /// Returns a list without policies. It allocates nothing; `add` uses the allocator.
     pub fn new(alloc: Global) -> Variants
         ensures { result ≡ [] }
     {
@@ -85,32 +86,31 @@ impl Variants {
         }
     }
 
-    /// How many policies there are.
+    /// Returns the number of policies.
     pub fn len(&self) -> usize
         ensures { result ≡ length self.now }
     {
         self.policies.len()
     }
 
-    /// Whether there are none.
+    /// Returns whether there is no policy.
     pub fn is_empty(&self) -> bool
         ensures { IsTrue result ↔ (self.now ≡ []) }
     {
         self.policies.is_empty()
     }
 
-    /// The policy at a place, if there is one.
-    pub fn policy_at(&self, place: usize) -> Option<&CachePolicy>
-        ensures { option_copied result ≡ slice_get self.now place }
+    /// Returns the policy at an index, if there is one.
+    pub fn policy_at(&self, index: usize) -> Option<&CachePolicy>
+        ensures { option_copied result ≡ slice_get self.now index }
     {
-        self.policies.get(place)
+        self.policies.get(index)
     }
 
-    /// Puts a policy in front of the others, which stay behind it in their order. It is refused for
-    /// want of memory alone, and then hands the policy back.
+    /// Adds a policy before the others.
     ///
-    /// For a request that the policy doesn't match, the choice stays the same, at a place one
-    /// further.
+    /// For requests that it doesn't match, the choice stays, one index further. The only error is
+    /// `Memory`, which returns the policy.
     pub fn add(&mut self, policy: CachePolicy) -> Result<(), (CachePolicy, CacheError)>
         ensures added { OnOk result (self.new ≡ policy ∷ self.old) }
         ensures passed_over { OnOk result (IsPassedOver policy self.old self.new) }
@@ -123,84 +123,85 @@ impl Variants {
         }
     }
 
-    /// Takes out the policy at a place, where there is one; those behind it close up.
-    pub fn remove(&mut self, place: usize) -> Option<CachePolicy>
-        ensures value { result ≡ slice_get self.old place }
-        ensures closes_up { OnSome result (self.new ≡ remove self.old place) }
+    /// Removes and returns the policy at an index, if there is one. Later ones move up.
+    pub fn remove(&mut self, index: usize) -> Option<CachePolicy>
+        ensures value { result ≡ slice_get self.old index }
+        ensures closes_up { OnSome result (self.new ≡ remove self.old index) }
         ensures kept { IfNone result (self.new ≡ self.old) }
-        ensures none { IsNone result ↔ (length self.old ≤ place) }
+        ensures none { IsNone result ↔ (length self.old ≤ index) }
     {
-        if place < self.policies.len() {
-            Some(self.policies.remove(place))
+        if index < self.policies.len() {
+            Some(self.policies.remove(index))
         } else {
             None
         }
     }
 
-    /// Puts a policy in the place of another, as where that one was renewed, and gives the old one.
-    /// It takes no memory. Where there is no such place, it hands the policy back.
-    pub fn replace(&mut self, place: usize, policy: CachePolicy) -> Result<CachePolicy, CachePolicy>
-        ensures replaced { OnOk result (self.new ≡ slice_set self.old place policy) }
-        ensures value { IfOk result (λ old. slice_get self.old place ≡ Some old) }
+    /// Replaces the policy at an index, as after a renewal, and returns the old one. If there is no
+    /// such index, the error returns the policy. Nothing is allocated.
+    pub fn replace(&mut self, index: usize, policy: CachePolicy) -> Result<CachePolicy, CachePolicy>
+        ensures replaced { OnOk result (self.new ≡ slice_set self.old index policy) }
+        ensures value { IfOk result (λ old. slice_get self.old index ≡ Some old) }
         ensures kept { OnErr result (self.new ≡ self.old) }
         ensures handed_back { IfErr result (λ back. back ≡ policy) }
-        ensures none { IsErr result ↔ (length self.old ≤ place) }
+        ensures none { IsErr result ↔ (length self.old ≤ index) }
     {
-        if place < self.policies.len() {
-            Ok(mem::replace(&mut self.policies[place], policy))
+        if index < self.policies.len() {
+            Ok(mem::replace(&mut self.policies[index], policy))
         } else {
             Err(policy)
         }
     }
 
-    fn stored_at(&self, place: usize) -> &CachePolicy
-        requires { place < length self.now }
-        ensures { slice_get self.now place ≡ Some result.now }
+    fn stored_at(&self, index: usize) -> &CachePolicy
+        requires { index < length self.now }
+        ensures { slice_get self.now index ≡ Some result.now }
     {
-        &self.policies[place]
+        &self.policies[index]
     }
 
-    /// The place of the first policy whose response may be used for a request at a moment without
-    /// validation (RFC 7234, section 4). It takes no memory.
-    pub fn fresh_place<Req: RequestLike>(&self, req: &Req, now: Timestamp) -> Option<usize>
-        ensures value { result ≡ fresh_place (Req.seen req.now) now.nanosecond self.now }
-        ensures within { IfSome result (λ place. place < length self.now) }
+    /// Returns the index of the first policy that may be used for a request at `now` without
+    /// validation (RFC 7234, section 4). Nothing is allocated.
+    pub fn fresh_index<Req: RequestLike>(&self, req: &Req, now: Timestamp) -> Option<usize>
+        ensures value { result ≡ fresh_index (Req.seen req.now) now.nanosecond self.now }
+        ensures within { IfSome result (λ index. index < length self.now) }
     {
         self.policies
             .iter()
             .position(|policy| policy.fresh_at(req, now))
     }
 
-    /// The place of the first policy whose response is the answer to a request, fresh or not
-    /// (RFC 7234, section 4.1). It takes no memory.
-    pub fn matching_place<Req: RequestLike>(&self, req: &Req) -> Option<usize>
-        ensures value { result ≡ matching_place (Req.seen req.now) self.now }
-        ensures within { IfSome result (λ place. place < length self.now) }
+    /// Returns the index of the first policy that matches a request, fresh or not (RFC 7234,
+    /// section 4.1). Nothing is allocated.
+    pub fn matching_index<Req: RequestLike>(&self, req: &Req) -> Option<usize>
+        ensures value { result ≡ matching_index (Req.seen req.now) self.now }
+        ensures within { IfSome result (λ index. index < length self.now) }
     {
         self.policies
             .iter()
             .position(|policy| policy.matches_request(req))
     }
 
-    // The place of the first that is fresh, else of the first that matches.
-    fn chosen_place<Req: RequestLike>(&self, req: &Req, now: Timestamp) -> Option<usize>
-        ensures value { result ≡ chosen_place (Req.seen req.now) now.nanosecond self.now }
-        ensures within { IfSome result (λ place. place < length self.now) }
+    fn chosen_index<Req: RequestLike>(&self, req: &Req, now: Timestamp) -> Option<usize>
+        ensures value { result ≡ chosen_index (Req.seen req.now) now.nanosecond self.now }
+        ensures within { IfSome result (λ index. index < length self.now) }
     {
-        match self.fresh_place(req, now) {
-            Some(place) => Some(place),
-            None => self.matching_place(req),
+        match self.fresh_index(req, now) {
+            Some(index) => Some(index),
+            None => self.matching_index(req),
         }
     }
 
-    /// The answer to a request at a moment: by the first policy whose response may be used without
-    /// validation, else by the first that matches, whose response is to be validated, else by none
-    /// (RFC 7234, sections 4 and 4.1). It takes no memory where none matches.
+    /// Returns the answer of the first policy that may be used at `now`, or else of the first that
+    /// matches.
     ///
-    /// The order of the policies counts among those alone that match.
+    /// The latter is to be validated (RFC 7234, sections 4 and 4.1). The order counts only among
+    /// policies that match. If none does, nothing is allocated.
     ///
-    /// `HeaderMapFull` and `DateNotPrintable` come where `before_request` gives them at the chosen
-    /// policy.
+    /// # Errors
+    ///
+    /// `HeaderMapFull` and `DateNotPrintable` if `before_request` returns them for the chosen
+    /// policy, and `Memory`.
     pub fn choose<Req: RequestLike>(
         &self,
         alloc: Global,
@@ -220,7 +221,7 @@ impl Variants {
         ensures single { (e : Exchange) → self.now ≡ e ∷ []
             → (answer : BeforeRequest) → IsAnswer e (Req.seen req.now) now.nanosecond answer
             → IsChoice self.now (Req.seen req.now) now.nanosecond (choice_of answer) }
-        ensures nothing { matching_place (Req.seen req.now) self.now ≡ None
+        ensures nothing { matching_index (Req.seen req.now) self.now ≡ None
             → result ≡ Ok Choice.Nothing }
         ensures empty { self.now ≡ [] → result ≡ Ok Choice.Nothing }
         ensures full { IsErrOf result CacheError.HeaderMapFull
@@ -231,74 +232,76 @@ impl Variants {
             (λ e. HasUndatedAnswer e (Req.seen req.now) now.nanosecond) }
         ensures no_other { result ≢ Err CacheError.Malformed }
     {
-        let Some(place) = self.chosen_place(req, now) else {
+        let Some(index) = self.chosen_index(req, now) else {
             return Ok(Choice::Nothing);
         };
-        match self.stored_at(place).before_request(alloc, req, now)? {
-            BeforeRequest::Fresh(parts) => Ok(Choice::Fresh { place, parts }),
-            BeforeRequest::Stale { request, .. } => Ok(Choice::Validate { place, request }),
+        match self.stored_at(index).before_request(alloc, req, now)? {
+            BeforeRequest::Fresh(parts) => Ok(Choice::Fresh {
+                place: index,
+                parts,
+            }),
+            BeforeRequest::Stale { request, .. } => Ok(Choice::Validate {
+                place: index,
+                request,
+            }),
         }
     }
 
-    // The place of the first whose method and target are a request's.
-    fn place_for_stored<Req: RequestLike>(&self, req: &Req) -> Option<usize>
+    fn index_for_stored<Req: RequestLike>(&self, req: &Req) -> Option<usize>
         ensures value { result ≡ position (is_for_stored (Req.seen req.now)) self.now }
-        ensures within { IfSome result (λ place. place < length self.now) }
+        ensures within { IfSome result (λ index. index < length self.now) }
     {
         self.policies
             .iter()
             .position(|policy| is_for_stored(policy, req))
     }
 
-    // The place of the first whose target is a request's.
-    fn place_by_any_method<Req: RequestLike>(&self, req: &Req) -> Option<usize>
+    fn index_by_any_method<Req: RequestLike>(&self, req: &Req) -> Option<usize>
         ensures value { result
             ≡ position (λ e. (Req.seen req.now).is_same_target e.target) self.now }
-        ensures within { IfSome result (λ place. place < length self.now) }
+        ensures within { IfSome result (λ index. index < length self.now) }
     {
         self.policies
             .iter()
             .position(|policy| req.is_same_uri(policy.stored_target()))
     }
 
-    // The place of the first for the request's target, by its method if there is one.
-    fn target_place<Req: RequestLike>(&self, req: &Req) -> Option<usize>
-        ensures value { result ≡ target_place (Req.seen req.now) self.now }
-        ensures within { IfSome result (λ place. place < length self.now) }
+    fn target_index<Req: RequestLike>(&self, req: &Req) -> Option<usize>
+        ensures value { result ≡ target_index (Req.seen req.now) self.now }
+        ensures within { IfSome result (λ index. index < length self.now) }
     {
-        match self.place_for_stored(req) {
-            Some(place) => Some(place),
-            None => self.place_by_any_method(req),
+        match self.index_for_stored(req) {
+            Some(index) => Some(index),
+            None => self.index_by_any_method(req),
         }
     }
 
-    // The place of the chosen one, else of the first for the request's target.
-    fn told_place<Req: RequestLike>(&self, req: &Req, now: Timestamp) -> Option<usize>
-        ensures value { result ≡ told_place (Req.seen req.now) now.nanosecond self.now }
-        ensures within { IfSome result (λ place. place < length self.now) }
+    fn explained_index<Req: RequestLike>(&self, req: &Req, now: Timestamp) -> Option<usize>
+        ensures value { result ≡ explained_index (Req.seen req.now) now.nanosecond self.now }
+        ensures within { IfSome result (λ index. index < length self.now) }
     {
-        match self.chosen_place(req, now) {
-            Some(place) => Some(place),
-            None => self.target_place(req),
+        match self.chosen_index(req, now) {
+            Some(index) => Some(index),
+            None => self.target_index(req),
         }
     }
 
-    /// Returns why none of the stored responses is used for a request at `now` without validation, or
-    /// that one is. It takes no memory.
+    /// Returns why no stored response is used for a request at `now` without validation, or that
+    /// one is.
     ///
-    /// It reports on the policy that `choose` goes by; where that is none, on the first one for the
-    /// request's target, by its method if there is one, else by any method; and where there is none
-    /// such, that the target is missed (RFC 9211, section 2.2).
+    /// It explains the policy that `choose` chooses. If there is none, it explains the first for
+    /// the request's target, by its method if there is one. Otherwise the target is missed (RFC
+    /// 9211, section 2.2). Nothing is allocated.
     #[tactic(auto, unfolding(crate::specs::Variants::explanation_among))]
     pub fn explain<Req: RequestLike>(&self, req: &Req, now: Timestamp) -> Explanation<'_>
         ensures value { explanation_seen result
             ≡ explanation_among self.now (Req.seen req.now) now.nanosecond }
         ensures hit { is_none result.reason
-            ≡ is_some (fresh_place (Req.seen req.now) now.nanosecond self.now) }
+            ≡ is_some (fresh_index (Req.seen req.now) now.nanosecond self.now) }
         ensures mismatch { option_map_or is_mismatch (option_map reason_seen result.reason) false
-            ≡ is_none (chosen_place (Req.seen req.now) now.nanosecond self.now) }
+            ≡ is_none (chosen_index (Req.seen req.now) now.nanosecond self.now) }
     {
-        let Some(place) = self.told_place(req, now) else {
+        let Some(index) = self.explained_index(req, now) else {
             return Explanation {
                 reason: Some(Reason::Target),
                 age: Duration::ZERO,
@@ -308,6 +311,6 @@ impl Variants {
                 },
             };
         };
-        self.stored_at(place).explain(req, now)
+        self.stored_at(index).explain(req, now)
     }
 }

@@ -5,23 +5,25 @@ use Rattle.http_cache_wire.specs.Wire.{given_token, reply_id}
 use Rattle.http_cache_errands.specs.UnderWay.{Changes, KeepsIds}
 use Rattle.http_cache_errands.specs.declared.errands.UnderWays.{UnderWays}
 
--- a reply gives the next token or none, and the next one is never given again
+-- a reply assigns the next token or none, and each token is assigned once
 abbrev pub GivesNext : Option ℕ → ℕ → ℕ → Type 0
 GivesNext None before after = after ≡ before
 GivesNext (Some token) before after = (token ≡ before) × (after ≡ before + 1)
 
--- no token is given, and the same requests are under way
+-- no token is assigned, and the requests under way are unchanged
 abbrev pub KeepsUnderWay : UnderWays → UnderWays → Type 0
 KeepsUnderWay before after =
     (after.next_token ≡ before.next_token) × KeepsIds before.by_token after.by_token
 
--- the request with a token is over, and the reply has its id; every other token is as before, but for one that is given
+-- the request with the token is over, and the reply has its id; no other token changes, except one
+-- that the reply assigns
 abbrev pub Ends : ℕ → Reply → (ℕ → Option ℕ) → (ℕ → Option ℕ) → Type 0
 Ends token r before after =
     (reply_id r ≡ before token) × (is_some (before token) ≡ true) × (after token ≡ None)
     × ((other : ℕ) → other ≢ token → given_token r ≢ Some other → after other ≡ before other)
 
--- with a token a request of this id is under way, and else the same ones as before
+-- an assigned token belongs to a request with this id; without one, the requests under way are
+-- unchanged
 abbrev pub AddsGiven : Option ℕ → ℕ → UnderWays → UnderWays → Type 0
 AddsGiven None id before after = KeepsUnderWay before after
 AddsGiven (Some token) id before after =

@@ -1,17 +1,15 @@
--- What is seen of a session between frames.
+-- The visible state of a session between frames.
 use Rattle.std.specs.Prelude.{ℕ, Option}
 use Rattle.http_cache_errands.specs.UnderWay.{id_at}
 use Rattle.http_cache_session.specs.declared.session.Session.{Session}
 
 module _ {S : Type 0} where
-  -- the shelf
   abbrev pub shelf_of : Session S → S
   shelf_of s = s.client.shelf
 
-  -- the token that the next request gets that the caller is to send
+  -- the token of the next request that the caller is asked to send
   abbrev pub next_token : Session S → ℕ
   next_token s = s.under_way.next_token
 
-  -- the id of the request under way that has a token
   abbrev pub id_under_way : Session S → ℕ → Option ℕ
   id_under_way s token = id_at s.under_way.by_token token

@@ -1,8 +1,8 @@
-//! A caching client as a session: what it answers to each frame of a caller, who does the errands at the
-//! origin server (`docs/PROTOCOL.md`).
+//! A caching client as a session: what it replies to each frame of a caller, who sends the requests
+//! to the origin server (`docs/PROTOCOL.md`).
 //!
-//! It relies on `http_cache_client` for every decision about caching, on `http_cache_wire` for what frames
-//! carry, and on `http_cache_intermediary` for what HTTP asks of an intermediary. It reads no input and
+//! It relies on `http_cache_client` for every decision about caching, on `http_cache_wire` for
+//! frames, and on `http_cache_intermediary` for the rules of an intermediary. It reads no input and
 //! writes no output.
 #![tactic(auto)]
 

@@ -20,9 +20,9 @@ use http_cache_intermediary::Intermediary;
 use http_cache_messages::complete::is_complete;
 use http_cache_plans::{Body, Times};
 use http_cache_storage::Shelf;
-use http_cache_wire::asked::{Asked, id_of, token_of};
 use http_cache_wire::fault::Fault;
-use http_cache_wire::message::{Place, request_in, response_in, time_of, time_under};
+use http_cache_wire::message::{BodyLocation, request_in, response_in, time_of, time_under};
+use http_cache_wire::operation::{Operation, id_of, token_of};
 use http_cache_wire::parts::{
     Written, done, with_body, written_check, written_own, written_own_request, written_response,
 };
@@ -33,23 +33,23 @@ use std::alloc::Global;
 use std::hash::RandomState;
 use std::mem;
 
-/// How a session works.
+/// The settings of a session.
 #[derive(Drop)]
 pub struct Settings {
     /// The keys of the header maps of requests and responses.
     pub keys: RandomState,
-    /// What the session does as an intermediary, if its caller is one.
+    /// The intermediary, if the caller is one.
     pub intermediary: Option<Intermediary>,
-    /// How many requests may be under way.
+    /// The greatest number of requests under way.
     pub requests: usize,
 }
 
-/// What a shelf stores.
+/// The amount that a shelf stores.
 #[derive(Clone, Copy, Debug, PartialEq, Eq)]
 pub struct Stored {
-    /// How many responses.
+    /// The number of responses.
     pub responses: u64,
-    /// How many bytes their fields and bodies have together.
+    /// The bytes of their fields and bodies.
     pub bytes: u64,
 }
 
@@ -62,7 +62,6 @@ pub struct Session<S: Drop> {
     counts: Counts,
 }
 
-// A count and one more.
 fn more(count: &mut u64) {
     *count = count.saturating_add(1);
 }
@@ -82,7 +81,7 @@ impl<S: Shelf + Drop> Session<S> {
         }
     }
 
-    /// Returns the shelf of a session that is over.
+    /// Returns the shelf, and drops the session.
     pub fn into_shelf(self) -> S
         ensures { result ≡ shelf_of self }
     {
@@ -90,23 +89,23 @@ impl<S: Shelf + Drop> Session<S> {
         client.into_shelf()
     }
 
-    // The request as the client is asked it, and its body if that is sent with it.
+    // Returns the request for the client, as the intermediary forwards it.
     fn asked_request(
         &self,
         alloc: Global,
         request: Request<Bytes>,
-        place: Place,
+        location: BodyLocation,
     ) -> Result<Request<Bytes>, Fault> {
         let Some(intermediary) = self.settings.intermediary.as_ref() else {
             return Ok(request);
         };
-        let content = place.content(request.body().len());
+        let content = location.content(request.body().len());
         let parts = intermediary.forwarded(alloc, &request, content)?;
         let (_, body) = request.into_parts();
         Ok(Request::from_parts(parts, body))
     }
 
-    // The reply to a request that isn't sent on, if it is such a one.
+    // Returns the reply to a request that the intermediary refuses.
     fn refused_request(
         &self,
         alloc: Global,
@@ -144,7 +143,7 @@ impl<S: Shelf + Drop> Session<S> {
         self.under_way.len() >= self.settings.requests
     }
 
-    // Has a validation sent, and returns its token and how it is written.
+    // Asks the caller to send a validation. Returns its token and the written request.
     fn send_check(
         &mut self,
         alloc: Global,
@@ -174,7 +173,7 @@ impl<S: Shelf + Drop> Session<S> {
         Ok((token, written))
     }
 
-    // Has a validation sent before the request is answered.
+    // Asks the caller to send a validation before the request is answered.
     fn validate(
         &mut self,
         alloc: Global,
@@ -196,7 +195,7 @@ impl<S: Shelf + Drop> Session<S> {
         Ok(written.send(id, token))
     }
 
-    // Has the client's own request sent.
+    // Asks the caller to send the client's own request.
     fn forward(
         &mut self,
         alloc: Global,
@@ -227,7 +226,8 @@ impl<S: Shelf + Drop> Session<S> {
         Ok(written.send(id, token))
     }
 
-    // Answers with a stale response, and has it validated if one more request may be under way.
+    // Answers with a stale response, and asks for its validation if one more request may be under
+    // way.
     fn answer_stale(
         &mut self,
         alloc: Global,
@@ -251,7 +251,7 @@ impl<S: Shelf + Drop> Session<S> {
         Ok(written.stale(id, token, check))
     }
 
-    // Answers without asking the origin.
+    // Answers without the origin server.
     fn answer_now(
         &mut self,
         alloc: Global,
@@ -273,13 +273,12 @@ impl<S: Shelf + Drop> Session<S> {
         Ok(written.answer(id))
     }
 
-    // Asks the client.
     fn decide(
         &mut self,
         alloc: Global,
         id: u64,
         request: Request<Bytes>,
-        place: Place,
+        location: BodyLocation,
         now: Timestamp,
     ) -> Result<Reply, Fault>
         ensures reply { IfOk result (IsReplyFor id) }
@@ -296,7 +295,7 @@ impl<S: Shelf + Drop> Session<S> {
             }
             Decision::Validate(check) => self.validate(alloc, id, request, check, now),
             Decision::Forward(forwarded) => {
-                let is_with_caller = place != Place::Here;
+                let is_with_caller = location != BodyLocation::Here;
                 let reply = self.forward(alloc, id, request, is_with_caller, forwarded, now)?;
                 more(&mut self.counts.misses);
                 Ok(reply)
@@ -313,16 +312,16 @@ impl<S: Shelf + Drop> Session<S> {
         ensures ungiven { OnErr result (KeepsUnderWay self.old.under_way self.new.under_way) }
     {
         let now = time_of(&frame.line)?;
-        let place = Place::of(&frame)?;
-        let (request, is_cut) = request_in(alloc, self.settings.keys, frame, place)?;
+        let location = BodyLocation::of(&frame)?;
+        let (request, is_cut) = request_in(alloc, self.settings.keys, frame, location)?;
         if let Some(reply) = self.refused_request(alloc, id, &request, is_cut, now)? {
             return Ok(reply);
         }
-        let request = self.asked_request(alloc, request, place)?;
-        self.decide(alloc, id, request, place, now)
+        let request = self.asked_request(alloc, request, location)?;
+        self.decide(alloc, id, request, location, now)
     }
 
-    // Hands a response to the client. None is a token that isn't under way.
+    // Passes a response to the client. Returns None if the token isn't under way.
     fn hand_over(
         &mut self,
         alloc: Global,
@@ -360,7 +359,7 @@ impl<S: Shelf + Drop> Session<S> {
         }
     }
 
-    // The reply once the client has taken a response.
+    // Returns the reply after the client has taken a response.
     fn taken(
         &mut self,
         alloc: Global,
@@ -394,7 +393,7 @@ impl<S: Shelf + Drop> Session<S> {
         }
     }
 
-    // Whether a response is cut off, which an intermediary doesn't send on.
+    // Returns whether a response is cut off, so that an intermediary doesn't send it.
     fn is_cut_off(&self, token: u64, response: &Response<Body>) -> bool {
         if self.settings.intermediary.is_none() {
             return false;
@@ -414,7 +413,7 @@ impl<S: Shelf + Drop> Session<S> {
         }
     }
 
-    // The reply to the response to a request under way.
+    // Replies to the response to a request under way.
     fn received(&mut self, alloc: Global, token: u64, frame: Frame) -> Result<Reply, Fault>
         ensures kept { IfErr result (λ fault. IsRefused fault
             → KeepsAll (S.stored self.old.client.shelf) (S.next_id self.old.client.shelf)
@@ -439,14 +438,14 @@ impl<S: Shelf + Drop> Session<S> {
         let Some(under_way) = self.under_way.remove(token) else {
             return Err(Fault::Lost);
         };
-        // After a change there is no way back.
+        // After a change an error can't be undone.
         match self.taken(alloc, under_way, outcome, now) {
             Ok(reply) => Ok(reply),
             Err(_) => Err(Fault::Lost),
         }
     }
 
-    // What is stored and may be used though the origin gave no response.
+    // Returns the stored response that may be used although the origin server gave no response.
     fn instead(
         &mut self,
         alloc: Global,
@@ -477,7 +476,7 @@ impl<S: Shelf + Drop> Session<S> {
         Ok(answer?)
     }
 
-    // The reply where the origin gave no response.
+    // Returns the reply if the origin server gave no response.
     fn unanswered(
         &self,
         alloc: Global,
@@ -536,7 +535,7 @@ impl<S: Shelf + Drop> Session<S> {
         }
     }
 
-    // The reply to the failure of a request under way.
+    // Replies to the failure of a request under way.
     fn failed(&mut self, alloc: Global, token: u64, line: &Value) -> Result<Reply, Fault>
         ensures kept { KeepsAll (S.stored self.old.client.shelf) (S.next_id self.old.client.shelf)
             (S.stored self.new.client.shelf) (S.next_id self.new.client.shelf) }
@@ -553,7 +552,6 @@ impl<S: Shelf + Drop> Session<S> {
         self.give_up(alloc, token, is_invalid, now)
     }
 
-    // Removes what is stored for a target.
     fn remove(&mut self, alloc: Global, id: u64, line: &Value) -> Result<Reply, Fault>
         ensures reply { IfOk result (IsReplyFor id) }
         ensures none { IfOk result (λ reply. given_token reply ≡ None) }
@@ -571,7 +569,6 @@ impl<S: Shelf + Drop> Session<S> {
         Ok(Reply::Notice(Notice::Removed { id, responses }))
     }
 
-    // Removes what can't be used again.
     fn sweep(&mut self, id: u64, line: &Value) -> Result<Reply, Fault>
         ensures reply { IfOk result (IsReplyFor id) }
         ensures none { IfOk result (λ reply. given_token reply ≡ None) }
@@ -597,7 +594,7 @@ impl<S: Shelf + Drop> Session<S> {
     fn reply_to(
         &mut self,
         alloc: Global,
-        asked: Asked,
+        operation: Operation,
         frame: Frame,
         stored: Stored,
     ) -> Result<Reply, Fault>
@@ -611,29 +608,31 @@ impl<S: Shelf + Drop> Session<S> {
         ensures next { IfOk result (λ reply. GivesNext (given_token reply)
             self.old.under_way.next_token self.new.under_way.next_token) }
         ensures reply { IfOk result (λ reply. ¬ (IsRefusal reply)) }
-        ensures id { (id : ℕ) → asked ≡ Asked.Ask id
+        ensures id { (id : ℕ) → operation ≡ Operation.Ask id
             → IfOk result (λ reply. reply_id reply ≡ Some id) }
         ensures over { (token : ℕ)
-            → (asked ≡ Asked.Received (Some token)) ⊎ (asked ≡ Asked.Failed (Some token))
+            → (operation ≡ Operation.Received (Some token))
+            ⊎ (operation ≡ Operation.Failed (Some token))
             → IfOk result (λ reply. Ends token reply
             (id_at self.old.under_way.by_token) (id_at self.new.under_way.by_token)) }
     {
-        match asked {
-            Asked::Ask(id) => self.ask(alloc, id, frame),
-            Asked::Received(Some(token)) => self.received(alloc, token, frame),
-            Asked::Failed(Some(token)) => self.failed(alloc, token, &frame.line),
-            Asked::Received(None) | Asked::Failed(None) => Err(Fault::Refused(Reason::NoToken)),
-            Asked::Remove(id) => self.remove(alloc, id, &frame.line),
-            Asked::Sweep(id) => self.sweep(id, &frame.line),
-            Asked::Stats(id) => Ok(Reply::Notice(Notice::Stats {
+        match operation {
+            Operation::Ask(id) => self.ask(alloc, id, frame),
+            Operation::Received(Some(token)) => self.received(alloc, token, frame),
+            Operation::Failed(Some(token)) => self.failed(alloc, token, &frame.line),
+            Operation::Received(None) | Operation::Failed(None) => Err(Fault::Refused(
+                Reason::NoToken,
+            )),
+            Operation::Remove(id) => self.remove(alloc, id, &frame.line),
+            Operation::Sweep(id) => self.sweep(id, &frame.line),
+            Operation::Stats(id) => Ok(Reply::Notice(Notice::Stats {
                 id,
                 counts: self.counts(stored),
             })),
-            Asked::Quit(id) => Ok(Reply::Notice(Notice::Quit { id })),
+            Operation::Quit(id) => Ok(Reply::Notice(Notice::Quit { id })),
         }
     }
 
-    // The error of a frame that is refused.
     fn error(&mut self, reason: Reason, id: Option<u64>, token: Option<u64>) -> Turn
         ensures client { self.new.client ≡ self.old.client }
         ensures under_way { self.new.under_way ≡ self.old.under_way }
@@ -657,14 +656,14 @@ impl<S: Shelf + Drop> Session<S> {
 
     /// Returns the reply to a frame. `stored` is what the shelf stores now, for `stats`.
     ///
-    /// After a reply that refuses the frame (`error`, but for "no response"), what is stored and
-    /// under way is as before. Any other reply to `received` or `failed` ends the request of the
+    /// A reply that refuses the frame (any `error` but "no response") leaves what is stored and
+    /// under way as it was. Any other reply to `received` or `failed` ends the request with the
     /// token.
     ///
     /// # Errors
     ///
-    /// Returns `Lost` if something was changed and there is no memory for a reply that says so. The
-    /// session can't go on then, since its caller doesn't know what is under way.
+    /// `Lost` if something was changed and there is no memory for a reply that reports it. The
+    /// session is then unusable, since its caller doesn't know what is under way.
     pub fn answer(&mut self, alloc: Global, frame: Frame, stored: Stored) -> Result<Turn, Lost>
         ensures given { IfOk result (λ turn. GivesNext (given_token turn.reply)
             (next_token self.old) (next_token self.new)) }
@@ -688,13 +687,13 @@ impl<S: Shelf + Drop> Session<S> {
         if frame.is_too_long {
             return Ok(self.error(Reason::TooLong, id, token));
         }
-        let Some(asked) = Asked::of(&frame.line) else {
+        let Some(operation) = Operation::of(&frame.line) else {
             return Ok(self.error(Reason::NoSuchFrame, id, token));
         };
-        match self.reply_to(alloc, asked, frame, stored) {
+        match self.reply_to(alloc, operation, frame, stored) {
             Ok(reply) => Ok(Turn {
                 reply,
-                is_last: matches!(asked, Asked::Quit(_)),
+                is_last: matches!(operation, Operation::Quit(_)),
             }),
             Err(Fault::Refused(reason)) => Ok(self.error(reason, id, token)),
             Err(Fault::Lost) => Err(Lost),

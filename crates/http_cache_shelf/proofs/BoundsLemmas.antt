@@ -1,4 +1,4 @@
--- What the limits leave.
+-- What is left after the limits are enforced.
 use Rattle.std.proofs.Common.{◌≤◌, ◌<◌, ◌+◌, ◌≡◌, arith, ℕ, ◌-◌, Bool, true, false, List, [], ◌∷◌, ◌++◌, length, take, drop, cond, bytes_eq, Option, Some, refl, sym, ap, subst, ◌∙◌, inl, inr, ◌⊎◌, append-nil, append_assoc}
 use Rattle.std.specs.Option.{option_map_or}
 use Rattle.std.specs.declared.string.String.{String}
@@ -24,7 +24,7 @@ module _ {Y : Type 0} where
   pub front-all : (es : List (String Y × StoredList)) → IsFront es es
   front-all es = record { evicted = []; is = sym (append-nil es); some = λ h. h }
 
-  -- of two or more the last may be evicted
+  -- if two or more entries are left, the last may be evicted
   pub front-more : (old es : List (String Y × StoredList)) → IsFront old es → 1 < length es → IsFront old (take (length es - 1) es)
   front-more old es front two = record {
     evicted = drop (length es - 1) es ++ front.evicted;
@@ -66,21 +66,20 @@ module _ {Y : Type 0} where
         ]
       ]
 
-  -- the list of the first key, if it is the text, is what is stored under it
+  -- the list of the first key is what is stored under its text
   at-first : (own : List ℕ) (es : List (String Y × StoredList)) (key : String Y) (kept : StoredList) (rest : List (String Y × StoredList))
       → es ≡ (key, kept) ∷ rest → is_text own key ≡ true → stored_under es own ≡ all_seen kept
   at-first own es key kept rest first is =
       ap (λ (l : List (String Y × StoredList)). stored_under l own) first
       ∙ ap (λ (b : Bool). option_map_or all_seen (cond b (Some kept) (lookup (is_text own) rest)) []) is
 
-  -- under other texts is what is stored in the rest
+  -- under other texts is what the rest stores
   past-first : (own other : List ℕ) (es : List (String Y × StoredList)) (key : String Y) (kept : StoredList) (rest : List (String Y × StoredList))
       → es ≡ (key, kept) ∷ rest → is_text own key ≡ true → (other ≡ own → ⊥) → stored_under es other ≡ stored_under rest other
   past-first own other es key kept rest first is differ =
       ap (λ (l : List (String Y × StoredList)). stored_under l other) first
       ∙ ap (λ (b : Bool). option_map_or all_seen (cond b (Some kept) (lookup (is_text other) rest)) []) (apart own other differ key is)
 
-  -- under the text the newest are left, at least as many as are to stay
   pub record IsShortened (own : List ℕ) (stay : ℕ) (old new : List (String Y × StoredList)) : Type 0 where
     pub left : AreLeft stay (stored_under old own) (stored_under new own)
     pub others : KeepsAllOthers (stored_under old) (stored_under new) own
@@ -95,7 +94,7 @@ module _ {Y : Type 0} where
         ∙ sym (past-first own other es s.key s.was s.rest s.old_first s.is differ);
   }
 
-  -- what is stored under the text when it was shortened, and others were evicted
+  -- after the text was shortened, evicting others leaves its responses
   pub own-left : (l : Limits) (own : List ℕ) (stay : ℕ) (es short front tidied : List (String Y × StoredList))
       → (s : IsFirstShortened l own stay es short) → IsFront short front → stored_under tidied ≡ stored_under front
       → stored_under tidied own ≡ all_seen s.now_kept
@@ -122,7 +121,7 @@ module _ {Y : Type 0} where
         ];
       }
 
-  -- what is left alone of the first text is within the limits
+  -- if only the first text is left, it is within the limits
   pub alone-allowed : (l : Limits) (own : List ℕ) (stay : ℕ) (held : Amount) (es short : List (String Y × StoredList))
       (front : LruCache (String Y) StoredList) → IsFirstShortened l own stay es short → IsFront short front.entries
       → IsHeld held front → length front.entries ≤ 1 → IsAllowed l held
@@ -144,7 +143,7 @@ cut seen before (x ∷ xs) back h some =
     let a : seen ≡ x = cc in let b : before ≡ xs ++ back = cc in (xs, ap (λ (y : StoredSeen). y ∷ xs) (sym a), (back, b))
 
 module _ {Y : Type 0} where
-  -- a response that was put first is followed by what the limits leave
+  -- a response that was put first stays first, followed by what the limits leave
   pub inserted : (own t1 t2 : List ℕ) → t1 ≡ own → t2 ≡ own → (seen : StoredSeen) (superseded : List ResponseId)
       (old es mid new : List (String Y × StoredList)) → mid ≡ es
       → IsOnTop t1 (seen ∷ without superseded (stored_under old t1)) old es → IsBounded t2 1 mid new
@@ -162,13 +161,12 @@ module _ {Y : Type 0} where
       cut seen before (stored_under new own) bounds.left.evicted (sym was ∙ bounds.left.is)
       (bounds.left.stayed (subst (λ (l : List StoredSeen). 1 ≤ length l) (sym was) one))
 
-  -- the first text is found
   pub first-found : (own : List ℕ) (es : List (String Y × StoredList)) → (first : IsFirstText own es) → lookup (is_text own) es ≡ Some first.kept
   first-found own es first =
       ap (lookup (is_text own)) first.first
       ∙ ap (λ (b : Bool). cond b (Some first.kept) (lookup (is_text own) first.rest)) first.is
 
-  -- what is written through a look-up of the first text
+  -- a list that was shortened through a look-up is the first text's
   pub first-shortened : (l : Limits) (own : List ℕ) (stay : ℕ) (es : List (String Y × StoredList)) (v w : StoredList) → IsFirstText own es
       → lookup (is_text own) es ≡ Some v → AreLeft stay (all_seen v) (all_seen w)
       → (FitTogether l (take stay (all_seen v)) → FitTogether l (all_seen w)) → CanStay l stay own es
@@ -194,18 +192,15 @@ module _ {Y : Type 0} where
         fits = fits (subst (λ (xs : List StoredSeen). FitTogether l (take stay xs)) under can);
       }
 
-  -- a text that was put on top is the first
   pub first-text : (own : List ℕ) (all : List StoredSeen) (old new : List (String Y × StoredList)) → IsOnTop own all old new
       → IsFirstText own new
   first-text own all old new top = record { key = top.key; kept = top.kept; rest = top.rest; first = top.first; is = top.is }
 
-  -- a text that is written through a look-up is the first
   pub first-written : (own : List ℕ) (es : List (String Y × StoredList)) (v w : StoredList) → lookup (is_text own) es ≡ Some v
       → IsFirstText own (set_value (is_text own) (promoted (is_text own) es) w)
   first-written own es v w found = first-text own (all_seen w) es (set_value (is_text own) (promoted (is_text own) es) w)
       (written-on-top own es v w found (all_seen w) refl)
 
--- the newest of the newest are the newest
 newest-of : (left mid all : List StoredSeen) → AreNewestOf left mid → AreNewestOf mid all → AreNewestOf left all
 newest-of left mid all a b =
     (a.0 ++ b.0, b.1 ∙ ap (λ (l : List StoredSeen). l ++ b.0) a.1 ∙ append_assoc left a.0 b.0)
@@ -231,7 +226,6 @@ module _ {Y : Type 0} where
             (left.others text (λ is. true≢false (sym ((bytes_eq-Decides text own).1 is) ∙ h)))
       ]) refl
 
-  -- under each text the newest are left
   pub fewer : (l : Limits) (own : List ℕ) (stay : ℕ) (es short front tidied : List (String Y × StoredList))
       → IsFirstShortened l own stay es short → IsFront short front → stored_under tidied ≡ stored_under front
       → AreFewer (stored_under es) (stored_under tidied)
@@ -242,14 +236,14 @@ module _ {Y : Type 0} where
       (newest-front text short front first))
       (newest-short text own stay es short (shortened l own stay es short s))
 
-  -- what is left of responses that were changed under the text that was used last
+  -- what is left of the changed responses of the text that was used last
   pub renewed-left : (own t : List ℕ) → t ≡ own → (all : List StoredSeen) (mid new : List (String Y × StoredList))
       → stored_under mid t ≡ all → IsBounded t 0 mid new → AreNewestOf (stored_under new own) all
   renewed-left own t same all mid new was bounds =
       let at : AreNewestOf (stored_under new t) all = (bounds.left.evicted, sym was ∙ bounds.left.is) in
       subst (λ (u : List ℕ). AreNewestOf (stored_under new u) all) same at
 
--- what two steps do to other targets
+-- two steps keep the other targets, or evict them
 pub others-after : (own : List ℕ) (old mid new : StoredByTarget) → KeepsOthers old mid own → KeepsOthers mid new own → KeepsOthers old new own
 others-after own old mid new a b = λ other differ. elim (b other differ) [
   | inr none ↦ inr none
@@ -260,7 +254,7 @@ others-after own old mid new a b = λ other differ. elim (b other differ) [
 ]
 
 module _ {Y : Type 0} where
-  -- a response that is within the limits alone may stay when it was put on top
+  -- a response that alone is within the limits stays when it is put on top
   pub put-can-stay : (l : Limits) (own : List ℕ) (seen : StoredSeen) (rest : List StoredSeen) (old new : List (String Y × StoredList))
       → IsOnTop own (seen ∷ rest) old new → FitsAlone l seen.exchange.response_headers seen.body → CanStay l 1 own new
   put-can-stay l own seen rest old new top fits =

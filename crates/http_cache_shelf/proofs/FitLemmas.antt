@@ -15,7 +15,6 @@ use Rattle.http_cache_shelf.proofs.MapLemmas.{true≢false}
 use Rattle.http_cache_shelf.proofs.Sums.{ones, filter-less}
 
 module _ (l : Limits) where
-  -- each text is within the limits of one text
   abbrev pub AllFit : StoredByTarget → Type 0
   AllFit stored = (text : List ℕ) → AreFitting l (stored text)
 
@@ -68,7 +67,7 @@ module _ (l : Limits) where
     bodies = renewed-bodies id e xs fits.bodies;
   }
 
-  -- where each other text keeps its responses or has none, its own are what counts
+  -- as each other text keeps its responses or has none, only the text's own responses matter
   pub fit-by-text : (own : List ℕ) (old new : StoredByTarget) → KeepsOthers old new own → AllFit old → AreFitting l (new own) → AllFit new
   fit-by-text own old new others before own_fits = λ text.
       (elim (bytes_eq text own) as (λ b. bytes_eq text own ≡ b → AreFitting l (new text)) [
@@ -111,7 +110,7 @@ module _ (l : Limits) where
   pub fit-equal : (old new : StoredByTarget) → new ≡ old → AllFit old → AllFit new
   fit-equal old new same before = subst AllFit (sym same) before
 
-  -- a new response is followed by responses that were there
+  -- a new response is followed by responses that were stored before
   pub fit-put : (own : List ℕ) (seen : StoredSeen) (ids : List ResponseId) (old new : StoredByTarget) (left : List StoredSeen)
       → new own ≡ seen ∷ left → AreNewestOf left (without ids (old own)) → length seen.body ≤ l.body → length (new own) ≤ l.variants
       → KeepsOthers old new own → AllFit old → AllFit new
@@ -123,7 +122,3 @@ module _ (l : Limits) where
         variants = few;
         bodies = subst (λ (xs : List StoredSeen). All (λ (r : StoredSeen). length r.body ≤ l.body) xs) (sym stored) all;
       }
-
--- nothing is within all limits
-pub none-together : (l : Limits) → FitTogether l []
-none-together l = record { variants = omega arith; responses = omega arith; bytes = omega arith }

@@ -1,4 +1,4 @@
--- What is held is the amount of all that is stored, after each change of one list.
+-- `held` is the amount of all that is stored, after each change of one list.
 use Rattle.std.proofs.Common.{◌≡◌, ◌≤◌, ◌<◌, arith, ℕ, zero, suc, ◌+◌, ◌-◌, ◌^◌, Bool, List, [], ◌∷◌, take, drop, length, slice_get, IfSome, Some, None, refl, sym, ap, subst, ◌∙◌}
 use Rattle.std.specs.List.{filter, sum_by}
 use Rattle.std.specs.Option.{option_map_or}
@@ -23,10 +23,7 @@ nothing = record { responses = 0; bytes = 0 }
 pub of-nothing : IsAmountOf nothing []
 of-nothing = record { responses = refl; bytes = refl }
 
-pub same-amount : (a : Amount) (xs ys : List StoredSeen) → IsAmountOf a xs → ys ≡ xs → IsAmountOf a ys
-same-amount a xs ys h same = record { responses = h.responses ∙ sym (ap (sum_by one) same); bytes = h.bytes ∙ sym (ap (sum_by size_of) same) }
-
--- what a filter keeps is no more
+-- a filtered list has no greater amount
 pub kept-less : (a b : Amount) (p : StoredSeen → Bool) (xs ys : List StoredSeen) → IsAmountOf a ys → IsAmountOf b xs → ys ≡ filter p xs
     → IsAtMost a b
 kept-less a b p xs ys left was same =
@@ -34,14 +31,13 @@ kept-less a b p xs ys left was same =
     let less : sum_by size_of ys ≤ sum_by size_of xs = omega (arith, filter-less size_of p xs, ap (sum_by size_of) same) in
     record { responses = omega (arith, few, left.responses, was.responses); bytes = omega (arith, less, left.bytes, was.bytes) }
 
--- what is left is no more
+-- a shortened list has no greater amount
 pub left-less : (a b : Amount) (stay : ℕ) (xs ys : List StoredSeen) → IsAmountOf a ys → IsAmountOf b xs → AreLeft stay xs ys → IsAtMost a b
 left-less a b stay xs ys left was are =
     let few : sum_by one ys ≤ sum_by one xs = front-less one xs ys are.evicted are.is in
     let less : sum_by size_of ys ≤ sum_by size_of xs = front-less size_of xs ys are.evicted are.is in
     record { responses = omega (arith, few, left.responses, was.responses); bytes = omega (arith, less, left.bytes, was.bytes) }
 
--- nothing is no more than anything
 pub nothing-less : (a : Amount) → IsAtMost nothing a
 nothing-less a = record { responses = omega arith; bytes = omega arith }
 
@@ -51,14 +47,14 @@ less-same a = record { responses = omega arith; bytes = omega arith }
 pub less-less : (a b c : Amount) → IsAtMost a b → IsAtMost b c → IsAtMost a c
 less-less a b c f g = record { responses = omega (arith, f.responses, g.responses); bytes = omega (arith, f.bytes, g.bytes) }
 
--- an amount in which a part is made smaller is no more
+-- an amount in which a part becomes smaller isn't greater
 pub replaced-less : (held before after : Amount) → IsAtMost before held → IsAtMost after before → IsAtMost (replaced held before after) held
 replaced-less held before after f g = record {
   responses = omega (arith, f.responses, g.responses);
   bytes = omega (arith, f.bytes, g.bytes);
 }
 
--- an amount in which a part is replaced by an equal one is no more
+-- an amount in which a part is replaced by an equal one isn't greater
 pub replaced-equal : (held before after : Amount) (xs ys : List StoredSeen) → IsAtMost before held → IsAmountOf before xs → IsAmountOf after ys
     → ys ≡ xs → IsAtMost (replaced held before after) held
 replaced-equal held before after xs ys f b a same =
@@ -72,7 +68,7 @@ replaced-equal held before after xs ys f b a same =
 pub less-as : (h g k : Amount) → h ≡ g → IsAtMost g k → IsAtMost h k
 less-as h g k same less = subst (λ (a : Amount). IsAtMost a k) (sym same) less
 
--- less than what may be stored may be stored
+-- an amount at most as great as an allowed one is allowed
 pub allowed-less : (l : Limits) (a b : Amount) → IsAllowed l b → IsAtMost a b → IsAllowed l a
 allowed-less l a b allowed less = record {
   responses = omega (arith, allowed.responses, less.responses);
@@ -109,7 +105,7 @@ module _ {Y : Type 0} where
   }
 
   module _ (test : String Y → Bool) (held : Amount) (c : LruCache (String Y) StoredList) (counted : IsHeld held c) where
-    -- where a list is found
+    -- a list is found
     module _ (v : StoredList) (a : Amount) (found : lookup test c.entries ≡ Some v) (was : IsAmountOf a (all_seen v)) where
       pub found-less : IsAtMost a held
       found-less = part-less held a c (all_seen v) (remove_entry test c.entries) counted was (λ g. total-found g test c.entries v found)
@@ -125,7 +121,7 @@ module _ {Y : Type 0} where
           held-replaced held a nothing c (all_seen v) [] (remove_entry test c.entries) (remove_entry test c.entries)
           counted was of-nothing (λ g. total-found g test c.entries v found) (λ g. omega arith)
 
-    -- where nothing is found
+    -- nothing is found
     pub held-absent : lookup test c.entries ≡ None → IsHeld held (lru_cache (remove_entry test c.entries) c.cap)
     held-absent none = record {
       amount = same-amount-of (remove_entry test c.entries) (λ g. total-absent g test c.entries none);
@@ -143,7 +139,7 @@ module _ {Y : Type 0} where
   held-as h g c d amount map held =
       subst (λ (a : Amount). IsHeld a c) (sym amount) (subst (λ (m : LruCache (String Y) StoredList). IsHeld g m) (sym map) held)
 
-  -- the entries count for as much
+  -- the new entries have the amount of the old ones
   pub held-same : (held : Amount) (c : LruCache (String Y) StoredList) (es : List (String Y × StoredList)) → IsHeld held c
       → ((g : StoredSeen → ℕ) → sum_by g (all_stored es) ≡ sum_by g (all_stored c.entries)) → IsHeld held (lru_cache es c.cap)
   held-same held c es counted same = record {
@@ -162,12 +158,12 @@ module _ {Y : Type 0} where
       sym (total-cons g e es ∙ ap (λ (l : List StoredSeen). sum_by g l + sum_by g (all_stored es)) h
       ∙ (let z : sum_by g [] + sum_by g (all_stored es) ≡ sum_by g (all_stored es) = omega arith in z))
 
-  -- the first entry counts for nothing if nothing is left of it
+  -- the first entry counts nothing if its list is empty
   pub held-first : (held : Amount) (c : LruCache (String Y) StoredList) → IsHeld held c
       → IfSome (slice_get c.entries 0) (λ e. all_seen e.1 ≡ []) → IsHeld held (lru_cache (drop 1 c.entries) c.cap)
   held-first held c counted spent = held-same held c (drop 1 c.entries) counted (λ g. first-counts g c.entries spent)
 
-  -- a new key comes with what its list counts for
+  -- a new key adds the amount of its list
   pub held-put : (held b : Amount) (c : LruCache (String Y) StoredList) (key : String Y) (list : StoredList) → IsHeld held c
       → lookup (string_eq key) c.entries ≡ None → length c.entries < 2 ^ 63 → IsAmountOf b (all_seen list)
       → IsHeld (replaced held nothing b) (lru_cache (put_entries string_eq c key list) c.cap)
@@ -180,7 +176,7 @@ module _ {Y : Type 0} where
       held-replaced held nothing b c [] (all_seen list) (put_entries string_eq c key list) c.entries counted of-nothing is
       (λ g. omega arith) (λ g. ap (λ (l : List (String Y × StoredList)). sum_by g (all_stored l)) new ∙ total-cons g (key, list) c.entries)
 
-  -- the last entry
+  -- the last entry is changed
   module _ (held a : Amount) (c : LruCache (String Y) StoredList) (e : String Y × StoredList) (counted : IsHeld held c)
       (last : last_entry c.entries ≡ Some e) (was : IsAmountOf a (all_seen e.1)) where
     last-part : IsPart (all_seen e.1) c.entries (take (length c.entries - 1) c.entries)

@@ -25,7 +25,7 @@ module _ {X : Type 0} (P : X → Type 0) where
         | false ↦ λ q. rw q (some p xs (All-tail P x xs h))
       ]) refl
 
--- a policy that is replaced leaves the ids
+-- replacing a policy keeps the ids
 pub below-renewed : (n id : ℕ) (e : Exchange) (xs : List StoredSeen) → AreIdsBelow n xs → AreIdsBelow n (renewed id e xs)
 below-renewed n id e [] h = h
 below-renewed n id e (x ∷ xs) h =
@@ -48,11 +48,11 @@ below-none n = All-nil (λ (r : StoredSeen). r.id < n)
 pub below-same : (n : ℕ) (xs ys : List StoredSeen) → xs ≡ ys → AreIdsBelow n ys → AreIdsBelow n xs
 below-same n xs ys h all = All-same (λ (r : StoredSeen). r.id < n) xs ys h all
 
--- each text has ids below
+-- under each text all ids are below the number
 abbrev pub AllBelow : ℕ → StoredByTarget → Type 0
 AllBelow n stored = (text : List ℕ) → AreIdsBelow n (stored text)
 
--- where each other text keeps its responses or has none, its own are what counts
+-- as each other text keeps its responses or has none, only the text's own ids matter
 by-text : (n : ℕ) (own : List ℕ) (old new : StoredByTarget) → KeepsOthers old new own
     → AllBelow n old → AreIdsBelow n (new own) → AllBelow n new
 by-text n own old new others before own_below = λ text.
@@ -101,13 +101,12 @@ below-removed n these old new removed before = λ text.
 pub below-equal : (n : ℕ) (old new : StoredByTarget) → new ≡ old → AllBelow n old → AllBelow n new
 below-equal n old new same before = subst (AllBelow n) (sym same) before
 
--- ids that are below a number are below a greater one
 pub below-wider : (n m : ℕ) (stored : StoredByTarget) → n ≤ m → AllBelow n stored → AllBelow m stored
 below-wider n m stored more before = λ text.
     All-weaker (λ (r : StoredSeen). r.id < n) (λ (r : StoredSeen). r.id < m) (λ r less. omega arith) (stored text) (before text)
 
 module _ {Y : Type 0} where
-  -- a new response of the next id
+  -- a new response takes the next id
   pub below-put : (n : ℕ) (own : List ℕ) (seen : StoredSeen) (ids : List ResponseId) (old new : List (String Y × StoredList))
       → seen.id ≡ n → IsOnTop own (seen ∷ without ids (stored_under old own)) old new
       → AllBelow n (stored_under old) → AllBelow (n + 1) (stored_under new)

@@ -16,7 +16,7 @@ use Rattle.http_cache_storage.proofs.EndingLemmas.{parts}
 pub left-all : {X : Type 0} (stay : ℕ) (xs : List X) → AreLeft stay xs xs
 left-all stay xs = record { evicted = []; is = sym (append-nil xs); stayed = λ h. h }
 
--- the last of more than are to stay may be evicted
+-- if more than `stay` are left, the last may be evicted
 pub left-more : {X : Type 0} (stay : ℕ) (old xs : List X) → AreLeft stay old xs → stay < length xs
     → AreLeft stay old (take (length xs - 1) xs)
 left-more stay old xs left more = record {
@@ -35,7 +35,7 @@ pub as_long : (xs : List StoredResponse) → length (map seen_of xs) ≡ length 
 as_long [] = refl
 as_long (x ∷ xs) = ap suc (as_long xs)
 
--- what contracts see of what is left is left of what they saw
+-- dropping the oldest commutes with what contracts see
 pub left-seen : (stay : ℕ) (old new : List StoredResponse) → AreLeft stay old new → AreLeft stay (map seen_of old) (map seen_of new)
 left-seen stay old new left = record {
   evicted = map seen_of left.evicted;
@@ -47,12 +47,11 @@ shown : {Z : Type 0} (o : Option (List Z)) → IfSome o (λ body. body ≡ optio
 shown None = tt
 shown (Some b) = refl
 
--- a list of stored responses shows all that contracts see of it
 pub shows : (xs : List StoredResponse) → ShowsAll xs (map seen_of xs)
 shows [] = tt
 shows (x ∷ xs) = (record { id = refl; exchange = refl; body = shown x.body }, shows xs)
 
--- a filter keeps the stored responses that contracts see it keep
+-- filtering commutes with what contracts see
 pub filter-seen_of : (p : StoredSeen → Bool) (xs : List StoredResponse) → filter p (map seen_of xs) ≡ map seen_of (filter (λ s. p (seen_of s)) xs)
 filter-seen_of p [] = refl
 filter-seen_of p (x ∷ xs) =
@@ -74,7 +73,6 @@ found-at [] i x less h = absurd (let no : ⊥ = omega arith in no)
 found-at (y ∷ ys) zero x less h = ap Some (sym h)
 found-at (y ∷ ys) (suc i) x less h = found-at ys i x (omega arith) h
 
--- a policy that is written at an index
 pub renewed-there : (e : Exchange) (xs ys : List StoredResponse) (i : ℕ) (x : StoredResponse) → i < length xs → x ≡ get_or xs i x
     → ys ≡ set xs i (record x { policy = e }) → IsRenewedAt i e xs ys
 renewed-there e xs ys i x less h is = record { was = x; found = found-at xs i x less h; is = is }
@@ -107,7 +105,7 @@ module _ (id : ℕ) (e : Exchange) where
             rw p (ap (λ (l : List StoredSeen). seen_of x ∷ l) (unchanged xs rest))
       ]) refl
 
-  -- a policy that is written at the first index of the id
+  -- writing a policy at the first index of the id renews its response
   pub renewed-first : (xs ys : List StoredResponse) (i : ℕ) → position named xs ≡ Some i → IsRenewedAt i e xs ys
       → map seen_of ys ≡ renewed id e (map seen_of xs)
   renewed-first xs ys i at changed =
@@ -118,7 +116,6 @@ module _ (id : ℕ) (e : Exchange) where
       ]) refl in
       ap (map seen_of) changed.is ∙ renewed-set xs changed.was i index changed.found
 
-  -- nothing changes where no response has the id
   pub renewed-nowhere : (xs : List StoredResponse) → position named xs ≡ None → map seen_of xs ≡ renewed id e (map seen_of xs)
   renewed-nowhere xs at =
       let long : length xs ≤ position_or_len named xs =
@@ -148,7 +145,6 @@ module _ (id : ℕ) where
         | false ↦ λ p. let h' = rw p at h in let rest : length xs ≤ position_or_len of_id xs = omega (arith, h') in rw p (any-none xs rest)
       ]) refl
 
-  -- whether a response has the id
   pub is_named : (xs : List StoredResponse) → list_any (λ r. nat_eq r.id id) (map seen_of xs) ≡ is_some (position of_id xs)
   is_named xs =
       (elim (nat_lt (position_or_len of_id xs) (length xs)) as (λ b. nat_lt (position_or_len of_id xs) (length xs) ≡ b → list_any (λ r. nat_eq r.id id) (map seen_of xs) ≡ is_some (position of_id xs)) [
@@ -156,25 +152,6 @@ module _ (id : ℕ) where
         | false ↦ λ p. let long : length xs ≤ position_or_len of_id xs = grind (arith, nat_tests) in rw p (any-none xs long)
       ]) refl
 
--- the newest that are no more than are to stay are within the limits, if those are
-pub stay-fit : (l : Limits) (stay : ℕ) (old new : List StoredResponse) → AreLeft stay old new → length new ≤ stay
-    → FitTogether l (take stay (map seen_of old)) → FitTogether l (map seen_of new)
-stay-fit l stay old new left few fits =
-    let xs = map seen_of new in
-    let ys = map seen_of left.evicted in
-    let all : map seen_of old ≡ xs ++ ys = ap (map seen_of) left.is ∙ map-both new left.evicted in
-    let short : length xs ≤ stay = omega (arith, as_long new) in
-    let count : length xs ≤ length (take stay (map seen_of old)) =
-    omega (arith, few-less one stay xs ys short, ones xs, ones (take stay (xs ++ ys)), ap (λ (zs : List StoredSeen). length (take stay zs)) all) in
-    let bytes : sum_by size_of xs ≤ sum_by size_of (take stay (map seen_of old)) =
-    omega (arith, few-less size_of stay xs ys short, ap (λ (zs : List StoredSeen). sum_by size_of (take stay zs)) all) in
-    record {
-      variants = omega (arith, count, fits.variants);
-      responses = omega (arith, count, fits.responses);
-      bytes = omega (arith, bytes, fits.bytes);
-    }
-
--- nothing changes where there is no response of the id
 pub renewed-none : (id : ℕ) (e : Exchange) (xs : List StoredSeen) → has_id id xs ≡ false → renewed id e xs ≡ xs
 renewed-none id e [] h = refl
 renewed-none id e (x ∷ xs) h =
@@ -183,7 +160,6 @@ renewed-none id e (x ∷ xs) h =
       | false ↦ λ p. rw p (ap (λ (l : List StoredSeen). x ∷ l) (renewed-none id e xs (rw p at h)))
     ]) refl
 
--- no ids leave all responses
 pub without-none : (xs : List StoredSeen) → without [] xs ≡ xs
 without-none [] = refl
 without-none (x ∷ xs) = ap (λ (l : List StoredSeen). x ∷ l) (without-none xs)

@@ -9,11 +9,10 @@ use Rattle.lru.specs.LruCache.{promoted}
 use Rattle.lru.proofs.CallerLemmas.{Contains-lookup_entry}
 
 module _ {K : Type 0} (test query : K → Bool) where
-  -- where both tests pass one key, they are the same
+  -- if one key passes both tests, they agree on every key
   abbrev pub Agree : Type 0
   Agree = (x : K) → test x ≡ true → query x ≡ true → (y : K) → query y ≡ test y
 
-  -- no key passes both
   abbrev pub Apart : Type 0
   Apart = (x : K) → test x ≡ true → query x ≡ false
 

@@ -1,4 +1,4 @@
--- What is stored under each text of a map that was changed under one.
+-- What is stored under each text after a change under one text.
 use Rattle.std.proofs.Common.{◌≡◌, ℕ, ◌-◌, Bool, true, false, List, [], ◌∷◌, ◌++◌, take, cond, bytes_eq, string_bytes, slice_get, ◌||◌}
 use Rattle.std.proofs.Common.{Option, Some, None, refl, sym, ap, subst, ◌∙◌, inl, inr}
 use Rattle.std.specs.List.{list_any, IsDistinct}
@@ -34,12 +34,11 @@ module _ {Y : Type 0} where
   pub one : (t : List ℕ) (x y : String Y) → is_text t x ≡ true → is_text t y ≡ string_eq x y
   one t x y p = ap (λ u. bytes_eq u (string_bytes y)) ((bytes_eq-Decides t (string_bytes x)).0 p)
 
-  -- the order of use doesn't change what is stored
   pub stored_under-promoted : (text : List ℕ) (es : List (String Y × StoredList)) → stored_under (promoted (is_text text) es) ≡ stored_under es
   stored_under-promoted text es = λ i other. option_map_or all_seen
       (lookup-promoted (is_text text) (is_text other) (agree text other) es i) []
 
-  -- what is written through a look-up is stored under the text
+  -- a list that is written through a look-up is stored under the text
   pub stored-written : (text : List ℕ) (es : List (String Y × StoredList)) (v w : StoredList) → lookup (is_text text) es ≡ Some v
       → HasUnder text (all_seen w) (stored_under es) (stored_under (set_value (is_text text) (promoted (is_text text) es) w))
   stored-written text es v w h = record {
@@ -51,7 +50,6 @@ module _ {Y : Type 0} where
         ∙ lookup-promoted (is_text text) (is_text other) (agree text other) es);
   }
 
-  -- nothing is left under a text that is removed
   pub stored-removed : (text : List ℕ) (es : List (String Y × StoredList)) → IsDistinct string_eq (keys_of es)
       → HasUnder text [] (stored_under es) (stored_under (remove_entry (is_text text) es))
   stored-removed text es distinct = record {
@@ -61,7 +59,7 @@ module _ {Y : Type 0} where
         (lookup-remove_entry_other (is_text text) (is_text other) (apart text other differ) es);
   }
 
-  -- what is written through a look-up is made of what was read
+  -- the written list is a function of what was stored before
   pub stored-changed : (text : List ℕ) (es : List (String Y × StoredList)) (v w : StoredList) (f : List StoredSeen → List StoredSeen)
       → lookup (is_text text) es ≡ Some v → all_seen w ≡ f (all_seen v)
       → HasUnder text (f (stored_under es text)) (stored_under es) (stored_under (set_value (is_text text) (promoted (is_text text) es) w))
@@ -79,11 +77,10 @@ module _ {Y : Type 0} where
   by_entry text es None h = by_first text es (none-found (is_text text) es h)
   by_entry text es (Some (key, kept)) h = inl (Contains-lookup_entry (is_text text) es (key, kept) h).1
 
-  -- a text that is promoted was used last
   pub is_last_used-promoted : (text : List ℕ) (es : List (String Y × StoredList)) → is_last_used (promoted (is_text text) es) text
   is_last_used-promoted text es = by_entry text es (lookup_entry (is_text text) es) refl
 
-  -- the list of the first key, if it is the text, is what is stored under it
+  -- the list of the first key is what is stored under its text
   pub stored-first : (text : List ℕ) (es : List (String Y × StoredList)) (key : String Y) (kept : StoredList)
       → slice_get es 0 ≡ Some (key, kept) → is_text text key ≡ true → stored_under es text ≡ all_seen kept
   stored-first text [] key kept h same = cc
@@ -92,7 +89,7 @@ module _ {Y : Type 0} where
       ap (λ (e : String Y × StoredList). option_map_or all_seen (lookup (is_text text) (e ∷ es)) []) first
       ∙ ap (λ b. option_map_or all_seen (cond b (Some kept) (lookup (is_text text) es)) []) same
 
-  -- if the first key isn't the text, nothing is stored under it
+  -- if the first key isn't the text that was used last, nothing is stored under the text
   pub stored-none : (text : List ℕ) (es : List (String Y × StoredList)) → ((key : String Y) (kept : StoredList) → slice_get es 0 ≡ Some (key, kept) → is_text text key ≡ false)
       → is_last_used es text → stored_under es text ≡ []
   stored-none text [] other used = refl
@@ -102,7 +99,6 @@ module _ {Y : Type 0} where
   ]
 
 module _ {Y : Type 0} where
-  -- a new key is the first
   pub new-on-top : (c : LruCache (String Y) StoredList) (key : String Y) (list : StoredList)
       → lookup (is_text (string_bytes key)) c.entries ≡ None
       → IsOnTop (string_bytes key) (all_seen list) c.entries (put_entries string_eq c key list)
@@ -130,7 +126,6 @@ module _ {Y : Type 0} where
   }
 
 module _ {Y : Type 0} (text : List ℕ) (es : List (String Y × StoredList)) (v w : StoredList) (found : lookup (is_text text) es ≡ Some v) where
-  -- what is written through a look-up is on top
   pub written-on-top : (all : List StoredSeen) → all_seen w ≡ all
       → IsOnTop text all es (set_value (is_text text) (promoted (is_text text) es) w)
   written-on-top all changed =
@@ -150,7 +145,7 @@ module _ {Y : Type 0} (text : List ℕ) (es : List (String Y × StoredList)) (v 
         others = λ other differ. inl ((stored-written text es v w found).others other differ);
       }
 
-  -- what is written as it was changes nothing
+  -- a list that is written back unchanged changes nothing
   pub written-same : all_seen w ≡ all_seen v
       → stored_under (set_value (is_text text) (promoted (is_text text) es) w) ≡ stored_under es
   written-same same =
@@ -178,7 +173,7 @@ alone p x =
       | false ↦ λ h. rw h refl
     ]) refl
 
--- the responses of one text more are removed
+-- one more text is removed
 pub removes-more : (these : List (List ℕ)) (own : List ℕ) (old new next : StoredByTarget)
     → RemovesThese these old new → HasUnder own [] new next → RemovesThese (these ++ own ∷ []) old next
 removes-more these own old new next before last = λ text.
@@ -195,7 +190,6 @@ removes-more these own old new next before last = λ text.
     ∙ ap (λ b. list_any (bytes_eq text) these || b) (alone (bytes_eq text) own)))
 
 module _ {Y : Type 0} where
-  -- what is on top is stored under the text
   pub stored-top : (own : List ℕ) (all : List StoredSeen) (old new : List (String Y × StoredList)) → IsOnTop own all old new
       → stored_under new own ≡ all
   stored-top own all old new top =

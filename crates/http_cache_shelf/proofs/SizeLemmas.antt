@@ -1,4 +1,4 @@
--- The bytes of the field lines of a header map are those of the headers that it holds.
+-- The field lines of a header map have the bytes of its headers.
 use Rattle.std.proofs.Common.{◌≡◌, ◌≢◌, arith, ℕ, suc, ◌+◌, ◌<◌, List, [], ◌∷◌, map, length, cond, None, Some, bytes_eq, refl, sym, ap, ◌∙◌, inl, inr}
 use Rattle.std.specs.Ordering.{is_eq}
 use Rattle.std.specs.declared.cmp.Ordering.TheVariants.{Less, Equal, Greater}
@@ -18,7 +18,6 @@ use Rattle.http_cache_shelf.specs.Size.{headers_size, lines_size}
 abbrev Line : Type 0
 Line = List ℕ × List (List ℕ)
 
--- the bytes of one field line
 abbrev pub pair_size : List ℕ × FieldValue → ℕ
 pair_size p = length p.0 + length p.1.bytes
 
@@ -77,7 +76,6 @@ own-size name (v ∷ vs) =
       sum_by-cons (λ (value : List ℕ). length name + length value) v.bytes (entry_of (name, vs)).1,
     )
 
--- the field lines of a header map have the bytes of its headers
 pub pairs-size : (m : Entries FieldValue) → IsUnique m → headers_size (headers_of m) ≡ sum_by pair_size (pairs m)
 unfolding headers_size
 pairs-size [] unique = ap (sum_by lines_size) empty-entries

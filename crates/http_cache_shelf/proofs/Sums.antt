@@ -1,4 +1,4 @@
--- What some responses count for, by any measure of one response.
+-- Sums over responses, by any measure of one response.
 use Rattle.std.proofs.Common.{◌≤◌, ◌≡◌, arith, ℕ, zero, suc, ◌+◌, Bool, true, false, List, [], ◌∷◌, ◌++◌, take, length, refl, ap, ◌∙◌}
 use Rattle.std.specs.List.{filter, sum_by}
 use Rattle.std.proofs.lemmas.List.Sums.{sum_by-append, sum_by-cons}
@@ -23,7 +23,7 @@ module _ (g : StoredSeen → ℕ) where
       let parts : sum_by g all ≡ sum_by g xs + sum_by g ys = ap (sum_by g) h ∙ sum_by-append g xs ys in
       omega arith
 
-  -- responses that are no more than the first ones count for no more
+  -- a list that is no longer than the first elements has no greater sum
   pub few-less : (n : ℕ) (xs ys : List StoredSeen) → length xs ≤ n → sum_by g xs ≤ sum_by g (take n (xs ++ ys))
   few-less n [] ys h = omega arith
   few-less zero (x ∷ xs) ys h = absurd (let no : ⊥ = omega arith in no)

@@ -14,7 +14,7 @@ use Rattle.http_cache_shelf.specs.Memory.{all_seen, usable, is_text, stored_unde
 use Rattle.http_cache_shelf.proofs.MapLemmas.{true≢false, one}
 
 module _ {X : Type 0} where
-  -- the last element of two lists is that of the second
+  -- the last element of two lists is the last of the second
   last-of : (done front f : List X) (x : X) → done ++ front ≡ f ++ x ∷ [] → 0 < length front
       → (g : List X) × (front ≡ g ++ x ∷ []) × (f ≡ done ++ g)
   last-of [] front f x h some = (f, h, refl)
@@ -29,7 +29,6 @@ module _ {X : Type 0} where
       let all : e ∷ f ≡ d ∷ (ds ++ below.0) = ap (λ (y : X). y ∷ f) (sym same) ∙ ap (λ (l : List X). d ∷ l) below.2 in
       (below.0, below.1, all)
 
-  -- a list that isn't empty has a last element
   pub split-last : (x : X) (xs : List X)
       → (f : List X) × (y : X) × (x ∷ xs ≡ f ++ y ∷ []) × (slice_get (x ∷ xs) (length xs) ≡ Some y) × (take (length xs) (x ∷ xs) ≡ f)
   split-last x [] = ([], x, refl, refl, refl)
@@ -63,7 +62,7 @@ module _ {Y : Type 0} where
   at-key P [] e back all = all.0
   at-key P (x ∷ f) e back all = at-key P f e back all.1
 
-  -- a text that is a key once has no other entry
+  -- no other entry has the text of an entry
   apart-from : (text : List ℕ) (f : List (String Y × StoredList)) (e : String Y × StoredList) (back : List (String Y × StoredList))
       → is_text text e.0 ≡ true → IsDistinct string_eq (keys_of (f ++ e ∷ back))
       → (lookup (is_text text) f ≡ None) × (lookup (is_text text) back ≡ None)
@@ -106,7 +105,6 @@ module _ {Y : Type 0} where
         | false ↦ λ p. rw p (ap (λ (l : List (String Y × StoredList)). x ∷ l) (without-last text f e (rw p at none) is))
       ]) refl
 
-  -- the last text is found
   pub last-found : (text : List ℕ) (es : List (String Y × StoredList)) (last : IsLastText es text) → IsDistinct string_eq (keys_of es)
       → lookup (is_text text) es ≡ Some last.kept
   last-found text es last distinct =
@@ -116,7 +114,7 @@ module _ {Y : Type 0} where
       (apart-from text last.front e [] last.is (subst (λ (l : List (String Y × StoredList)). IsDistinct string_eq (keys_of l)) last.last distinct)).0
       last.is
 
-  -- the last entry, written through a look-up, is the first one
+  -- the last entry, written through a look-up, becomes the first one
   pub turned : (now : ℤ) (text : List ℕ) (es : List (String Y × StoredList)) (v w : StoredList) → IsLastText es text
       → IsDistinct string_eq (keys_of es) → lookup (is_text text) es ≡ Some v → all_seen w ≡ usable now (all_seen v)
       → IsTurned now es (set_value (is_text text) (promoted (is_text text) es) w)
@@ -143,7 +141,7 @@ module _ {Y : Type 0} where
             ∙ ap (λ (b : Bool). cond b ((last.key, w) ∷ f) (e ∷ set_value test f w)) last.is;
       }
 
-  -- what `peek_lru` shows is the last text
+  -- `peek_lru` shows the last text
   pub last-text : (es : List (String Y × StoredList)) (text : List ℕ) (key : String Y) (kept : StoredList)
       → last_entry es ≡ Some (key, kept) → text ≡ string_bytes key → IsLastText es text
   last-text [] text key kept h same = cc
@@ -160,7 +158,7 @@ module _ {Y : Type 0} where
         is = (bytes_eq-Decides text (string_bytes key)).1 same;
       }
 
-  -- the first entry is dropped where nothing of it is left
+  -- the first entry is removed only if its list is empty
   pub dropped : (es : List (String Y × StoredList)) → IfSome (slice_get es 0) (λ e. all_seen e.1 ≡ [])
       → (drop 1 es ≡ es) ⊎ IsFirstDropped es (drop 1 es)
   dropped [] h = inl refl
@@ -195,7 +193,7 @@ module _ {Y : Type 0} where
         first = inr (rest, ap all_seen list ∙ d.spent);
       }
 
-  -- of the entries es the last were swept, and the first `left` are to be
+  -- the last entries of `es` were swept, and the first `left` aren't yet
   pub record Sweeping (now : ℤ) (es current : List (String Y × StoredList)) (left : ℕ) : Type 0 where
     pub front : List (String Y × StoredList)
     pub done : List (String Y × StoredList)
@@ -226,7 +224,7 @@ module _ {Y : Type 0} where
       ∙ s.swept text
       ∙ ap (λ (l : List (String Y × StoredList)). usable now (stored_under l text)) (sym es_is)
 
-  -- a swept entry is before those that were swept
+  -- a swept entry is put before those that were swept
   swept-more : (now : ℤ) (key : String Y) (was is : StoredList) (done back : List (String Y × StoredList))
       → ((text : List ℕ) → stored_under done text ≡ usable now (stored_under back text)) → all_seen is ≡ usable now (all_seen was)
       → (text : List ℕ) → stored_under ((key, is) ∷ done) text ≡ usable now (stored_under ((key, was) ∷ back) text)
@@ -236,7 +234,7 @@ module _ {Y : Type 0} where
         | false ↦ λ p. rw p (before text)
       ]) refl
 
-  -- an entry of which nothing is left is stored nowhere
+  -- an entry with an empty list is stored nowhere
   swept-none : (now : ℤ) (key : String Y) (was is : StoredList) (done back : List (String Y × StoredList))
       → ((text : List ℕ) → stored_under done text ≡ usable now (stored_under back text)) → all_seen is ≡ usable now (all_seen was)
       → all_seen is ≡ [] → ((text : List ℕ) → is_text text key ≡ true → lookup (is_text text) back ≡ None)
@@ -284,7 +282,6 @@ module _ {Y : Type 0} where
         }
       ]
 
-  -- a turn adds no text
   pub within-turned : (now : ℤ) (n m : ℕ) (current new : List (String Y × StoredList)) → IsTurnedOrRemoved now current new → n ≤ m
       → AreTextsWithin n current → AreTextsWithin m new
   within-turned now n m current new t more within =
@@ -301,7 +298,7 @@ module _ {Y : Type 0} where
         | inr removed ↦ All-same (λ (f : String Y × StoredList). length (string_bytes f.0) ≤ m) new t.front removed.0 before
       ]
 
-  -- the last text has room
+  -- the buffer has room for the last text
   pub last-within : (n : ℕ) (es : List (String Y × StoredList)) (key : String Y) (kept : StoredList) → AreTextsWithin n es
       → last_entry es ≡ Some (key, kept) → length (string_bytes key) ≤ n
   last-within n es key kept within last =

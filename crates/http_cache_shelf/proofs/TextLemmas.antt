@@ -1,4 +1,4 @@
--- Which texts are in the map, by their length.
+-- How long the texts in the map are.
 use Rattle.std.proofs.Common.{◌≤◌, ◌≡◌, arith, ℕ, Bool, true, false, List, [], ◌∷◌, ◌++◌, All, Contains, length, get_or, string_bytes, refl, sym, subst, inl, inr}
 use Rattle.std.specs.Map.{remove_entry, set_value}
 use Rattle.std.specs.String.{string_eq}
@@ -35,7 +35,6 @@ module _ {Y : Type 0} where
             (texts-set test es w n (All-tail (within n) e es h)))
       ]) refl
 
-  -- what is written through a look-up keeps its text
   pub texts-written : (test : String Y → Bool) (es : List (String Y × StoredList)) (w : StoredList)
       → KeepsTexts es (set_value test (promoted test es) w)
   texts-written test es w = λ n h. texts-set test (promoted test es) w n (texts-promoted test es n h)
@@ -51,11 +50,9 @@ module _ {Y : Type 0} where
         ]
       ])
 
-  -- the first entries have no other texts
   pub texts-front : (old new : List (String Y × StoredList)) → IsFront old new → KeepsTexts old new
   texts-front old new first = λ n h.
       all-front (within n) new first.evicted (All-same (within n) (new ++ first.evicted) old (sym first.is) h)
 
-  -- texts that are within some length are within a greater one
   pub texts-wider : (n m : ℕ) (es : List (String Y × StoredList)) → n ≤ m → AreTextsWithin n es → AreTextsWithin m es
   texts-wider n m es more h = All-weaker (within n) (within m) (λ e less. omega arith) es h

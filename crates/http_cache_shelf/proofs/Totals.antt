@@ -1,4 +1,4 @@
--- What the responses of a map count for, by any measure of one response.
+-- The sum over all responses of a map, by any measure of one response.
 use Rattle.std.proofs.Common.{◌≡◌, arith, ℕ, ◌+◌, ◌-◌, Bool, true, false, List, [], ◌∷◌, ◌++◌, take, length, slice_get, cond, Option, Some, None, refl, sym, ap, ◌∙◌}
 use Rattle.std.specs.List.{sum_by}
 use Rattle.std.specs.Option.{option_map_or}
@@ -48,12 +48,10 @@ module _ {Y : Type 0} (g : StoredSeen → ℕ) where
         | false ↦ λ p. rw p (ap (λ (l : List (String Y × StoredList)). f ∷ l) (removed-none test es (rw p at h)))
       ]) refl
 
-  -- what is removed where nothing is found is nothing
   pub total-absent : (test : String Y → Bool) (es : List (String Y × StoredList)) → lookup test es ≡ None
       → total (remove_entry test es) ≡ total es
   total-absent test es h = ap total (removed-none test es h)
 
-  -- what is removed is what was found
   pub total-found : (test : String Y → Bool) (es : List (String Y × StoredList)) (v : StoredList) → lookup test es ≡ Some v
       → total es ≡ own g v + total (remove_entry test es)
   total-found test [] v h = cc
@@ -69,11 +67,10 @@ module _ {Y : Type 0} (g : StoredSeen → ℕ) where
   by-entry test es None h = refl
   by-entry test es (Some e) h = omega (arith, total-cons e (remove_entry test es), total-entry test es e h)
 
-  -- the order of use doesn't count
   pub total-promoted : (test : String Y → Bool) (es : List (String Y × StoredList)) → total (promoted test es) ≡ total es
   total-promoted test es = by-entry test es (lookup_entry test es) refl
 
-  -- what is written through a look-up counts in the place of what was read
+  -- a list that is written through a look-up replaces the amount of the old one
   pub total-written : (test : String Y → Bool) (es : List (String Y × StoredList)) (v w : StoredList) → lookup test es ≡ Some v
       → total (set_value test (promoted test es) w) ≡ own g w + total (remove_entry test es)
   total-written test es v w h =
@@ -85,7 +82,6 @@ module _ {Y : Type 0} (g : StoredSeen → ℕ) where
       ∙ ap (λ b. cond b ((e.0, w) ∷ remove_entry test es) (e ∷ set_value test (remove_entry test es) w)) key in
       ap total first ∙ total-cons (e.0, w) (remove_entry test es)
 
-  -- what the last entry counts for
   pub total-last : (es : List (String Y × StoredList)) (e : String Y × StoredList) → last_entry es ≡ Some e
       → total es ≡ total (take (length es - 1) es) + own g e.1
   total-last [] e h = cc
@@ -101,7 +97,7 @@ module _ {Y : Type 0} (g : StoredSeen → ℕ) where
       ∙ omega (arith, total-cons split.1 [], ap (λ (x : String Y × StoredList). own g x.1) is, ap total front)
 
 module _ {Y : Type 0} where
-  -- where all responses are none, none is stored under any text
+  -- if the map has no responses, none is stored under any text
   pub none-stored : (text : List ℕ) (es : List (String Y × StoredList)) (o : Option StoredList) → lookup (is_text text) es ≡ o
       → length (all_stored es) ≡ 0 → option_map_or all_seen o [] ≡ []
   none-stored text es None h none = refl

@@ -1,4 +1,4 @@
--- What a shelf in memory stores in all, and within which limits.
+-- All that a shelf in memory stores, and its limits.
 use Rattle.std.specs.Prelude.{ℕ, ◌≤◌, ◌<◌, ◌^◌, ◌-◌, List}
 use Rattle.http_cache_shelf.specs.declared.memory.limit.Limits.{Limits}
 use Rattle.http_cache_shelf.specs.declared.memory.state.MemoryShelf.{MemoryShelf}
@@ -8,16 +8,14 @@ use Rattle.http_cache_storage.specs.Shelf.{StoredSeen}
 use Rattle.http_cache_shelf.specs.Size.{FitsAlone}
 use Rattle.http_cache_shelf.specs.Memory.{all_stored}
 
--- all stored responses of all targets
 abbrev pub contents : MemoryShelf → List StoredSeen
 contents s = all_stored s.kept.entries
 
--- the limits of a shelf
 abbrev pub limits_of : MemoryShelf → Limits
 limits_of s = s.limits
 
--- a response of an id may be stored: the id isn't below the next one and leaves one more, and the response
--- is within the limits if nothing else is stored
+-- a response may be stored under the id: neither the id nor the next one is used up, and the
+-- response is within the limits if nothing else is stored
 pub record CanTake (s : MemoryShelf) (id : ResponseId) (h : Headers) (content : List ℕ) : Type 0 where
   pub rising : s.next_id ≤ id.0
   pub last : id.0 < 2 ^ 64 - 1

@@ -18,11 +18,10 @@ use Rattle.http_cache_storage.specs.Shelf.{StoredSeen, StoredByTarget, KeepsOthe
 abbrev pub seen_of : StoredResponse → StoredSeen
 seen_of s = record { id = s.id.0; exchange = s.policy; body = option_map_or (λ body. body) s.body [] }
 
--- the stored responses of a list
 abbrev pub all_seen : StoredList → List StoredSeen
 all_seen kept = map seen_of kept.responses.items
 
--- those that can be used again at the time
+-- the responses that can be used again at the time
 abbrev pub usable : ℤ → List StoredSeen → List StoredSeen
 usable now = filter (λ r. can_be_used_again r.exchange now)
 
@@ -33,11 +32,9 @@ pub record IsRenewedAt (at : ℕ) (e : Exchange) (old new : List StoredResponse)
   pub is : new ≡ slice_set old at (record was { policy = e })
 
 module _ {Y : Type 0} where
-  -- a key is the text
   abbrev pub is_text : List ℕ → String Y → Bool
   is_text text k = bytes_eq text (string_bytes k)
 
-  -- what is stored under a text
   abbrev pub stored_under : List (String Y × StoredList) → StoredByTarget
   stored_under es text = option_map_or all_seen (lookup (is_text text) es) []
 
@@ -47,35 +44,35 @@ module _ {Y : Type 0} where
   is_last_used ((key, kept) ∷ rest) text =
       (is_text text key ≡ true) ⊎ (stored_under ((key, kept) ∷ rest) text ≡ [])
 
-  -- no text is longer
   abbrev pub AreTextsWithin : ℕ → List (String Y × StoredList) → Type 0
   AreTextsWithin most = All (λ e. length (string_bytes e.0) ≤ most)
 
-  -- no text is added that is longer than those that are there
+  -- no added text is longer than all earlier ones
   abbrev pub KeepsTexts : List (String Y × StoredList) → List (String Y × StoredList) → Type 0
   KeepsTexts old new = (most : ℕ) → AreTextsWithin most old → AreTextsWithin most new
 
-  -- no text is added that is longer than those that are there, but for one
+  -- no added text but `own` is longer than all earlier ones
   abbrev pub KeepsTextsBut : List ℕ → List (String Y × StoredList) → List (String Y × StoredList) → Type 0
   KeepsTextsBut own old new = (most : ℕ) → length own ≤ most → AreTextsWithin most old → AreTextsWithin most new
 
--- the first of a list are left, at least as many as are to stay
+-- the first elements of a list are left, at least `stay` of them
 pub record AreLeft {X : Type 0} (stay : ℕ) (old new : List X) : Type 0 where
   pub evicted : List X
   pub is : old ≡ new ++ evicted
   pub stayed : stay ≤ length old → stay ≤ length new
 
--- under each text the newest are left
+-- under each text the newest responses are left
 abbrev pub AreFewer : StoredByTarget → StoredByTarget → Type 0
 AreFewer old new = (text : List ℕ) → AreNewestOf (new text) (old text)
 
--- these responses are stored under one text, and under the others what was
+-- these responses are stored under the text, and nothing else has changed
 pub record HasUnder (own : List ℕ) (all : List StoredSeen) (old new : StoredByTarget) : Type 0 where
   pub own_stored : new own ≡ all
   pub others : KeepsAllOthers old new own
 
 module _ {Y : Type 0} where
-  -- the text was used last, these responses are stored under it, and under the others what was or nothing
+  -- the text was used last, and these responses are stored under it; each other text keeps its
+  -- responses or has none
   pub record IsOnTop (own : List ℕ) (all : List StoredSeen) (old new : List (String Y × StoredList)) : Type 0 where
     pub key : String Y
     pub kept : StoredList
@@ -91,7 +88,8 @@ module _ {Y : Type 0} where
     pub is : old ≡ new ++ evicted
     pub some : 0 < length old → 0 < length new
 
-  -- under the text the newest are left, at least as many as are to stay; under the others what was or nothing
+  -- under the text the newest responses are left, at least `stay`; each other text keeps its
+  -- responses or has none
   pub record IsBounded (own : List ℕ) (stay : ℕ) (old new : List (String Y × StoredList)) : Type 0 where
     pub left : AreLeft stay (stored_under old own) (stored_under new own)
     pub others : KeepsOthers (stored_under old) (stored_under new) own
@@ -104,7 +102,7 @@ module _ {Y : Type 0} where
     pub last : es ≡ front ++ (key, kept) ∷ []
     pub is : is_text text key ≡ true
 
-  -- the last entry, swept, is the first one
+  -- the last entry was swept and became the first one
   pub record IsTurned (now : ℤ) (old new : List (String Y × StoredList)) : Type 0 where
     pub front : List (String Y × StoredList)
     pub key : String Y
@@ -114,7 +112,7 @@ module _ {Y : Type 0} where
     pub swept : all_seen is ≡ usable now (all_seen was)
     pub first : new ≡ (key, is) ∷ front
 
-  -- that, or it is removed, where nothing of it is left
+  -- the last entry was swept; it became the first one, or was removed because nothing was left
   pub record IsTurnedOrRemoved (now : ℤ) (old new : List (String Y × StoredList)) : Type 0 where
     pub front : List (String Y × StoredList)
     pub key : String Y
@@ -124,23 +122,21 @@ module _ {Y : Type 0} where
     pub swept : all_seen is ≡ usable now (all_seen was)
     pub first : (new ≡ (key, is) ∷ front) ⊎ ((new ≡ front) × (all_seen is ≡ []))
 
-  -- the first entry, of which nothing is left, is removed
+  -- the first entry had nothing left, and was removed
   pub record IsFirstDropped (old new : List (String Y × StoredList)) : Type 0 where
     pub key : String Y
     pub kept : StoredList
     pub is : old ≡ (key, kept) ∷ new
     pub spent : all_seen kept ≡ []
 
-  -- all stored responses of all texts
   abbrev pub all_stored : List (String Y × StoredList) → List StoredSeen
   all_stored = flat_map (λ e. all_seen e.1)
 
-  -- the amount is that of the map, which never evicts by itself
+  -- the map's amount is held, and the map itself never evicts
   pub record IsHeld (held : Amount) (c : LruCache (String Y) StoredList) : Type 0 where
     pub amount : IsAmountOf held (all_stored c.entries)
     pub unbounded : c.cap ≡ 2 ^ 64 - 1
 
-  -- the text is the first key, so it was used last
   pub record IsFirstText (own : List ℕ) (es : List (String Y × StoredList)) : Type 0 where
     pub key : String Y
     pub kept : StoredList
@@ -148,11 +144,11 @@ module _ {Y : Type 0} where
     pub first : es ≡ (key, kept) ∷ rest
     pub is : is_text own key ≡ true
 
-  -- the first responses of the first text, so many, are within the limits if nothing else is stored
+  -- the newest `stay` responses of the first text are within the limits if nothing else is stored
   abbrev pub CanStay : Limits → ℕ → List ℕ → List (String Y × StoredList) → Type 0
   CanStay l stay own es = FitTogether l (take stay (stored_under es own))
 
-  -- the responses of the first text are shortened to what is within the limits if nothing else is stored
+  -- the responses of the first text are shortened until they are within the limits by themselves
   pub record IsFirstShortened (l : Limits) (own : List ℕ) (stay : ℕ) (old new : List (String Y × StoredList)) : Type 0 where
     pub key : String Y
     pub was : StoredList

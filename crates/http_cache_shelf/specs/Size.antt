@@ -1,4 +1,4 @@
--- How many bytes a stored response counts for, and what is within the limits of a shelf in memory.
+-- The size of a stored response in bytes, and what is within the limits of a shelf in memory.
 use Rattle.std.specs.Prelude.{◌≡◌, ◌≤◌, ◌<◌, ◌+◌, ◌-◌, ◌*◌, ◌^◌, min, ℕ, List, length, All}
 use Rattle.std.specs.List.{sum_by}
 use Rattle.std.specs.FinMap as fin
@@ -7,23 +7,20 @@ use Rattle.http_cache_shelf.specs.declared.memory.limit.Limits.{Limits}
 use Rattle.http_cache_shelf.specs.declared.memory.size.Amount.{Amount}
 use Rattle.http_cache_storage.specs.Shelf.{StoredSeen}
 
--- the bytes of the field lines of a name
 abbrev pub lines_size : List ℕ × List (List ℕ) → ℕ
 lines_size e = sum_by (λ value. length e.0 + length value) e.1
 
--- the bytes of all field lines
 unfoldable pub headers_size : Headers → ℕ
 headers_size h = sum_by lines_size (fin.entries h)
 
--- the bytes of the field lines and of the body, or the greatest u64 if they are more
+-- the bytes of the field lines and of the body, at most `u64::MAX`
 unfoldable pub response_size : Headers → List ℕ → ℕ
 response_size h body = min (headers_size h + length body) (2 ^ 64 - 1)
 
--- the bytes of a stored response
 abbrev pub size_of : StoredSeen → ℕ
 size_of r = response_size r.exchange.response_headers r.body
 
--- a stored response is one
+-- the measure by which responses are counted
 abbrev pub one : StoredSeen → ℕ
 one r = 1
 
@@ -37,7 +34,7 @@ pub record IsAtMost (a b : Amount) : Type 0 where
   pub responses : a.responses ≤ b.responses
   pub bytes : a.bytes ≤ b.bytes
 
--- the limits have room for so much
+-- both numbers fit in 64 bits
 pub record IsSmall (a : Amount) : Type 0 where
   pub responses : a.responses < 2 ^ 64
   pub bytes : a.bytes < 2 ^ 64
@@ -47,19 +44,18 @@ pub record IsOfList (a : Amount) : Type 0 where
   pub responses : a.responses < 2 ^ 64
   pub bytes : a.bytes ≤ (2 ^ 64 - 1) * (2 ^ 64 - 1)
 
--- so much may be stored together
 pub record IsAllowed (l : Limits) (a : Amount) : Type 0 where
   pub responses : a.responses ≤ l.responses
   pub bytes : a.bytes ≤ l.bytes
 
--- a response that is within the limits if nothing else is stored
+-- a response is within the limits if nothing else is stored
 pub record FitsAlone (l : Limits) (h : Headers) (body : List ℕ) : Type 0 where
   pub responses : 0 < l.responses
   pub variants : 0 < l.variants
   pub short : length body ≤ l.body
   pub bytes : response_size h body ≤ l.bytes
 
--- no more responses than may be stored for one target, and no longer body than may be
+-- the limits of one target and of each body are kept
 pub record AreFitting (l : Limits) (all : List StoredSeen) : Type 0 where
   pub variants : length all ≤ l.variants
   pub bodies : All (λ r. length r.body ≤ l.body) all
@@ -70,7 +66,6 @@ pub record FitTogether (l : Limits) (all : List StoredSeen) : Type 0 where
   pub responses : length all ≤ l.responses
   pub bytes : sum_by size_of all ≤ l.bytes
 
--- an amount in which one part is replaced
 abbrev pub replaced : Amount → Amount → Amount → Amount
 replaced held before after = record {
   responses = held.responses - before.responses + after.responses;

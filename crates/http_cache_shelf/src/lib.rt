@@ -1,8 +1,8 @@
-//! A shelf in memory with limits, [`MemoryShelf`], on which a caching client keeps stored responses
-//! (RFC 9111, section 2).
+//! [`MemoryShelf`]: a shelf in memory with limits, for the responses of a caching client (RFC 9111,
+//! section 2).
 //!
-//! It implements the trait of `http_cache_storage`, whose names it hands on. A shelf knows nothing of HTTP
-//! but `sweep`, which asks `http_cache_messages::worth` what can still be used.
+//! It implements the trait of `http_cache_storage`, whose names it re-exports. Only `sweep` knows
+//! HTTP: it calls `http_cache_messages::worth`.
 #![tactic(auto)]
 
 pub mod memory;

@@ -1,7 +1,6 @@
-//! A shelf that keeps responses in memory, within limits.
-//!
-//! What happens to the map of texts is in the modules below, by layers: `list` (one target), `map` (a text
-//! in the map), `bounds` and `sweep` (the whole map), and `state` (the map, the amounts and the ids).
+//! The public calls of the shelf in memory. The modules below change its map of texts, by layers:
+//! `list` (one target), `map` (one text), `bounds` and `sweep` (the whole map), and `state` (the
+//! map, the amounts and the ids).
 ghost use Rattle.std.specs.Prelude.{◌≡◌, ◌≤◌, ◌==◌, ◌↔◌, max, ℕ, List, [], All, false, length, IsTrue, IfOk, OnErr};
 ghost use Rattle.std.specs.List.{sum_by};
 ghost use Rattle.http_cache_storage.specs.Shelf.{IsPutFirst, KeepsOthers, KeepsAll};
@@ -33,12 +32,11 @@ use std::alloc::{AllocError, Global};
 use std::hash::RandomState;
 
 impl MemoryShelf {
-    /// Returns an empty shelf. The keys of `hasher` are secret, so that no one who chooses targets can
-    /// make look-ups slow.
+    /// Returns an empty shelf. The secret keys of `hasher` keep look-ups fast for hostile targets.
     ///
     /// # Errors
     ///
-    /// Returns `AllocError` when out of memory.
+    /// `AllocError` if there is not enough memory.
     pub fn new(
         alloc: Global,
         hasher: RandomState,
@@ -73,7 +71,7 @@ impl MemoryShelf {
         self.limits
     }
 
-    /// Returns how many responses are stored.
+    /// Returns the number of stored responses.
     pub fn len(&self) -> usize
         ensures { result ≡ length (contents self.now) }
     {
@@ -89,20 +87,20 @@ impl MemoryShelf {
         self.held.responses == 0
     }
 
-    /// Returns how many bytes the field lines and bodies of the stored responses have together.
+    /// Returns the number of bytes of all stored field lines and bodies.
     pub fn size(&self) -> u64
         ensures { result ≡ sum_by size_of (contents self.now) }
     {
         self.amount().bytes as u64
     }
 
-    /// Returns the ids of the responses that the last `put`, `renew` or `restore` evicted because of a
-    /// limit. An id is missing if there was no memory to list it.
+    /// Returns the ids of the responses that the last `put`, `renew` or `restore` evicted because
+    /// of a limit. An id is missing if there was no memory to list it.
     pub fn evicted(&self) -> &[ResponseId] {
         self.evicted.as_slice()
     }
 
-    /// Raises the id that `put` returns next to a number. It never lowers it.
+    /// Raises the next id that `put` returns to at least `next`.
     pub fn skip_ids_below(&mut self, next: u64)
         ensures next { ⟦<MemoryShelf as Shelf>⟧.next_id self.new
             ≡ max (⟦<MemoryShelf as Shelf>⟧.next_id self.old) next }
@@ -115,16 +113,16 @@ impl MemoryShelf {
         }
     }
 
-    /// Stores a response under an id that it already has, as the newest of its target, which is then
-    /// the target that was used last. Returns whether it is stored.
+    /// Stores a response under an id that it already has, as the newest of its target. Returns
+    /// whether it is stored. The target becomes the one that was used last.
     ///
-    /// Returns false, and stores nothing, if the id is below the next one or is the greatest number, or
-    /// if the response alone is over a limit. Otherwise the next id is then the one after it. The shelf
-    /// keeps its limits as in `put`.
+    /// Returns false, and stores nothing, if the id is below the next one or is `u64::MAX`, or if
+    /// the response alone exceeds a limit. Otherwise the next id becomes `id` + 1. Eviction is as
+    /// in `put`.
     ///
     /// # Errors
     ///
-    /// Returns `Memory` when out of memory.
+    /// `Memory` if there is not enough memory.
     pub fn restore(
         &mut self,
         target: &Target,
@@ -168,7 +166,7 @@ impl Shelf for MemoryShelf {
 
     ghost next_id = { λ s. s.next_id };
 
-    // The target is the one that was used last, or nothing is stored for it.
+    // The target was used last, or nothing is stored for it.
     ghost is_read = { λ s. is_last_used s.kept.entries };
 
     ghost ids_below = { λ s. s.ids_below };
@@ -194,7 +192,7 @@ impl Shelf for MemoryShelf {
         }
     }
 
-    // The clauses of the trait, and when a response isn't stored.
+    // Beyond the trait's clauses, these say when a response isn't stored.
     fn put(
         &mut self,
         target: &Target,
@@ -263,7 +261,8 @@ impl Shelf for MemoryShelf {
         Ok(())
     }
 
-    // The clauses of the trait, that the call never fails, and how many responses it removes.
+    // Beyond the trait's clauses, the call never fails, and its result counts the removed
+    // responses.
     fn sweep(&mut self, now: Timestamp) -> Result<usize, ShelfError>
         ensures ok { IsOk result }
         ensures removed { IfOk result (λ removed.

@@ -4,7 +4,6 @@ use Rattle.std.proofs.lemmas.Slice.Eq.{bytes_eq-Decides}
 use Rattle.std.proofs.Math.Seq.{drop-append_seam, take-append_seam}
 use Rattle.http_cache_storage.specs.Target.{without_ending}
 
--- a list is what it begins with, and the rest
 pub parts : {X : Type 0} (n : ℕ) (xs : List X) → xs ≡ take n xs ++ drop n xs
 parts zero xs = refl
 parts (suc n) [] = refl

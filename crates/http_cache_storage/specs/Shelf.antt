@@ -6,7 +6,6 @@ use Rattle.http_cache_messages.specs.Worth.{can_be_used_again}
 use Rattle.http_cache_storage.specs.declared.shelf.ResponseId.{ResponseId}
 use Rattle.http_cache_storage.specs.declared.shelf.StoredResponse.{StoredResponse}
 
--- a stored response
 pub record StoredSeen : Type 0 where
   pub id : ℕ
   pub exchange : Exchange
@@ -22,32 +21,29 @@ pub record IsShownAs (shown : StoredResponse) (seen : StoredSeen) : Type 0 where
 abbrev pub ShowsAll : List StoredResponse → List StoredSeen → Type 0
 ShowsAll = AllZip IsShownAs
 
--- the stored responses but for those of some ids
+-- the stored responses that have none of the ids
 abbrev pub without : List ResponseId → List StoredSeen → List StoredSeen
 without ids = filter (λ r. not (list_any (λ id. nat_eq r.id id.0) ids))
 
--- a stored response with another exchange
 abbrev pub with_exchange : Exchange → StoredSeen → StoredSeen
 with_exchange e r = record r { exchange = e }
 
--- the first response of the id has another exchange
+-- the first response that has the id gets another exchange
 abbrev pub renewed : ℕ → Exchange → List StoredSeen → List StoredSeen
 renewed id e [] = []
 renewed id e (r ∷ rest) = if nat_eq r.id id then with_exchange e r ∷ rest else r ∷ renewed id e rest
 
--- whether there is a response of the id
 abbrev pub has_id : ℕ → List StoredSeen → Bool
 has_id id = list_any (λ r. nat_eq r.id id)
 
--- the body of the first response of an id, or None where there is no such response
+-- the body of the first response that has the id, or None
 abbrev pub stored_body : ℕ → List StoredSeen → Option (List ℕ)
 stored_body id all = option_map (λ r. r.body) (find (λ r. nat_eq r.id id) all)
 
--- of some responses the newest are left
+-- the newest responses are left
 abbrev pub AreNewestOf : List StoredSeen → List StoredSeen → Type 0
 AreNewestOf left all = (evicted : List StoredSeen) × (all ≡ left ++ evicted)
 
--- what is stored for the text of each target
 abbrev pub StoredByTarget : Type 0
 StoredByTarget = List ℕ → List StoredSeen
 
@@ -55,11 +51,10 @@ StoredByTarget = List ℕ → List StoredSeen
 abbrev pub KeepsOthers : StoredByTarget → StoredByTarget → List ℕ → Type 0
 KeepsOthers old new own = (other : List ℕ) → other ≢ own → (new other ≡ old other) ⊎ (new other ≡ [])
 
--- each other target keeps all its responses
 abbrev pub KeepsAllOthers : StoredByTarget → StoredByTarget → List ℕ → Type 0
 KeepsAllOthers old new own = (other : List ℕ) → other ≢ own → new other ≡ old other
 
--- nothing has changed: neither what is stored nor the next id
+-- neither what is stored nor the next id has changed
 pub record KeepsAll (old : StoredByTarget) (next_before : ℕ) (new : StoredByTarget) (next_after : ℕ) : Type 0 where
   pub stored : new ≡ old
   pub next_id : next_after ≡ next_before
@@ -69,12 +64,12 @@ abbrev pub RemovesThese : List (List ℕ) → StoredByTarget → StoredByTarget 
 RemovesThese these old new = (text : List ℕ)
     → new text ≡ (if list_any (bytes_eq text) these then [] else old text)
 
--- what can be used again at the time is left, and nothing else
+-- exactly the responses that can be used again at the time are left
 abbrev pub IsSwept : ℤ → StoredByTarget → StoredByTarget → Type 0
 IsSwept now old new = (text : List ℕ)
     → new text ≡ filter (λ r. can_be_used_again r.exchange now) (old text)
 
--- a new response, of the next id, is followed by the newest of some responses
+-- a new response with the next id is first, and the newest of the earlier ones follow
 pub record IsPutFirst (before after : List StoredSeen) (next next_after : ℕ) (e : Exchange) (body : List ℕ)
     (id : ResponseId) : Type 0 where
   pub given : id.0 ≡ next
@@ -88,6 +83,5 @@ abbrev pub IsInserted : List StoredSeen → List StoredSeen → ℕ → ℕ → 
 IsInserted before after next next_after e body (Some id) = IsPutFirst before after next next_after e body id
 IsInserted before after next next_after e body None = (after ≡ before) × (next_after ≡ next)
 
--- each id is below the next one
 abbrev pub AreIdsBelow : ℕ → List StoredSeen → Type 0
 AreIdsBelow next = All (λ r. r.id < next)

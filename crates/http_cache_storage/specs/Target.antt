@@ -6,11 +6,10 @@ use Rattle.http_uri.specs.declared.uri.Uri.{Uri}
 use Rattle.http_cache_fields.specs.Headers.{Headers, first_text}
 use Rattle.http_cache_storage.specs.declared.target.Target.{Target}
 
--- the text of a target
 abbrev pub text_of : Target → List ℕ
 text_of t = string_bytes t.text
 
--- a text without an ending, if it has it
+-- the text without the ending, if it has it
 abbrev pub without_ending : List ℕ → List ℕ → List ℕ
 without_ending ending text =
     if bytes_eq (drop (length text - length ending) text) ending then take (length text - length ending) text else text
@@ -22,30 +21,27 @@ without_default_port scheme authority =
     else if bytes_eq scheme (codes "https") then without_ending (codes ":443") authority
     else authority
 
--- the scheme of a request, or nothing
 abbrev pub scheme_of : Uri → List ℕ
 scheme_of uri = unwrap_or (uri_scheme uri) []
 
--- the authority of the request target, or the text of Host if it has none
+-- the authority of the request target, or else Host
 abbrev pub named_authority : Option (List ℕ) → Headers → List ℕ
 named_authority (Some authority) headers = authority
 named_authority None headers = unwrap_or (first_text headers (codes "host")) []
 
--- the authority of a request, without the default port
 abbrev pub authority_of : Uri → Headers → List ℕ
 authority_of uri headers =
     without_default_port (scheme_of uri) (named_authority (uri_authority uri) headers)
 
--- a path, which is `/` if it is empty
+-- an empty path is `/` (RFC 9110, section 4.2.3)
 abbrev pub path_or_root : List ℕ → List ℕ
 path_or_root [] = codes "/"
 path_or_root (b ∷ bs) = b ∷ bs
 
--- the text before a path in lower case, the path and the query
+-- the text before the path in lower case, the path and the query
 abbrev pub text_after : List ℕ → List ℕ → Option (List ℕ) → List ℕ
 text_after before path query = lowercase before ++ path_or_root path ++ framed_text (codes "?") query []
 
--- the text of the target of a request
 unfoldable pub target_text : Uri → Headers → List ℕ
 target_text uri headers =
     text_after (scheme_of uri ++ codes "//" ++ authority_of uri headers) (uri_path uri) (uri_query uri)

@@ -1,7 +1,7 @@
-//! What a caching client needs of a store: the trait, stored responses and their ids, and the errors.
+//! The trait of a shelf, stored responses and their ids, and the errors.
 //!
-//! No code here knows how responses are kept. Every clause speaks of two ghost members, what is stored
-//! for the text of each target and the next id, so a client is proved once for all shelves.
+//! No code here knows how responses are stored. Every clause is about two ghost members: what is
+//! stored for each target's text, and the next id. So a client is proved once for all shelves.
 ghost use Rattle.std.specs.Prelude.{◌≡◌, ℕ, List, map, IfOk, OnOk, OnErr};
 ghost use Rattle.http_cache_policy.specs.Exchange.{Exchange};
 
@@ -12,20 +12,20 @@ use jiff::Timestamp;
 use std::alloc::{AllocError, AllocFailed, Global};
 use thiserror::Error;
 
-/// The name of one stored response. A shelf assigns each id once and in rising order, so the greater
-/// of two ids is of the newer response, and no id ever names another response.
+/// The id of a stored response. A shelf assigns each id once and in rising order: of two responses
+/// the newer one has the greater id.
 #[derive(Clone, Copy, Debug, PartialEq, Eq, PartialOrd, Ord, Hash)]
 pub struct ResponseId(u64);
 
 impl ResponseId {
-    /// Returns the id of a number. Only a shelf makes ids.
+    /// Returns the id with a number. Only a shelf makes ids.
     pub fn new(number: u64) -> ResponseId
         ensures { result.0 ≡ number }
     {
         ResponseId(number)
     }
 
-    /// Returns the number of the id, under which a shelf may write it to a file.
+    /// Returns the number of the id, which a shelf may write to a file.
     pub fn number(self) -> u64
         ensures { result ≡ self.0 }
     {
@@ -38,19 +38,19 @@ impl ResponseId {
 pub struct StoredResponse {
     /// The id that `put` returned.
     pub id: ResponseId,
-    /// The request, the head of the response, and when they were sent and received.
+    /// The request, the head of the response, and the times of both.
     pub policy: CachePolicy,
     /// The body, if the shelf has it in memory. Otherwise `Shelf::body` reads it.
     pub body: Option<Bytes>,
 }
 
-/// Why a call of a shelf did nothing. After an error the shelf stores what it stored before.
+/// The reason why a call of a shelf failed. What is stored is then as it was.
 #[derive(Clone, Copy, Debug, PartialEq, Eq, Error)]
 pub enum ShelfError {
-    /// Out of memory.
+    /// There is not enough memory.
     #[error("out of memory")]
     Memory,
-    /// What the shelf is kept in failed, such as a file.
+    /// The shelf's storage failed, for instance its file.
     #[error("the shelf failed")]
     Failed,
 }
@@ -67,16 +67,16 @@ impl<T: Drop> From<AllocFailed<T>> for ShelfError {
     }
 }
 
-/// A store of responses (RFC 9111, section 2). For each target it has a list of stored responses,
-/// newest first, and it has the id that it assigns next, which is above every id that is stored.
+/// A store of responses (RFC 9111, section 2). It has a list of stored responses for each target,
+/// newest first, and a next id, which is above every stored id.
 ///
-/// After an `Err` of any call both are as before. A call for one target leaves the responses of all
-/// other targets alone, but for targets that `put` or `renew` evicts because of a limit. A client makes
-/// at most one changing call for each request, as its last step, so a request changes all or nothing
-/// where each call of the shelf does.
+/// After an `Err` of any call both are as before. A call for one target changes no other target,
+/// except that `put` and `renew` may evict others because of a limit. A client makes at most one
+/// changing call for each request, as its last step. So a request changes all or nothing if each
+/// call of the shelf does.
 ///
-/// `MemoryShelf` of `http_cache_shelf` keeps responses in memory. To keep them elsewhere, implement the
-/// trait: define the ghost members over the fields, and prove each method and the law at the end.
+/// To store responses elsewhere than `http_cache_shelf::MemoryShelf` does, implement this trait:
+/// define the ghost members over the fields, and prove each method and the law at the end.
 pub trait Shelf {
     ghost use Rattle.http_cache_storage.specs.Shelf.{StoredSeen, ShowsAll, IsInserted, renewed, without, has_id, stored_body};
     ghost use Rattle.http_cache_storage.specs.Shelf.{AreNewestOf, KeepsOthers, KeepsAllOthers, KeepsAll, RemovesThese, IsSwept, AreIdsBelow};
@@ -88,29 +88,29 @@ pub trait Shelf {
     // The id that `put` returns next.
     ghost next_id: { Self → ℕ };
 
-    // That the last look-up was of the target of a text.
+    // The last look-up was of the target that has this text.
     ghost is_read: { Self → List ℕ → Type 0 };
 
-    /// Reads what is stored for a target, so that `found` shows it, and counts as a use of the target.
+    /// Reads what is stored for a target, so that `found` shows it. Counts as a use of the target.
     ///
     /// # Errors
     ///
-    /// Returns `Memory` when out of memory, and `Failed` if what the shelf is kept in can't be read.
+    /// `Memory` if there is not enough memory, and `Failed` if the storage can't be read.
     fn look_up(&mut self, alloc: Global, target: &Target) -> Result<(), ShelfError>
         ensures kept { KeepsAll (stored self.old) (next_id self.old) (stored self.new) (next_id self.new) }
         ensures read { OnOk result (is_read self.new (text_of target.now)) };
 
-    /// Returns what the last look-up read, newest first. Call it only for the target of that look-up:
-    /// for another target the list may be empty.
+    /// Returns what the last look-up read, newest first. For a target other than the one looked up,
+    /// the list may be empty.
     fn found(&self, target: &Target) -> &[StoredResponse]
         ensures { is_read self.now (text_of target.now)
             → ShowsAll result.now (stored self.now (text_of target.now)) };
 
-    /// Returns the body of the response of an id, or None if no such response is stored.
+    /// Returns the body of the response with an id, or `None` if no such response is stored.
     ///
     /// # Errors
     ///
-    /// Returns `Memory` when out of memory, and `Failed` if the body can't be read.
+    /// `Memory` if there is not enough memory, and `Failed` if the body can't be read.
     fn body(
         &mut self,
         alloc: Global,
@@ -121,16 +121,16 @@ pub trait Shelf {
             ≡ stored_body id.0 (stored self.old (text_of target.now))) }
         ensures kept { KeepsAll (stored self.old) (next_id self.old) (stored self.new) (next_id self.new) };
 
-    /// Stores a response as the newest of a target and returns its id. In the same step removes the
-    /// responses that it supersedes (RFC 9111, section 4.3.3).
+    /// Stores a response as the newest of a target, and returns its id. In the same step removes
+    /// the responses that it supersedes (RFC 9111, section 4.3.3).
     ///
-    /// Returns None if the response alone is over a limit of the shelf, or no id is left. Then it isn't
-    /// stored, and the superseded ones are still removed. To keep its limits the shelf evicts the oldest
-    /// responses of the target, and other targets with all their responses.
+    /// Returns `None`, and doesn't store it, if the response alone exceeds a limit of the shelf or
+    /// no id is left. The superseded responses are removed even then. To keep its limits the shelf
+    /// evicts the target's oldest responses, and whole other targets.
     ///
     /// # Errors
     ///
-    /// Returns `Memory` when out of memory, and `Failed` if the response can't be written.
+    /// `Memory` if there is not enough memory, and `Failed` if the response can't be written.
     fn put(
         &mut self,
         target: &Target,
@@ -145,14 +145,14 @@ pub trait Shelf {
         ensures kept { OnErr result
             (KeepsAll (stored self.old) (next_id self.old) (stored self.new) (next_id self.new)) };
 
-    /// Replaces the policy of the response of an id, as after a 304 (RFC 9111, section 4.3.4), and
-    /// returns whether there was such a response. In the same step removes superseded responses.
+    /// Replaces the policy of the response with an id, for instance after a 304 (RFC 9111, section
+    /// 4.3.4), and returns whether there is one. In the same step removes superseded responses.
     ///
-    /// The response keeps its id and its body. The shelf keeps its limits as in `put`.
+    /// The response keeps its id and its body. Eviction is as in `put`.
     ///
     /// # Errors
     ///
-    /// Returns `Memory` when out of memory, and `Failed` if the change can't be written.
+    /// `Memory` if there is not enough memory, and `Failed` if the change can't be written.
     fn renew(
         &mut self,
         target: &Target,
@@ -169,11 +169,11 @@ pub trait Shelf {
         ensures kept { OnErr result
             (KeepsAll (stored self.old) (next_id self.old) (stored self.new) (next_id self.new)) };
 
-    /// Removes responses of a target by their ids. An id that isn't stored is passed over.
+    /// Removes responses of a target by their ids. Ignores an id that isn't stored.
     ///
     /// # Errors
     ///
-    /// Returns `Memory` when out of memory, and `Failed` if the change can't be written.
+    /// `Memory` if there is not enough memory, and `Failed` if the change can't be written.
     fn remove(&mut self, target: &Target, ids: &[ResponseId]) -> Result<(), ShelfError>
         ensures removed { OnOk result (stored self.new (text_of target.now)
             ≡ without ids.now (stored self.old (text_of target.now))) }
@@ -182,12 +182,12 @@ pub trait Shelf {
         ensures kept { OnErr result
             (KeepsAll (stored self.old) (next_id self.old) (stored self.new) (next_id self.new)) };
 
-    /// Removes all that is stored for some targets, in one step, as when an unsafe method invalidates
-    /// them (RFC 9111, section 4.4).
+    /// Removes all that is stored for some targets in one step, for instance if an unsafe method
+    /// invalidates them (RFC 9111, section 4.4).
     ///
     /// # Errors
     ///
-    /// Returns `Memory` when out of memory, and `Failed` if the change can't be written.
+    /// `Memory` if there is not enough memory, and `Failed` if the change can't be written.
     fn remove_targets(&mut self, targets: &[Target]) -> Result<(), ShelfError>
         ensures removed { OnOk result (RemovesThese (map text_of targets.now) (stored self.old)
             (stored self.new)) }
@@ -195,19 +195,19 @@ pub trait Shelf {
         ensures kept { OnErr result
             (KeepsAll (stored self.old) (next_id self.old) (stored self.new) (next_id self.new)) };
 
-    /// Removes, for every target, exactly the responses that can't be used again at `now` or later, by
-    /// `http_cache_messages::worth::can_be_used_again`, and returns how many it removed.
+    /// Removes exactly the responses that can't be used again at `now` or later, and returns their
+    /// number. `http_cache_messages::worth::can_be_used_again` is the rule.
     ///
     /// # Errors
     ///
-    /// Returns `Memory` when out of memory, and `Failed` if the change can't be written.
+    /// `Memory` if there is not enough memory, and `Failed` if the change can't be written.
     fn sweep(&mut self, now: Timestamp) -> Result<usize, ShelfError>
         ensures swept { OnOk result (IsSwept now.nanosecond (stored self.old) (stored self.new)) }
         ensures next { next_id self.new ≡ next_id self.old }
         ensures kept { OnErr result
             (KeepsAll (stored self.old) (next_id self.old) (stored self.new) (next_id self.new)) };
 
-    // Each id that is stored is below the next one. As `put` returns the next id and counts it up,
-    // no id is assigned twice.
+    // Each stored id is below the next one. As `put` returns the next id and raises it, no id is
+    // assigned twice.
     ghost ids_below: { (s : Self) (text : List ℕ) → AreIdsBelow (next_id s) (stored s text) };
 }

@@ -1,7 +1,5 @@
-//! The target URI of a request, as the key under which its responses are stored.
-//!
-//! Two requests have equal targets exactly where their texts are equal. Origins and references are
-//! resolved here and nowhere else.
+//! The target URI of a request, as the key under which its responses are stored. Two targets are
+//! equal exactly if their texts are. Origins and references are resolved only here.
 ghost use Rattle.std.specs.Prelude.{◌≡◌, ◌++◌, IfOk, codes, option_copied, string_bytes};
 ghost use Rattle.http_uri.specs.ByteClasses.{lowercase};
 ghost use Rattle.http_cache_fields.specs.Headers.{headers_of};
@@ -14,18 +12,17 @@ use http_cache_fields::headers::first_text;
 use http_uri::UriError;
 use std::alloc::{AllocError, Global};
 
-/// The target URI of a request, as the key of its stored responses (RFC 9110, section 7.1; RFC 9111,
-/// section 2).
+/// The target URI of a request, as the key of its stored responses (RFC 9110, section 7.1; RFC
+/// 9111, section 2).
 ///
-/// Its text has the scheme if the request names one, the host in lower case and without the default
-/// port of the scheme, and the path and the query as received. The host is that of the request target,
-/// or of Host if the target has none.
+/// Its text has the scheme (if the request has one), the host in lower case without default port,
+/// and the path and query as received. The host is in the request target, or else in Host.
 #[derive(Debug, PartialEq, Eq, Hash, Drop)]
 pub struct Target {
     text: String,
 }
 
-// The scheme and the authority of a request. Either is empty if the request doesn't name it.
+// The scheme and the authority of a request. Either is empty if the request has none.
 #[derive(Clone, Copy)]
 struct Origin<'a> {
     scheme: &'a str,
@@ -38,8 +35,7 @@ fn without_ending<'a>(text: &'a str, ending: &str) -> &'a str
     text.strip_suffix(ending).unwrap_or(text)
 }
 
-// An authority without the default port of its scheme, which names the same origin (RFC 9110, section
-// 4.2.3).
+// Removes the default port of the scheme, which names the same origin (RFC 9110, section 4.2.3).
 fn without_default_port<'a>(scheme: &str, authority: &'a str) -> &'a str
     ensures { result.now ≡ without_default_port scheme.now authority.now }
 {
@@ -66,8 +62,8 @@ impl<'a> Origin<'a> {
         }
     }
 
-    // Whether a URI has this origin. A request without a scheme may be of any scheme, so a URI with
-    // the same host may be invalidated by it (RFC 9111, section 4.4).
+    // Returns whether a URI has this origin. A request without a scheme may be of any scheme, so it
+    // may invalidate any URI with its host (RFC 9111, section 4.4).
     fn is_of(self, uri: &Uri) -> bool {
         let Some(authority) = uri.authority() else {
             return true;
@@ -78,7 +74,7 @@ impl<'a> Origin<'a> {
             && authority.eq_ignore_ascii_case(self.authority)
     }
 
-    // The text before a path, with room for as many bytes more.
+    // Returns the text before a path, with room for `room` more bytes.
     fn prefix(self, alloc: Global, room: usize) -> Result<String, AllocError>
         ensures { IfOk result (λ text. string_bytes text
             ≡ lowercase (self.entry.scheme.now ++ codes "//" ++ self.entry.authority.now)) }
@@ -92,7 +88,7 @@ impl<'a> Origin<'a> {
         Ok(text)
     }
 
-    // The target of a path and a query. An empty path is `/` (RFC 9110, section 4.2.3).
+    // Returns the target of a path and query. An empty path is `/` (RFC 9110, section 4.2.3).
     fn target(self, alloc: Global, path: &str, query: Option<&str>) -> Result<Target, AllocError>
         ensures { IfOk result (λ target. text_of target ≡ text_after
             (self.entry.scheme.now ++ codes "//" ++ self.entry.authority.now)
@@ -108,7 +104,7 @@ impl<'a> Origin<'a> {
         Ok(Target { text })
     }
 
-    // The target of the path of a reference, whose dot segments are removed first.
+    // Returns the target of a reference's path, after removing its dot segments.
     fn resolved(
         self,
         alloc: Global,
@@ -120,7 +116,7 @@ impl<'a> Origin<'a> {
     }
 }
 
-// The segments that are left of a path, and whether it ends in a directory.
+// Returns the segments that are left of a path, and whether it ends in a directory.
 fn kept_segments(alloc: Global, path: &str) -> Result<(Vec<&str>, bool), AllocError> {
     let mut kept: Vec<&str> = Vec::new(alloc);
     let mut ends_open = false;
@@ -135,7 +131,7 @@ fn kept_segments(alloc: Global, path: &str) -> Result<(Vec<&str>, bool), AllocEr
     Ok((kept, ends_open))
 }
 
-// A path without its dot segments (RFC 3986, section 5.2.4).
+// Removes the dot segments of a path (RFC 3986, section 5.2.4).
 fn without_dots(alloc: Global, path: &str) -> Result<String, AllocError> {
     let (kept, ends_open) = kept_segments(alloc, path)?;
     let mut out = String::new(alloc);
@@ -151,7 +147,6 @@ fn without_dots(alloc: Global, path: &str) -> Result<String, AllocError> {
     Ok(out)
 }
 
-// A path, and the query after it.
 fn split_query(text: &str) -> (&str, Option<&str>) {
     match text.split_once('?') {
         Some((path, query)) => (path, Some(query)),
@@ -159,7 +154,7 @@ fn split_query(text: &str) -> (&str, Option<&str>) {
     }
 }
 
-// A reference without its fragment, which names no other response.
+// Removes the fragment of a reference, which names no other response.
 fn without_fragment(reference: &str) -> &str {
     match reference.split_once('#') {
         Some((before, _)) => before.trim_ascii(),
@@ -167,7 +162,7 @@ fn without_fragment(reference: &str) -> &str {
     }
 }
 
-// The path of a relative reference, beside the path of the request (RFC 3986, section 5.2.3).
+// Resolves a relative path against the path of the request (RFC 3986, section 5.2.3).
 fn merged(alloc: Global, path: &str, reference: &str) -> Result<String, AllocError> {
     let folder = match path.rsplit_once('/') {
         Some((folder, _)) => folder,
@@ -179,8 +174,8 @@ fn merged(alloc: Global, path: &str, reference: &str) -> Result<String, AllocErr
     Ok(merged)
 }
 
-// The URI of a reference that names a host, or None if it isn't one. A reference without a scheme has
-// that of the request.
+// Returns the URI of a reference that names a host, or None if it isn't one. A reference without a
+// scheme takes the request's scheme.
 fn with_host(alloc: Global, scheme: &str, reference: &str) -> Result<Option<Uri>, AllocError> {
     let mut absolute = String::new(alloc);
     if reference.starts_with("//") {
@@ -196,11 +191,11 @@ fn with_host(alloc: Global, scheme: &str, reference: &str) -> Result<Option<Uri>
 }
 
 impl Target {
-    /// Returns the target of a request, by its request target and its header fields.
+    /// Returns the target of a request.
     ///
     /// # Errors
     ///
-    /// Returns `AllocError` when out of memory.
+    /// `AllocError` if there is not enough memory.
     #[tactic(auto, unfolding(crate::specs::Target::target_text))]
     pub fn of(alloc: Global, uri: &Uri, headers: &HeaderMap) -> Result<Target, AllocError>
         ensures text { IfOk result (λ target. text_of target
@@ -209,7 +204,7 @@ impl Target {
         Origin::of(uri, headers).target(alloc, uri.path(), uri.query())
     }
 
-    // The target of a reference that names a host, if it has the origin of the request.
+    // Returns the target of a reference that names a host, if it has the origin of the request.
     fn named_by_host(
         alloc: Global,
         origin: Origin<'_>,
@@ -225,15 +220,15 @@ impl Target {
         }
     }
 
-    /// Returns the target that a URI reference in the response to a request names, such as Location
-    /// (RFC 3986, section 5.2).
+    /// Returns the target of a URI reference in a response, such as Location (RFC 3986, section
+    /// 5.2).
     ///
-    /// Returns None if the reference has another origin than the request, which it then must not
+    /// Returns `None` if the reference has another origin than the request, which it then must not
     /// invalidate (RFC 9111, section 4.4), or if it is no URI reference.
     ///
     /// # Errors
     ///
-    /// Returns `AllocError` when out of memory.
+    /// `AllocError` if there is not enough memory.
     pub fn named(
         alloc: Global,
         uri: &Uri,
@@ -261,7 +256,7 @@ impl Target {
     ///
     /// # Errors
     ///
-    /// Returns `AllocError` when out of memory.
+    /// `AllocError` if there is not enough memory.
     pub fn try_clone(&self) -> Result<Target, AllocError>
         ensures { IfOk result (λ copy. text_of copy ≡ text_of self.now) }
     {
@@ -270,7 +265,7 @@ impl Target {
         })
     }
 
-    /// Returns the text of the target, by which a shelf may store its responses.
+    /// Returns the text of the target, under which a shelf may store its responses.
     pub fn as_str(&self) -> &str
         ensures { result.now ≡ text_of self.now }
     {

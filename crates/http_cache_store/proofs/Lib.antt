@@ -1,4 +1,4 @@
--- The lemmas about a store.
+-- Lemmas about a store.
 pub mod StoreLemmas
 pub mod TargetLemmas
 pub mod TargetLaws

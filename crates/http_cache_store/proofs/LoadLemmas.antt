@@ -14,7 +14,6 @@ use Rattle.http_cache_storage.specs.Shelf.{StoredSeen, StoredByTarget, IsPutFirs
 use Rattle.http_cache_store.specs.Row.{IsResponseOf}
 use Rattle.http_cache_store.specs.Loaded.{IsThis, IsOfRow, IsOfOne, Adds, AreOfRows}
 
--- a signed number that fits an unsigned one is that one
 pub unsigned_is : (z : ℤ) → FitsUnsignedBits 64 z → z ≡ pos (nat_abs z)
 unsigned_is (pos n) fits = refl
 unsigned_is (negsuc n) fits = absurd fits
@@ -30,25 +29,23 @@ both_ok (Err e) p q f = tt
 none_in : (r : StoredSeen) (all : List StoredSeen) → all ≡ [] → ¬ Contains all r
 none_in r all none c = let empty = subst (λ rs. Contains rs r) none c in omega (arith, empty.1)
 
--- of a list that begins with a response, each is that one or one of the others
+-- an element of a list is its first one or one of the others
 one_of : (x r : StoredSeen) (left : List StoredSeen) → Contains (x ∷ left) r → (x ≡ r) ⊎ Contains left r
 one_of x r left c = elim (Contains-append_cases (x ∷ []) left r c) [
   | inl first ↦ elim (Contains-push_cases [] x r first) [ inl none ↦ absurd (none_in r [] refl none) | inr is ↦ inl is ]
   | inr among ↦ inr among
 ]
 
--- where nothing has changed, nothing is added
 pub adds_kept : (These : List ℕ → StoredSeen → Type 0) (old new : StoredByTarget) (n m : ℕ)
     → KeepsAll old n new m → Adds These old new
 adds_kept These old new n m kept = λ text r c. inl (subst (λ (f : StoredByTarget). Contains (f text) r) kept.stored c)
 
--- nor where nothing has changed since
 pub adds_then_kept : (These : List ℕ → StoredSeen → Type 0) (old mid new : StoredByTarget) (n m : ℕ)
     → Adds These old mid → KeepsAll mid n new m → Adds These old new
 adds_then_kept These old mid new n m adds kept =
     λ text r c. adds text r (subst (λ (f : StoredByTarget). Contains (f text) r) kept.stored c)
 
--- a response that is put first is the one that is added
+-- putting a response first adds only that response
 adds_put : (old new : StoredByTarget) (own : List ℕ) (next : ℕ) (e : Exchange) (body : List ℕ) (id : ResponseId) (i : ℤ)
     → i ≡ pos id.0 → IsPutFirst (old own) (new own) id.0 next e body id → KeepsOthers old new own
     → Adds (IsThis i own e body) old new
@@ -75,7 +72,7 @@ adds_put old new own next e body id i number put others = λ text r c.
       ]
     ]
 
--- whatever a call that restores a response returns, it adds no other
+-- restoring a response adds no other, whatever the call returns
 pub adds_restored : (old new : StoredByTarget) (n m : ℕ) (own : List ℕ) (e : Exchange) (body : List ℕ) (id : ResponseId) (i : ℤ)
     (result : Result Bool ShelfError) → i ≡ pos id.0
     → IfOk result (λ is_stored. IsTrue is_stored → IsPutFirst (old own) (new own) id.0 m e body id) → KeepsOthers old new own
@@ -85,7 +82,6 @@ adds_restored old new n m own e body id i (Ok true) number put others refused ke
 adds_restored old new n m own e body id i (Ok false) number put others refused kept = adds_kept _ old new n m (refused refl)
 adds_restored old new n m own e body id i (Err _) number put others refused kept = adds_kept _ old new n m kept
 
--- a response that was read of a row is of the row
 pub adds_of_row : (old new : StoredByTarget) (row : Row) (id : ℤ) (target : List ℕ) (e : Exchange) (body : List ℕ)
     → IsResponseOf row id target e body → Adds (IsThis id target e body) old new → Adds (IsOfRow row) old new
 adds_of_row old new row id target e body is adds = λ text r c. elim (adds text r c) [
@@ -93,7 +89,6 @@ adds_of_row old new row id target e body is adds = λ text r c. elim (adds text 
   | inr this ↦ inr (rw (this.text_is, this.policy_is, this.body_is, ← this.id_is) is)
 ]
 
--- one row more
 pub adds_row : (first mid last : StoredByTarget) (rows : List Row) (row : Row)
     → Adds (IsOfOne rows) first mid → Adds (IsOfRow row) mid last → Adds (IsOfOne (rows ++ row ∷ [])) first last
 adds_row first mid last rows row some one = λ text r c. elim (one text r c) [
@@ -104,7 +99,7 @@ adds_row first mid last rows row some one = λ text r c. elim (one text r c) [
   | inr of_row ↦ inr (row, Contains-push rows row, of_row)
 ]
 
--- where nothing was stored before, each response is of one of the rows
+-- if nothing was stored before, each response is from one of the rows
 pub all_of_rows : (old new : StoredByTarget) (rows : List Row) → ((text : List ℕ) → old text ≡ [])
     → Adds (IsOfOne rows) old new → AreOfRows rows new
 all_of_rows old new rows none adds = λ text r c. elim (adds text r c) [

@@ -1,4 +1,4 @@
--- How the rows that a query has given grow, row by row.
+-- The rows that a query has yielded grow row by row.
 use Rattle.std.proofs.Common.{◌≡◌, ◌⊎◌, ℕ, List, [], ◌∷◌, ◌++◌, Some, sym, ap, subst, append_assoc, inl, inr, Ok, ◌∙◌}
 use Rattle.sqlite.specs.Order.{Row}
 use Rattle.sqlite.specs.Effect.{Database}
@@ -11,7 +11,7 @@ use Rattle.sqlite.specs.Given.{HasGiven, HasBegun, Advances, HandsOn}
 use Rattle.sqlite.proofs.Callers.{given_begin, unchanged_then}
 use Rattle.http_cache_store.specs.Showing.{ShowsFirst}
 
--- an answer begins alike where nothing has changed
+-- an answer of an unchanged database begins with the same rows
 begins_back : (sql : List ℕ) (params : Row) (old new : State) (rows : List Row) → IsUnchanged old new
     → Begins sql params new rows → Begins sql params old rows
 unfolding Begins
@@ -31,7 +31,7 @@ begins_back sql params old new rows same h =
     )
 
 module _ {S : Type 0} (g : Ghosts S) (sql : List ℕ) (conn : Held S) where
-  -- the query has given these rows of the database; or it was a write, and has these more to give
+  -- the query has yielded these rows; or it was a write, and has these more to yield
   abbrev pub IsShowing : Held S → List Row → Type 0
   IsShowing now given =
       (HasGiven g sql [] now given × IsUnchanged (state g conn) (state g now))

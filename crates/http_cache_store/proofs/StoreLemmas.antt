@@ -5,7 +5,7 @@ use Rattle.sqlite.specs.declared.error.Error.{Error}
 use Rattle.sqlite.specs.State.{State, Executes, KeepsCommit}
 use Rattle.sqlite.proofs.InsideLemmas.{fails_whole, unchanged_keeps}
 
--- what is committed stays where a statement fails
+-- a failed statement leaves what is committed
 pub failed_keeps : (sql : List ℕ) (params : Row) (old new : State) (r : Result ℕ Error)
     → Executes sql params old new r → OnErr r (KeepsCommit old new)
 failed_keeps sql params old new (Ok count) ran = tt

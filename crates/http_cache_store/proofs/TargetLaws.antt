@@ -19,7 +19,6 @@ use Rattle.http_cache_store.proofs.TargetLemmas.{no_host}
 abbrev host_of : Headers → Option (List ℕ)
 host_of headers = first_text headers (codes "host")
 
--- a URI with the parts of a form
 uri_of_form : (text : List ℕ) (scheme authority : Option (List ℕ)) (kept : List ℕ) → length text ≤ 65534
     → IsForm text scheme authority kept → (u : Uri) × Spells text u
 uri_of_form text None None kept short h =
@@ -30,7 +29,7 @@ uri_of_form text (Some s) None kept short h = absurd h
 uri_of_form text (Some s) (Some a) kept short h =
     (record { scheme = Some s; authority = Some a; path_and_query = kept; absolute = λ x e. refl; authority_alone = λ e x f. absurd (cc) }, (short, h))
 
--- a scheme has no other bytes than those of the grammar
+-- a scheme has only bytes of the grammar
 normal_passes : (name : List ℕ) → IsScheme name → AllPass is_scheme_byte (normal_scheme name)
 normal_passes name h =
     elim (cases_Bool (bytes_eq (lowercase name) (codes "http"))) [
@@ -96,8 +95,8 @@ module _ (s a : List ℕ) (low_s : lowercase s ≡ s) (low_a : lowercase a ≡ a
       ∙ (λ i. low i ++ path_kept w s scheme i ++ query)
       ∙ simp append_assoc
 
-  -- a request of an absolute URI: the scheme and the authority are in lower case, and the authority is
-  -- without the default port
+  -- a request for an absolute URI, whose scheme and authority are in lower case and without the
+  -- default port
   pub target_is_read : (text : List ℕ) (u : Uri) (h : Headers) → Spells text u → uri_scheme u ≡ Some s
       → uri_authority u ≡ Some a → 0 < length s → length (uri_text u) ≤ 65534 → ¬ (¬ (IsTargetText (target_text u h)))
   target_is_read text u h spelled scheme authority some short isnt =
@@ -166,7 +165,7 @@ at_host_is u host h named low scheme authority slash =
     ∙ (λ i. codes "//" ++ low i ++ root_of path slash i ++ query)
     ∙ simp append_assoc
 
--- a request of a path and a Host: the Host is in lower case, and has no `/`
+-- a request for a path at a Host, which is in lower case and has no `/`
 pub host_is_read : (text : List ℕ) (u : Uri) (host : List ℕ) (h : Headers) → Spells text u → uri_scheme u ≡ None
     → uri_authority u ≡ None → get_or (uri_path u) 0 0 ≡ 47 → host_of h ≡ Some host → lowercase host ≡ host
     → ((k : ℕ) → k < length host → get_or host k 0 ≢ 47) → length (uri_text u) ≤ 65534

@@ -1,4 +1,4 @@
--- A text is cut in one way, and each request that is made up from it has the same target.
+-- A text is cut in one way, so all requests that are made up from it have one target.
 use Rattle.std.proofs.Common.{◌≡◌, ◌≢◌, ◌<◌, ◌==◌, ◌||◌, not, is_some, ℕ, List, [], ◌∷◌, ◌++◌, length, take, drop, codes, cond, Option, Some, None, unwrap_or, slice_get, refl, sym, ap, subst₂, ◌∙◌, arith, inl, inr, take-append-drop, take_all, Bor, lit<}
 use Rattle.std.specs.List.{position_or_len}
 use Rattle.std.specs.Option.{option_and_then, MatchOption}
@@ -19,7 +19,6 @@ use Rattle.http_cache_storage.specs.declared.target.Target.{Target}
 use Rattle.http_cache_storage.specs.Target.{text_of, named_authority, without_default_port, text_after, target_text}
 use Rattle.http_cache_store.specs.Target.{host_in, path_in, IsCut, IsAskedAs, IsMadeUp, IsFound, IsTargetText}
 
--- the text is cut where a search finds the first `//`
 cut_found : (text front rest : List ℕ) (i j : ℕ) → FindsText (codes "//") text (Some (i, j))
     → front ≡ take i text → rest ≡ drop j text → length front ≡ i → IsCut text front rest
 cut_found text front rest i j found front_is rest_is len = record {
@@ -34,7 +33,6 @@ cut_found text front rest i j found front_is rest_is len = record {
 pub cut_at : (text front rest : List ℕ) → SplitsAroundMatch (FindsText (codes "//")) text front rest → IsCut text front rest
 cut_at text front rest h = cut_found text front rest h.0 h.1 h.2 h.3 h.4 h.6
 
--- a text is cut in one way
 cut_unique : (text f r g s : List ℕ) → IsCut text f r → IsCut text g s → (f ≡ g) × (r ≡ s)
 cut_unique text f r g s c d =
     let len : length f ≡ length g = omega (arith, c.first g s d.is, d.first f r c.is) in
@@ -43,26 +41,24 @@ cut_unique text f r g s c d =
     sym (drop_at f _ (length g) len) ∙ ap (drop (length g)) (sym c.is ∙ d.is) ∙ drop_at g _ (length g) refl in
     (front, ap (drop 2) tail)
 
--- a request that is made up from a text is that of the text's one cut
+-- a request that is made up from a text depends only on its cut
 pub asked_of_cut : (text front rest : List ℕ) (uri : Uri) (host : Option (List ℕ)) → IsCut text front rest
     → IsMadeUp text uri host → IsAskedAs front rest uri host
 asked_of_cut text front rest uri host cut made =
     let same = cut_unique text made.front made.rest front rest made.cut cut in
     subst₂ (λ f r. IsAskedAs f r uri host) same.0 same.1 made.asked
 
--- with a scheme it has no Host
 pub asked_with_scheme : (front rest : List ℕ) (uri : Uri) (host : Option (List ℕ)) → 0 < length front
     → IsAskedAs front rest uri host → Spells (front ++ (codes "://" ++ rest)) uri × (host ≡ None)
 asked_with_scheme [] rest uri host some asked = absurd (omega arith)
 asked_with_scheme (b ∷ bs) rest uri host some asked = asked
 
--- with no scheme it has the path and the Host
 pub asked_with_host : (front rest : List ℕ) (uri : Uri) (host : Option (List ℕ)) → length front ≡ 0
     → IsAskedAs front rest uri host → Spells (path_in rest) uri × (host ≡ Some (host_in rest))
 asked_with_host [] rest uri host none asked = asked
 asked_with_host (b ∷ bs) rest uri host none asked = absurd (omega arith)
 
--- what is left of a text after a first part that a search takes off
+-- what is left after a search has removed a prefix of a text
 pub stripped : (front text : List ℕ) (n : ℕ) (r : Option (Bor (List ℕ))) (other : Bor (List ℕ)) → front ≡ take n text
     → MatchOption r (FindsTextPrefix front text None) (λ x. StripsPrefix (FindsTextPrefix front) text x.now)
     → (unwrap_or r other).now ≡ drop (length front) text
@@ -70,7 +66,7 @@ stripped front text n None other is lacks =
     absurd (lacks (drop n text) (sym (take-append-drop n text) ∙ ap (λ t. t ++ drop n text) (sym is)))
 stripped front text n (Some x) other is has = has.2 ∙ ap (λ k. drop k text) has.1.0
 
--- the host is what is before the first `/` that a search finds, or all
+-- the host is before the first `/` that a search finds, or is the whole text
 pub host_found : (rest : List ℕ) (r : Option (Bor (List ℕ) × Bor (List ℕ))) (all : Bor (List ℕ) × Bor (List ℕ))
     → IsSplitOnceResult 47 rest r → all.0.now ≡ rest → (unwrap_or r all).0.now ≡ host_in rest
 host_found rest None all found is =
@@ -78,7 +74,7 @@ host_found rest None all found is =
     is ∙ sym (take_all (position_or_len (λ b. b == 47) rest) rest (omega arith))
 host_found rest (Some x) all found is = (split_once_first 47 rest (Some x) found (lit< tt)).1
 
--- a text that is a field value as it is seen is visible
+-- a field value that is read as text is visible
 pub visible : (h : Headers) (name text : List ℕ) → first_text h name ≡ Some text → visible_text text ≡ Some text
 visible h name text = by_first (first h name)
   where
@@ -92,11 +88,10 @@ visible h name text = by_first (first h name)
     by_first None seen = absurd cc
     by_first (Some value) seen = by_test value seen
 
--- headers with no field have no Host
 pub no_host : first_text (headers_of []) (codes "host") ≡ None
 no_host = ap (option_and_then visible_text) (first-headers_of_none [] (codes "host") refl)
 
--- the Host that was put into headers is seen, if it is visible
+-- a visible Host that was inserted is found
 pub has_host : (value : List ℕ) → first_text (headers_of (insert [] (codes "host") (plain_value value))) (codes "host") ≡ visible_text value
 has_host value =
     ap (λ h. first_text h (codes "host")) (headers_of-insert [] (codes "host") (plain_value value))
@@ -115,7 +110,7 @@ target_by scheme authority kept =
     text_after (unwrap_or scheme [] ++ codes "//" ++ without_default_port (unwrap_or scheme []) authority)
     (path_by scheme kept) (query_of kept)
 
--- two requests of one URI text and one Host have one target
+-- two requests with one URI text and one Host have one target
 pub same_target : (text : List ℕ) (u v : Uri) (g h : Headers) → Spells text u → Spells text v
     → first_text g (codes "host") ≡ first_text h (codes "host") → target_text u g ≡ target_text v h
 unfolding target_text
@@ -125,7 +120,7 @@ same_target text u v g h p q same =
     ap (λ o. named_authority o g) parts.1 ∙ named_same (uri_authority v) g h same in
     (λ i. target_by (parts.0 i) (named i) (parts.2 i))
 
--- a text is of no target where the target of each request that is made up from it is another one
+-- no target has the text if all requests that are made up from it have another target
 pub no_target : (text : List ℕ) (found : Option Target)
     → ((uri : Uri) (headers : Headers) → IsMadeUp text uri (first_text headers (codes "host")) → IsFound found uri headers)
     → ((target : Target) → found ≡ Some target → text_of target ≢ text) → ¬ IsTargetText text

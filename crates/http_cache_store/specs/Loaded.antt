@@ -9,32 +9,29 @@ use Rattle.http_cache_storage.specs.Shelf.{StoredSeen, StoredByTarget}
 use Rattle.http_cache_store.specs.Row.{IsResponseOf}
 use Rattle.http_cache_store.specs.Showing.{ShowsFirst, rows_text}
 
--- the response that is stored for the text is this one
 pub record IsThis (id : ℤ) (target : List ℕ) (policy : Exchange) (body text : List ℕ) (r : StoredSeen) : Type 0 where
   pub text_is : text ≡ target
   pub id_is : id ≡ pos r.id
   pub policy_is : r.exchange ≡ policy
   pub body_is : r.body ≡ body
 
--- the response that is stored for the text is of the row
+-- the response that is stored for the text is from the row
 abbrev pub IsOfRow : Row → List ℕ → StoredSeen → Type 0
 IsOfRow row text r = IsResponseOf row (pos r.id) text r.exchange r.body
 
--- it is of one of the rows
 abbrev pub IsOfOne : List Row → List ℕ → StoredSeen → Type 0
 IsOfOne rows text r = (row : Row) × Contains rows row × IsOfRow row text r
 
--- each response that is stored was stored before, or is one of these
+-- each stored response was stored before, or is one of these
 abbrev pub Adds : (List ℕ → StoredSeen → Type 0) → StoredByTarget → StoredByTarget → Type 0
 Adds These old new = (text : List ℕ) (r : StoredSeen) → Contains (new text) r
     → Contains (old text) r ⊎ These text r
 
--- each response that is stored is of one of the rows
 abbrev pub AreOfRows : List Row → StoredByTarget → Type 0
 AreOfRows rows stored = (text : List ℕ) (r : StoredSeen) → Contains (stored text) r → IsOfOne rows text r
 
--- each response that is stored is of one of the rows that the query showed of the file, if no fault of
--- the disk is known
+-- if no fault of the disk is known, each stored response is from a row that the query showed of the
+-- file
 pub record AreOfFile {S : Type 0} (g : Ghosts S) (now : Held S) (stored : StoredByTarget) : Type 0 where
   pub file : Held S
   pub rows : List Row

@@ -1,4 +1,4 @@
--- What is read of a row.
+-- What is read from a row.
 use Rattle.std.specs.Prelude.{◌≡◌, ℕ, ℤ, List, IsUtf8}
 use Rattle.sqlite.specs.Order.{Row, column}
 use Rattle.sqlite.specs.declared.types.Value.TheVariants.{Int, Text, Blob}
@@ -6,13 +6,13 @@ use Rattle.http_cache_semantics.specs.Exchange.{Exchange}
 use Rattle.http_cache_semantics.specs.Kept.{kept_exchange}
 use Rattle.http_cache_semantics.specs.Stored.{ReadsBack, with_target}
 use Rattle.http_cache_storage.specs.Target.{text_of}
-use Rattle.http_cache_store.specs.declared.row.Found.{Found}
-use Rattle.http_cache_store.specs.declared.row.Found.TheVariants.{Response, Unreadable}
+use Rattle.http_cache_store.specs.declared.row.RowContent.{RowContent}
+use Rattle.http_cache_store.specs.declared.row.RowContent.TheVariants.{Response, Unreadable}
 use Rattle.http_cache_store.specs.Target.{IsTargetText}
 use Rattle.http_cache_store.specs.Text.{IsTextOf, IsReadAs}
 
--- the policy is the one that the text reads as, and the one that the text was written for: itself where
--- its target reads back, and else but for its target
+-- the text reads as the policy; if it was written for an exchange, the policy is that exchange,
+-- except for the target unless that reads back
 pub record IsPolicyOf (text : List ℕ) (policy : Exchange) : Type 0 where
   pub read : (e : Exchange) × IsReadAs text e × (policy ≡ kept_exchange e)
   pub restored : (e : Exchange) → IsTextOf e text → policy ≡ with_target e policy.target
@@ -25,13 +25,13 @@ pub record IsRowOf (row : Row) (id : ℤ) (target text body : List ℕ) : Type 0
   pub text_is : column row 2 ≡ Text text
   pub body_is : column row 3 ≡ Blob body
 
--- the response is of the row: its id, its target, the policy of its text, and its own body
+-- the row shows the response: its id, its target, the text of its policy, and its body
 pub record IsResponseOf (row : Row) (id : ℤ) (target : List ℕ) (policy : Exchange) (body : List ℕ) : Type 0 where
   pub text : List ℕ
   pub columns : IsRowOf row id target text body
   pub policy_is : IsPolicyOf text policy
 
--- the row can be read: it shows an id, the text of a target, the text of a policy and a body
+-- the row shows an id, the text of a target, the text of a policy and a body
 pub record IsReadable (row : Row) : Type 0 where
   pub id : ℤ
   pub target : List ℕ
@@ -43,7 +43,7 @@ pub record IsReadable (row : Row) : Type 0 where
   pub text_utf8 : IsUtf8 text
   pub policy_is : (e : Exchange) × IsReadAs text e
 
--- what was found is what the row holds, and only a row that can't be read is called unreadable
-abbrev pub IsReadFrom : Row → Found → Type 0
+-- the content is what the row holds, and only an unreadable row is `Unreadable`
+abbrev pub IsReadFrom : Row → RowContent → Type 0
 IsReadFrom row (Response id target policy body) = IsResponseOf row id (text_of target) policy body
 IsReadFrom row (Unreadable id) = (column row 0 ≡ Int id) × (¬ IsReadable row)

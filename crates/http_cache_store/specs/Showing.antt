@@ -10,7 +10,7 @@ abbrev pub rows_text : List ℕ
 rows_text = codes "SELECT id, target, policy, body FROM response ORDER BY id"
 
 module _ {S : Type 0} (g : Ghosts S) where
-  -- the rows are the first that the statement shows of the database of the connection
+  -- the rows are the first ones that the statement shows of the connection's database
   abbrev pub ShowsFirst : List ℕ → Held S → List Row → Type 0
   ShowsFirst sql conn rows =
       Begins sql [] (state g conn) rows

@@ -1,4 +1,4 @@
--- The statements of a store that change rows, and what is bound to them.
+-- The statements of a store that change rows, and the values that are bound to them.
 use Rattle.std.specs.Prelude.{ℕ, ℤ, List, [], ◌∷◌, codes}
 use Rattle.sqlite.specs.Order.{Row}
 use Rattle.sqlite.specs.declared.types.Value.TheVariants.{Int, Text, Blob}

@@ -1,4 +1,4 @@
--- From which texts a target is read.
+-- The texts from which a target is read.
 use Rattle.std.specs.Prelude.{◌≡◌, ◌≤◌, ℕ, ◌==◌, List, [], ◌∷◌, ◌++◌, length, drop, codes, Option, Some, None}
 use Rattle.std.specs.List.{before_first}
 use Rattle.http_uri.specs.Uri.{Spells}
@@ -20,25 +20,24 @@ host_in rest = before_first (λ b. b == 47) rest
 abbrev pub path_in : List ℕ → List ℕ
 path_in rest = drop (length (host_in rest)) rest
 
--- the request for `SCHEME//REST` has the URI `SCHEME://REST` and no Host; the one for `//HOST/PATH` has
--- the URI `/PATH` and the Host HOST
+-- the request for `SCHEME//REST` has the URI `SCHEME://REST` and no Host; the request for
+-- `//HOST/PATH` has the URI `/PATH` and the Host HOST
 abbrev pub IsAskedAs : List ℕ → List ℕ → Uri → Option (List ℕ) → Type 0
 IsAskedAs [] rest uri host = Spells (path_in rest) uri × (host ≡ Some (host_in rest))
 IsAskedAs (b ∷ bs) rest uri host = Spells ((b ∷ bs) ++ (codes "://" ++ rest)) uri × (host ≡ None)
 
--- a request of the URI and the Host is made up from the text
+-- the request that is made up from the text has this URI and Host
 pub record IsMadeUp (text : List ℕ) (uri : Uri) (host : Option (List ℕ)) : Type 0 where
   pub front : List ℕ
   pub rest : List ℕ
   pub cut : IsCut text front rest
   pub asked : IsAskedAs front rest uri host
 
--- the target of the request was found
 abbrev pub IsFound : Option Target → Uri → Headers → Type 0
 IsFound None uri headers = ⊥
 IsFound (Some target) uri headers = text_of target ≡ target_text uri headers
 
--- the text is that of a target: the target of the request that is made up from the text has this text
+-- a target has the text: the request that is made up from the text has that target
 pub record IsTargetText (text : List ℕ) : Type 0 where
   pub uri : Uri
   pub headers : Headers

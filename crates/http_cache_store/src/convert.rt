@@ -1,20 +1,20 @@
-//! Rows of the first format, written as rows of the second.
+//! Writes rows of the first format as rows of the second.
 //!
-//! The first format kept a policy's own target as the text of its URI. The second keeps the target of the
-//! stored request, to which Host belongs, so it is made anew.
+//! The first format stored the URI of a policy as the target. The second stores the target of the
+//! request, which depends on Host, so it is computed here.
 use crate::error::StoreError;
 use crate::record::record_of;
 use crate::row::{readable, readable_policy};
 use crate::statements::insert_row;
+use http_cache_json::UnreadValue;
+use http_cache_json::stored::parts_from_value;
 use http_cache_rules::parts::StoredParts;
 use http_cache_shelf::Target;
-use http_cache_stored::UnreadValue;
-use http_cache_stored::stored::parts_from_value;
 use serde_json::Value;
 use sqlite::{Alter, Connection, Row};
 use std::alloc::Global;
 
-// What a stored form says, or None where it says nothing.
+// Reads a stored form. Returns None if it isn't one.
 fn parts_in(alloc: Global, value: &Value) -> Result<Option<StoredParts>, StoreError> {
     match parts_from_value(alloc, value) {
         Ok(parts) => Ok(Some(parts)),
@@ -23,7 +23,7 @@ fn parts_in(alloc: Global, value: &Value) -> Result<Option<StoredParts>, StoreEr
     }
 }
 
-// The target of the request of a stored form.
+// Returns the target of a stored form's request.
 fn request_target(alloc: Global, value: &Value) -> Result<Option<Target>, StoreError> {
     match parts_in(alloc, value)? {
         Some(parts) => Ok(Some(Target::of(alloc, &parts.target, &parts.request_headers)?)),
@@ -31,7 +31,7 @@ fn request_target(alloc: Global, value: &Value) -> Result<Option<Target>, StoreE
     }
 }
 
-// The target of the request of a policy's text.
+// Returns the target of the request in a policy's text.
 fn target_in(alloc: Global, text: &str) -> Result<Option<Target>, StoreError> {
     match Value::from_str(alloc, text) {
         Ok(value) => request_target(alloc, &value),
@@ -59,7 +59,7 @@ fn convert_policy<S: Alter>(
     Ok(())
 }
 
-// Writes what a row of an id, a policy and a body holds. What can't be read is left out.
+// Writes what a row of an id, a policy and a body holds. Leaves out what can't be read.
 fn convert_row<S: Alter>(
     alloc: Global,
     conn: &mut Connection<S>,

@@ -1,4 +1,4 @@
-//! Why a call of a store was refused.
+//! The reasons why a call of a store fails.
 ghost use Rattle.std.specs.Prelude.{◌≡◌};
 ghost use Rattle.http_cache_store.specs.declared.error.StoreError.TheVariants.{Memory};
 
@@ -7,16 +7,16 @@ use sqlite::ErrorCode;
 use std::alloc::{AllocError, AllocFailed};
 use thiserror::Error;
 
-/// Why a call of a store was refused.
+/// The reason why a call of a store failed.
 #[derive(Clone, Copy, Debug, PartialEq, Eq, Error)]
 pub enum StoreError {
-    /// Out of memory.
+    /// There is not enough memory.
     #[error("out of memory")]
     Memory,
-    /// The file is a database, but none of a store that this version reads.
+    /// The file is a database, but no store of a format that this version reads.
     #[error("the file is no store of responses of a known format")]
     Format,
-    /// The system gave no random bytes, so that look-ups would have no secret keys.
+    /// The system has no random bytes, so look-ups would have no secret keys.
     #[error("no random bytes")]
     NoKeys,
     /// sqlite refused a statement, or the disk failed.
@@ -25,7 +25,6 @@ pub enum StoreError {
 }
 
 impl StoreError {
-    /// Returns the error by which a shelf reports this one.
     pub(crate) fn on_shelf(self) -> ShelfError {
         match self {
             StoreError::Memory => ShelfError::Memory,

@@ -1,8 +1,8 @@
-//! The tables of a store: which format a file has, how a new file gets the tables, and how a file of
-//! the first format gets those of the second.
+//! The tables of a store: recognizes the format of a file, makes the tables in a new file, and
+//! converts a file of the first format.
 //!
-//! The first format has one table, `response`, and no number. The second has its number in the table
-//! `http_cache_store`.
+//! The first format has one table, `response`, and no number. The second has its number in the
+//! table `http_cache_store`.
 use crate::convert::convert_rows;
 use crate::error::StoreError;
 use crate::row::readable;
@@ -11,7 +11,7 @@ use std::alloc::Global;
 
 const FORMAT: i64 = 2;
 
-// What the tables of a database are.
+// The tables that a database has.
 #[derive(Clone, Copy)]
 struct Tables {
     has_number: bool,
@@ -20,7 +20,6 @@ struct Tables {
 }
 
 impl Tables {
-    // The tables with one more.
     fn with(self, name: &str) -> Tables {
         match name {
             "http_cache_store" => Tables {
@@ -58,7 +57,7 @@ fn tables_of<S: Alter>(conn: &mut Connection<S>) -> Result<Tables, Error> {
     tables_in(rows.as_slice())
 }
 
-// The error for a query on a table that may lack a column: then the file is of another format.
+// Turns the error of a query on a missing column into `Format`.
 fn known(asked: Result<Vec<Row>, Error>) -> Result<Vec<Row>, StoreError> {
     match asked {
         Ok(rows) => Ok(rows),
@@ -71,7 +70,7 @@ fn numbers_of<S: Alter>(conn: &mut Connection<S>) -> Result<Vec<Row>, StoreError
     known(conn.query_all("SELECT format FROM http_cache_store", &[]))
 }
 
-// Refuses a file whose number is another one than that of this format.
+// Refuses a file with the number of another format.
 fn check_number<S: Alter>(conn: &mut Connection<S>) -> Result<(), StoreError> {
     match numbers_of(conn)?.as_slice() {
         [row] => {
@@ -106,12 +105,11 @@ fn create<S: Alter>(conn: &mut Connection<S>) -> Result<(), Error> {
     )
 }
 
-// The rows of a file of the first format.
 fn first_rows<S: Alter>(conn: &mut Connection<S>) -> Result<Vec<Row>, StoreError> {
     known(conn.query_all("SELECT id, policy, body FROM response ORDER BY id", &[]))
 }
 
-// Makes the tables of this format in place of those of the first, with what they held.
+// Replaces the tables of the first format by those of this one, with what they held.
 fn convert<S: Alter>(alloc: Global, conn: &mut Connection<S>) -> Result<(), StoreError> {
     let rows = first_rows(conn)?;
     conn.execute_batch("DROP TABLE response")?;
@@ -119,7 +117,7 @@ fn convert<S: Alter>(alloc: Global, conn: &mut Connection<S>) -> Result<(), Stor
     convert_rows(alloc, conn, rows.as_slice())
 }
 
-// Gives a file the tables of this format, or refuses it.
+// Makes the tables of this format in a file, or refuses the file.
 fn prepare_tables<S: Alter>(alloc: Global, conn: &mut Connection<S>) -> Result<(), StoreError> {
     let tables = tables_of(conn)?;
     if tables.has_number {
@@ -135,7 +133,7 @@ fn prepare_tables<S: Alter>(alloc: Global, conn: &mut Connection<S>) -> Result<(
     Ok(create(conn)?)
 }
 
-/// Gives a file the tables of this format in one transaction, or refuses it as it is.
+/// Makes the tables of this format in one transaction, or leaves the file as it is and refuses it.
 pub(crate) fn prepare<S: Alter>(alloc: Global, conn: &mut Connection<S>) -> Result<(), StoreError> {
     conn.execute_batch("BEGIN")?;
     prepare_tables(alloc, conn)?;

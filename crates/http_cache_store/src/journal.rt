@@ -1,7 +1,5 @@
-//! The changes of a store, as its file gets them.
-//!
-//! Each public function writes one call of the shelf: all that the call changes, or nothing. No code here
-//! knows what is in memory.
+//! Writes the changes of a store to its file. Each public function writes one call of the shelf:
+//! all that the call changes, or nothing. No code here knows what is in memory.
 ghost use Rattle.std.specs.Prelude.{◌≡◌};
 
 use crate::error::StoreError;
@@ -16,25 +14,26 @@ use jiff::Timestamp;
 use sqlite::{Alter, Connection, Error, ErrorCode, Row, params};
 use std::alloc::Global;
 
-/// A file that gets the changes of a store, call by call.
+/// A file to which the changes of a store are written, call by call.
 #[derive(Drop)]
 pub(crate) struct Journal<S: Alter> {
     conn: Connection<S>,
     alloc: Global,
-    // The bytes of a body that the shelf stores at most.
+    // The greatest length in bytes of a stored body.
     longest_body: u64,
-    // How many calls are committed together, and how many of them are written.
+    // The number of calls in a commit, and the number of those that are written.
     calls: u32,
     pending: u32,
-    // Whether calls that had returned were lost since, so that what is in the file may be wrong.
+    // Whether the file may be wrong because calls that had returned were lost.
     is_behind: bool,
-    // The ids and the uses that come next.
+    // The next id and the number of the next use.
     next_id: i64,
     next_use: i64,
     fault: Option<StoreError>,
 }
 
-// The rowid of an id. The greatest rowid is given to no response, so it stands for all that are above it.
+// Returns the rowid of an id. No response has the greatest rowid, so it represents all ids above
+// it.
 fn rowid_of(id: ResponseId) -> i64 {
     i64::try_from(id.number()).unwrap_or(i64::MAX)
 }
@@ -64,7 +63,7 @@ fn remove_all<S: Alter>(conn: &mut Connection<S>, targets: &[Target]) -> Result<
     Ok(())
 }
 
-// The rows of which a sweep asks whether they are still of use.
+// Returns the rows that a sweep has to examine.
 fn stale_rows<S: Alter>(conn: &mut Connection<S>, now: Timestamp) -> Result<Vec<Row>, Error> {
     conn.query_all(
         "SELECT id, policy FROM response WHERE expiry <= ?1",
@@ -72,7 +71,8 @@ fn stale_rows<S: Alter>(conn: &mut Connection<S>, now: Timestamp) -> Result<Vec<
     )
 }
 
-// Whether the response of a row of an id and a policy can be used again. One that can't be read can't.
+// Returns whether the response in a row of an id and a policy can be used again. An unreadable one
+// can't.
 fn is_of_use(alloc: Global, row: &Row, now: Timestamp) -> Result<bool, StoreError> {
     let Some(text) = readable::<String>(row, 1)? else {
         return Ok(false);
@@ -98,7 +98,7 @@ fn sweep_rows<S: Alter>(
 }
 
 impl<S: Alter> Journal<S> {
-    /// Returns a journal of a connection whose rows are of the second format.
+    /// Returns a journal of a connection whose rows have the second format.
     pub(crate) fn new(
         alloc: Global,
         conn: Connection<S>,
@@ -121,7 +121,7 @@ impl<S: Alter> Journal<S> {
         }
     }
 
-    /// Returns the number of the id that comes next.
+    /// Returns the number of the next id.
     pub(crate) fn next_number(&self) -> u64 {
         u64::try_from(self.next_id).unwrap_or(0)
     }
@@ -131,7 +131,7 @@ impl<S: Alter> Journal<S> {
         self.fault
     }
 
-    // Begins what a call writes, after the calls that are to be committed with it.
+    // Begins to write a call, after the calls of its batch.
     fn begin(&mut self) -> Result<(), Error> {
         if self.calls > 1 && self.conn.is_autocommit() {
             self.conn.execute("BEGIN", &[])?;
@@ -151,7 +151,7 @@ impl<S: Alter> Journal<S> {
         Ok(())
     }
 
-    // Ends what a call writes, and commits it if it is the last of its batch.
+    // Ends a call, and commits it if it is the last of its batch.
     fn finish(&mut self) -> Result<(), Error> {
         self.conn.execute("RELEASE call", &[])?;
         self.is_behind = false;
@@ -162,8 +162,8 @@ impl<S: Alter> Journal<S> {
         Ok(())
     }
 
-    // Takes back what a call has written. If the failure took back the calls before it too, the file
-    // lacks what they changed.
+    // Undoes what a call has written. If the failure has undone earlier calls too, the file lacks
+    // their changes.
     fn undo(&mut self) {
         if !self.conn.is_autocommit() {
             let _back = self.conn.execute("ROLLBACK TO call", &[]);
@@ -175,7 +175,7 @@ impl<S: Alter> Journal<S> {
         }
     }
 
-    // Keeps what a call has written, or takes it back.
+    // Keeps what a call has written, or undoes it.
     fn end(&mut self, written: Result<(), StoreError>) -> Result<(), ShelfError> {
         let ended = match written {
             Ok(()) => self.finish().map_err(StoreError::from),
@@ -222,7 +222,7 @@ impl<S: Alter> Journal<S> {
         self.write_new(target, policy, body)
     }
 
-    /// Writes a new response under the next id, unless its body is over the limit, and removes the rows
+    /// Writes a new response under the next id, unless its body is over the limit. Removes the rows
     /// that it supersedes or that were evicted.
     pub(crate) fn put(
         &mut self,
@@ -236,7 +236,7 @@ impl<S: Alter> Journal<S> {
         self.end(written)
     }
 
-    /// Counts up the ids after a new response was stored, and removes its row where it wasn't.
+    /// Raises the next id after a new response was stored, or removes its row if it wasn't.
     pub(crate) fn settle(&mut self, stored: &Result<Option<ResponseId>, ShelfError>) {
         match stored {
             Ok(Some(id)) => self.next_id = rowid_of(*id).saturating_add(1),
@@ -280,7 +280,7 @@ impl<S: Alter> Journal<S> {
         self.write_policy(target, rowid_of(id), policy)
     }
 
-    /// Writes a new policy over the row of an id, and removes the rows that it supersedes or that were
+    /// Writes a new policy to the row of an id. Removes the rows that it supersedes or that were
     /// evicted.
     pub(crate) fn renew(
         &mut self,
@@ -299,7 +299,6 @@ impl<S: Alter> Journal<S> {
         remove_rows(&mut self.conn, target, ids)
     }
 
-    /// Removes the rows of some ids of a target.
     pub(crate) fn remove(&mut self, target: &Target, ids: &[ResponseId]) -> Result<(), ShelfError> {
         let written = self.write_removed(target, ids);
         self.end(written)
@@ -310,7 +309,6 @@ impl<S: Alter> Journal<S> {
         remove_all(&mut self.conn, targets)
     }
 
-    /// Removes the rows of some targets.
     pub(crate) fn remove_targets(&mut self, targets: &[Target]) -> Result<(), ShelfError> {
         let written = self.write_removed_targets(targets);
         self.end(written)

@@ -1,8 +1,8 @@
-//! Stored responses that outlive the process: a [`Store`] is a shelf of `http_cache_shelf` that keeps
-//! a journal of its changes in a sqlite file.
+//! Stored responses that outlive the process: a [`Store`] is a shelf of `http_cache_shelf` with a
+//! journal in a sqlite file.
 //!
-//! Look-ups are answered from memory. Each change is written to the file before it is made in memory,
-//! so the modules below know either the file (`format`, `statements`, `journal`) or both (`load`, `store`).
+//! Look-ups are answered from memory. Each change is written to the file before it is made in
+//! memory. So `format`, `statements` and `journal` know only the file, and `load` and `store` both.
 #![tactic(auto)]
 
 pub(crate) mod convert;

@@ -1,4 +1,4 @@
-//! What a store has in memory when it is opened: what the rows of its file hold.
+//! Reads the rows of a file into memory when a store is opened.
 ghost use Rattle.std.specs.Prelude.{List, OnOk};
 ghost use Rattle.sqlite.specs.Order.{Row as SeenRow};
 ghost use Rattle.sqlite.specs.Held.{state};
@@ -9,7 +9,7 @@ ghost use Rattle.http_cache_store.specs.Showing.{ShowsFirst, rows_text};
 ghost use Rattle.http_cache_store.specs.Loaded.{IsThis, IsOfRow, IsOfOne, Adds};
 
 use crate::error::StoreError;
-use crate::row::{Found, found_in, readable};
+use crate::row::{RowContent, found_in, readable};
 use crate::statements::remove_id;
 use crate::target::target_of;
 use bytes::Bytes;
@@ -48,7 +48,7 @@ fn restore(
     }
 }
 
-// Restores what a row holds. The ids that the file is to lose are added to `lost`.
+// Restores the response of a row. Adds the ids to remove from the file to `lost`.
 fn restore_row(
     alloc: Global,
     memory: &mut MemoryShelf,
@@ -59,7 +59,7 @@ fn restore_row(
         (⟦<MemoryShelf as Shelf>⟧.stored memory.old) (⟦<MemoryShelf as Shelf>⟧.stored memory.new)) }
 {
     match found_in(alloc, row)? {
-        Found::Response {
+        RowContent::Response {
             id,
             target,
             policy,
@@ -70,7 +70,7 @@ fn restore_row(
             }
             push_all(lost, memory.evicted())
         }
-        Found::Unreadable { id } => Ok(lost.push(id)?),
+        RowContent::Unreadable { id } => Ok(lost.push(id)?),
     }
 }
 
@@ -132,7 +132,7 @@ fn use_target(alloc: Global, memory: &mut MemoryShelf, row: &Row) -> Result<(), 
     Ok(())
 }
 
-// Counts the targets as used, in the order in which they were stored or renewed.
+// Counts the targets as used, in the order in which their responses were stored or renewed.
 fn use_all<S: Alter>(
     alloc: Global,
     conn: &mut Connection<S>,
@@ -154,8 +154,8 @@ fn use_all<S: Alter>(
     Ok(())
 }
 
-/// Restores what the rows hold, and removes from the file what can't be read or is over a limit. It
-/// stores nothing but responses of the rows.
+/// Restores what the rows hold, and removes from the file what can't be read or exceeds a limit.
+/// Stores nothing else.
 pub(crate) fn load<S: Alter>(
     alloc: Global,
     conn: &mut Connection<S>,
@@ -198,8 +198,8 @@ fn last_stored<S: Alter>(conn: &mut Connection<S>) -> Result<i64, Error>
     number_in(rows.as_slice())
 }
 
-/// Returns the greatest id that was ever given. That is what sqlite has counted, unless another program
-/// has changed the count.
+/// Returns the greatest id that was ever assigned. sqlite counts it, unless another program has
+/// changed the count.
 pub(crate) fn last_id<S: Alter>(conn: &mut Connection<S>) -> Result<i64, Error>
     ensures { OnOk result (HasCleanDisk (state S.Store conn.new)
         → HasCleanDisk (state S.Store conn.old)) }

@@ -1,4 +1,4 @@
-//! How much a store keeps, and when it commits.
+//! The options of a store: its limits, and when it commits.
 use http_cache_shelf::Limits;
 
 /// When a changing call is committed to the file.
@@ -6,16 +6,15 @@ use http_cache_shelf::Limits;
 pub enum Durability {
     /// Each call is committed before it returns.
     Each,
-    /// So many changing calls are committed together, and the rest by `close`. A crash loses the calls
-    /// since the last commit, also those that removed responses: these are stored again then.
+    /// Several changing calls are committed together, and the last ones by `close`. A crash loses
+    /// the calls since the last commit. If they removed responses, these are stored again.
     Batched {
-        /// How many calls a commit has. None and one are as `Each`.
+        /// The number of calls in a commit. 0 and 1 are like `Each`.
         calls: u32,
     },
 }
 
 impl Durability {
-    /// Returns how many calls a commit has.
     pub(crate) fn calls(self) -> u32 {
         match self {
             Durability::Each => 1,
@@ -24,10 +23,10 @@ impl Durability {
     }
 }
 
-/// What a store is opened with.
+/// The options with which a store is opened.
 #[derive(Clone, Copy, Debug, PartialEq, Eq)]
 pub struct StoreOptions {
-    /// How much is stored at most, in memory and in the file alike.
+    /// The limits of what is stored, both in memory and in the file.
     pub limits: Limits,
     /// When a call is committed.
     pub durability: Durability,

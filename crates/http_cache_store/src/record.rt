@@ -1,4 +1,4 @@
-//! What is written of a stored response beside its target and its body.
+//! The columns of a row that depend on the policy.
 use crate::statements::Written;
 use crate::text::text_of;
 use http_cache_messages::worth::can_be_used_again;
@@ -6,7 +6,7 @@ use http_cache_semantics::CachePolicy;
 use http_cache_shelf::Target;
 use std::alloc::{AllocError, Global};
 
-/// What the columns of a row get from a policy.
+/// The columns of a row that depend on the policy.
 #[derive(Drop)]
 pub(crate) struct Record {
     text: String,
@@ -14,7 +14,7 @@ pub(crate) struct Record {
 }
 
 impl Record {
-    /// Returns the row of an id for a target, with the policy that the record was made of.
+    /// Returns the row with an id and a target, for the policy of the record.
     pub(crate) fn row<'a>(
         &'a self,
         id: i64,
@@ -34,8 +34,8 @@ impl Record {
     }
 }
 
-// The second since 1970 from which the response may be of no more use: when it gets stale, or when it
-// was received if it is of no use from the start.
+// Returns the second since 1970 from which the response may be useless: when it gets stale, or when
+// it was received if it is useless from the start.
 fn expiry_of(policy: &CachePolicy) -> i64 {
     let received = policy.stored_response_time();
     if !can_be_used_again(policy, received) {
@@ -46,7 +46,6 @@ fn expiry_of(policy: &CachePolicy) -> i64 {
     received.as_second().saturating_add(left)
 }
 
-/// Returns what the columns of a row get from a policy.
 pub(crate) fn record_of(alloc: Global, policy: &CachePolicy) -> Result<Record, AllocError> {
     Ok(Record {
         text: text_of(alloc, policy)?,

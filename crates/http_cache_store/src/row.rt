@@ -1,4 +1,4 @@
-//! What is read of a row.
+//! Reads rows.
 ghost use Rattle.std.specs.Prelude.{◌≡◌, ℤ, IfOk, IfSome, IfNone, IsOkUnless};
 ghost use Rattle.sqlite.specs.Order.{column};
 ghost use Rattle.http_cache_semantics.specs.Exchange.{Exchange};
@@ -17,7 +17,7 @@ use std::alloc::Global;
 
 /// What a row holds.
 #[derive(Drop)]
-pub(crate) enum Found {
+pub(crate) enum RowContent {
     /// A response.
     Response {
         id: i64,
@@ -25,13 +25,13 @@ pub(crate) enum Found {
         policy: CachePolicy,
         body: Bytes,
     },
-    /// Something of which no target, no policy or no body can be read.
+    /// A row without a readable target, policy or body.
     Unreadable {
         id: i64,
     },
 }
 
-// None where the column has a value of another kind, or a text that isn't UTF-8.
+// Returns None if the column has a value of another kind, or a text that isn't UTF-8.
 pub(crate) fn readable<T: FromSql>(row: &Row, at: usize) -> Result<Option<T>, Error>
     ensures some { IfOk result (λ value. IfSome value (T.FromSql.reads_as (column row.now at))) }
     ensures none { IfOk result (λ value. IfNone value
@@ -46,7 +46,7 @@ pub(crate) fn readable<T: FromSql>(row: &Row, at: usize) -> Result<Option<T>, Er
     }
 }
 
-// None where the text is of no policy.
+// Returns None if the text is no policy.
 pub(crate) fn readable_policy(alloc: Global, text: &str) -> Result<Option<CachePolicy>, StoreError>
     ensures some { IfOk result (λ policy. IfSome policy (IsPolicyOf text.now)) }
     ensures none { IfOk result (λ policy. IfNone policy
@@ -59,29 +59,29 @@ pub(crate) fn readable_policy(alloc: Global, text: &str) -> Result<Option<CacheP
     }
 }
 
-/// Returns what a row of an id, a target, a policy and a body holds. Only a row that can't be read is
-/// called unreadable.
-pub(crate) fn found_in(alloc: Global, row: &Row) -> Result<Found, StoreError>
+/// Returns what a row of an id, a target, a policy and a body holds. Only an unreadable row is
+/// `Unreadable`.
+pub(crate) fn found_in(alloc: Global, row: &Row) -> Result<RowContent, StoreError>
     ensures { IfOk result (IsReadFrom row.now) }
 {
     let id = row.get(0)?;
     let Some(target) = readable::<String>(row, 1)? else {
-        return Ok(Found::Unreadable { id });
+        return Ok(RowContent::Unreadable { id });
     };
     let Some(target) = target_of(alloc, target.as_str())? else {
-        return Ok(Found::Unreadable { id });
+        return Ok(RowContent::Unreadable { id });
     };
     let Some(text) = readable::<String>(row, 2)? else {
-        return Ok(Found::Unreadable { id });
+        return Ok(RowContent::Unreadable { id });
     };
     let Some(policy) = readable_policy(alloc, text.as_str())? else {
-        return Ok(Found::Unreadable { id });
+        return Ok(RowContent::Unreadable { id });
     };
     let Some(body) = readable::<Vec<u8>>(row, 3)? else {
-        return Ok(Found::Unreadable { id });
+        return Ok(RowContent::Unreadable { id });
     };
     let body = Bytes::from_vec(body)?;
-    Ok(Found::Response {
+    Ok(RowContent::Response {
         id,
         target,
         policy,

@@ -1,7 +1,7 @@
-//! The statements that change rows, one a function.
+//! The statements that change rows, one for each function.
 //!
-//! Each clause `runs` names the statement and the values that it binds, and `kept` and `crash` say what
-//! is committed after an error or a crash.
+//! Each clause `runs` names the statement and its bound values. `kept` and `crash` say what is
+//! committed after an error or a crash.
 ghost use Rattle.std.specs.Prelude.{◌≡◌, [], ◌∷◌, OnErr};
 ghost use Rattle.sqlite.specs.Values.{bound};
 ghost use Rattle.sqlite.specs.Held.{state};
@@ -13,20 +13,19 @@ ghost use Rattle.http_cache_store.specs.Statements.{remove_text, remove_values, 
 use sqlite::types::ValueRef;
 use sqlite::{Alter, Connection, Error, params};
 
-/// A row, as a statement writes it, but for its body. Its texts are bytes, as sqlite binds them.
+/// A row to write, without its body. Its texts are bytes, as sqlite binds them.
 #[derive(Clone, Copy)]
 pub(crate) struct Written<'a> {
     pub(crate) id: i64,
     pub(crate) target: &'a [u8],
     pub(crate) method: &'a [u8],
     pub(crate) policy: &'a [u8],
-    // The bytes of the text of the policy.
+    // The length of the policy's text in bytes.
     pub(crate) size: i64,
     pub(crate) last_use: i64,
     pub(crate) expiry: i64,
 }
 
-// The values of a new row.
 fn insert_params<'a>(row: Written<'a>, body: &'a [u8]) -> [ValueRef<'a>; 8]
     ensures { bound result ≡ insert_values row.entry body.entry.now }
 {
@@ -42,7 +41,6 @@ fn insert_params<'a>(row: Written<'a>, body: &'a [u8]) -> [ValueRef<'a>; 8]
     ]
 }
 
-// The values of a row that is renewed.
 fn renew_params<'a>(row: Written<'a>) -> [ValueRef<'a>; 7]
     ensures { bound result ≡ renew_values row.entry }
 {
@@ -57,7 +55,6 @@ fn renew_params<'a>(row: Written<'a>) -> [ValueRef<'a>; 7]
     ]
 }
 
-/// Writes a new row.
 #[tactic(auto, using(crate::proofs::StoreLemmas::failed_keeps))]
 pub(crate) fn insert_row<'a, S: Alter>(
     conn: &mut Connection<S>,
@@ -78,7 +75,6 @@ pub(crate) fn insert_row<'a, S: Alter>(
     )
 }
 
-/// Replaces the policy of a row.
 #[tactic(auto, using(crate::proofs::StoreLemmas::failed_keeps))]
 pub(crate) fn renew_row<S: Alter>(
     conn: &mut Connection<S>,
@@ -98,7 +94,7 @@ pub(crate) fn renew_row<S: Alter>(
     )
 }
 
-/// Removes the row of an id, if it is one of a target.
+/// Removes the row of an id, if the row has the target.
 #[tactic(auto, using(crate::proofs::StoreLemmas::failed_keeps))]
 pub(crate) fn remove_row<S: Alter>(
     conn: &mut Connection<S>,
@@ -118,7 +114,6 @@ pub(crate) fn remove_row<S: Alter>(
     )
 }
 
-/// Removes the row of an id.
 #[tactic(auto, using(crate::proofs::StoreLemmas::failed_keeps))]
 pub(crate) fn remove_id<S: Alter>(conn: &mut Connection<S>, id: i64) -> Result<usize, Error>
     ensures runs { HasCleanDisk (state S.Store conn.new) → Executes remove_id_text
@@ -131,7 +126,6 @@ pub(crate) fn remove_id<S: Alter>(conn: &mut Connection<S>, id: i64) -> Result<u
     conn.execute("DELETE FROM response WHERE id = ?1", params![id])
 }
 
-/// Removes the rows of a target.
 #[tactic(auto, using(crate::proofs::StoreLemmas::failed_keeps))]
 pub(crate) fn remove_target<S: Alter>(
     conn: &mut Connection<S>,
@@ -147,7 +141,6 @@ pub(crate) fn remove_target<S: Alter>(
     conn.execute("DELETE FROM response WHERE target = ?1", params![target])
 }
 
-/// Removes all rows.
 #[tactic(auto, using(crate::proofs::StoreLemmas::failed_keeps))]
 pub(crate) fn clear<S: Alter>(conn: &mut Connection<S>) -> Result<usize, Error>
     ensures runs { HasCleanDisk (state S.Store conn.new) → Executes clear_text []

@@ -1,7 +1,5 @@
-//! A shelf in memory with a journal in a file.
-//!
-//! Each method of the shelf is a few lines: the journal writes the change, and then memory has it. What
-//! is stored, as the clauses of the trait see it, is what is in memory.
+//! A shelf in memory with a journal in a file. In each method of the shelf the journal writes the
+//! change, then memory gets it. The trait's clauses are about what is in memory.
 ghost use Rattle.std.specs.Prelude.{◌≡◌, ℕ, List, [], IfOk};
 ghost use Rattle.sqlite.specs.Held.{state};
 ghost use Rattle.sqlite.specs.State.{HasCleanDisk};
@@ -28,8 +26,8 @@ use std::hash::RandomState;
 ///
 ///     let mut store = Store::open(rt, "responses.db", StoreOptions::default())?;
 ///
-/// All that is stored is in memory too, and look-ups are answered from there. A changing call is written
-/// to the file first, so after an error of the file the shelf stores what it stored before.
+/// All that is stored is in memory too, and look-ups are answered from there. A changing call is
+/// written to the file first, so after an error of the file the shelf stores what it stored before.
 #[derive(Drop)]
 pub struct Store<S: Alter> {
     journal: Journal<S>,
@@ -61,7 +59,7 @@ fn journal_over<S: Alter + Drop>(
 }
 
 impl<S: Alter + Drop> Store<S> {
-    // A store over a connection, whose tables it makes where there are none.
+    // Returns a store over a connection, in which it makes missing tables.
     fn over(
         rt: &HostRuntime,
         mut conn: Connection<S>,
@@ -87,18 +85,20 @@ impl<S: Alter + Drop> Store<S> {
 impl Store<FileStore<File>> {
     /// Opens the file at a path, or makes it, and reads all that is stored into memory.
     ///
-    /// Each response that is stored then is of a row of the file: for the row's target and under its id,
-    /// with its policy and its body. A row that can't be read is removed from the file, and so is what
-    /// is over a limit. A file of the first format is converted.
+    /// Each stored response is then from a row of the file: it has the row's id, target, policy and
+    /// body. Rows that can't be read or exceed a limit are removed from the file. A file of the
+    /// first format is converted.
     ///
     /// # Errors
     ///
-    /// Returns `Format` if the file is a database, but none of a store, or of a format of a later
-    /// version; `NoKeys` if the system has no random bytes; `Memory` when out of memory; and else the
-    /// error of sqlite, such as `DatabaseBusy` if
-    /// another process has the file open, `CannotOpen` if the file can't be opened or made,
-    /// `NotADatabase` or `DatabaseCorrupt` if it is no database or a damaged one, and `DiskFull` or
-    /// `SystemIoFailure` if the disk failed. A file that is refused stays as it is.
+    /// - `Format` if the file is a database, but no store, or has the format of a later version.
+    /// - `NoKeys` if the system has no random bytes.
+    /// - `Memory` if there is not enough memory.
+    /// - Otherwise the error of sqlite: `DatabaseBusy` if another process has the file open,
+    ///   `CannotOpen` if it can't be opened or made, and `NotADatabase` or `DatabaseCorrupt` if it
+    ///   is no database or a damaged one; `DiskFull` or `SystemIoFailure` if the disk failed.
+    ///
+    /// A refused file stays as it is.
     pub fn open(
         rt: &HostRuntime,
         path: &str,
@@ -115,7 +115,7 @@ impl Store<FileStore<File>> {
     ///
     /// # Errors
     ///
-    /// Returns the error of sqlite if the disk failed, and `Memory` when out of memory.
+    /// The error of sqlite if the disk failed, and `Memory` if there is not enough memory.
     pub fn close(self) -> Result<(), StoreError> {
         let Store {
             journal,
@@ -128,11 +128,11 @@ impl Store<FileStore<File>> {
 }
 
 impl Store<MemStore> {
-    /// Returns an empty store in memory, which is lost when the process ends: for tests.
+    /// Returns an empty store in memory, for tests. It is lost when the process ends.
     ///
     /// # Errors
     ///
-    /// Returns `Memory` when out of memory.
+    /// `Memory` if there is not enough memory.
     pub fn open_in_memory(
         rt: &HostRuntime,
         options: StoreOptions,
@@ -146,7 +146,7 @@ impl Store<MemStore> {
 }
 
 impl<S: Alter> Store<S> {
-    /// Returns how many responses are stored.
+    /// Returns the number of stored responses.
     pub fn len(&self) -> usize {
         self.memory.len()
     }
@@ -156,19 +156,19 @@ impl<S: Alter> Store<S> {
         self.memory.is_empty()
     }
 
-    /// Returns how many bytes the heads and bodies of the stored responses have together.
+    /// Returns the number of bytes of all stored heads and bodies.
     pub fn size(&self) -> u64 {
         self.memory.size()
     }
 
-    /// Returns how much is stored at most, as the options of `open` said.
+    /// Returns the limits, as set by the options of `open`.
     pub fn limits(&self) -> Limits
         ensures { result ≡ self.now.limits }
     {
         self.limits
     }
 
-    /// Returns why the file refused a call, the last one that it refused, or None if it refused none.
+    /// Returns the error of the last call that the file refused, or `None` if it refused none.
     pub fn fault(&self) -> Option<StoreError> {
         self.journal.fault()
     }

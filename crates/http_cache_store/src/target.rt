@@ -1,6 +1,5 @@
-//! A target from its text.
-//!
-//! A `Target` is made of a request alone, so a request is made up that has the target of the text.
+//! Reads a target from its text. Only requests make a `Target`, so a request with that target is
+//! made up.
 ghost use Rattle.std.specs.Prelude.{◌≡◌, ◌++◌, Some, None, codes, IfOk, IfSome, IfNone, MatchOption};
 ghost use Rattle.http_uri.specs.Uri.{Spells, SpellsNone};
 ghost use Rattle.http_uri.specs.declared.uri.Uri.{Uri as SeenUri};
@@ -17,7 +16,7 @@ use http_header::HeaderValueError;
 use http_uri::UriError;
 use std::alloc::{AllocError, Global};
 
-// A URI, or None where the text is none.
+// Reads a URI. Returns None if the text is none.
 fn uri_of(alloc: Global, text: &str) -> Result<Option<Uri>, AllocError>
     ensures { IfOk result (λ uri. MatchOption uri (SpellsNone text.now) (Spells text.now)) }
 {
@@ -28,7 +27,7 @@ fn uri_of(alloc: Global, text: &str) -> Result<Option<Uri>, AllocError>
     }
 }
 
-// The target of a URI with a scheme, whose text lacks the colon.
+// Returns the target of a URI with a scheme, whose text lacks the colon.
 fn absolute(alloc: Global, scheme: &str, rest: &str) -> Result<Option<Target>, StoreError>
     ensures { IfOk result (λ found. (uri : SeenUri) (headers : Headers)
         → Spells (scheme.now ++ (codes "://" ++ rest.now)) uri
@@ -41,7 +40,7 @@ fn absolute(alloc: Global, scheme: &str, rest: &str) -> Result<Option<Target>, S
     }
 }
 
-// The headers of a request to a host, or None where its name is no field value.
+// Returns the headers of a request to a host, or None if its name is no field value.
 fn headers_to(alloc: Global, host: &str) -> Result<Option<HeaderMap>, StoreError>
     ensures { IfOk result (λ found. MatchOption found (visible_text host.now ≡ None)
         (λ headers. first_text (headers_of headers) (codes "host") ≡ visible_text host.now)) }
@@ -58,7 +57,7 @@ fn headers_to(alloc: Global, host: &str) -> Result<Option<HeaderMap>, StoreError
     }
 }
 
-// The target of a path that is asked of a host.
+// Returns the target of a request for a path at a host.
 fn at_host(alloc: Global, host: &str, path: &str) -> Result<Option<Target>, StoreError>
     ensures { IfOk result (λ found. (uri : SeenUri) (headers : Headers) → Spells path.now uri
         → first_text headers (codes "host") ≡ Some host.now → IsFound found uri headers) }
@@ -72,7 +71,7 @@ fn at_host(alloc: Global, host: &str, path: &str) -> Result<Option<Target>, Stor
     }
 }
 
-// The host and the path of `HOST/PATH`.
+// Splits `HOST/PATH` into host and path.
 fn host_and_path(rest: &str) -> (&str, &str)
     ensures host { result.0.now ≡ host_in rest.now }
     ensures path { result.1.now ≡ path_in rest.now }
@@ -81,7 +80,7 @@ fn host_and_path(rest: &str) -> (&str, &str)
     (host, rest.strip_prefix(host).unwrap_or(""))
 }
 
-// The target of the request that is made up from a text, `SCHEME//HOST/PATH` or `//HOST/PATH`.
+// Returns the target of the request that is made up from `SCHEME//HOST/PATH` or `//HOST/PATH`.
 fn asked(alloc: Global, text: &str) -> Result<Option<Target>, StoreError>
     ensures { IfOk result (λ found. (uri : SeenUri) (headers : Headers)
         → IsMadeUp text.now uri (first_text headers (codes "host")) → IsFound found uri headers) }
@@ -96,7 +95,7 @@ fn asked(alloc: Global, text: &str) -> Result<Option<Target>, StoreError>
     at_host(alloc, host, path)
 }
 
-/// Returns the target of a text, or None where the text is of no target.
+/// Returns the target with a text, or None if no target has it.
 pub(crate) fn target_of(alloc: Global, text: &str) -> Result<Option<Target>, StoreError>
     ensures some { IfOk result (λ found. IfSome found (λ target. text_of target ≡ text.now)) }
     ensures none { IfOk result (λ found. IfNone found (¬ (IsTargetText text.now))) }

@@ -9,13 +9,12 @@ use http_cache_semantics::{CacheError, CachePolicy};
 use serde_json::Value;
 use std::alloc::{AllocError, Global};
 
-/// Returns the text of a policy.
 pub(crate) fn text_of(alloc: Global, policy: &CachePolicy) -> Result<String, AllocError>
     ensures { IfOk result (λ text. IsTextOf policy.now (string_bytes text)) }
 {
     match policy.to_value(alloc) {
         Ok(value) => value.to_string(alloc),
-        // A policy is refused its value only when out of memory.
+        // Out of memory is the only error of making the value.
         Err(_) => Err(AllocError),
     }
 }
@@ -24,7 +23,8 @@ pub(crate) fn text_of(alloc: Global, policy: &CachePolicy) -> Result<String, All
 ///
 /// # Errors
 ///
-/// Returns `Malformed` only if the text isn't JSON of the stored form, and `Memory` when out of memory.
+/// `Malformed` only if the text isn't JSON of the stored form, and `Memory` if there is not enough
+/// memory.
 pub(crate) fn policy_of(alloc: Global, text: &str) -> Result<CachePolicy, CacheError>
     ensures reads { IfOk result (λ _. (e : Exchange) × IsReadAs text.now e) }
     ensures value { IfOk result (λ policy. (e : Exchange) → IsReadAs text.now e

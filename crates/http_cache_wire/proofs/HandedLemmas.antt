@@ -1,15 +1,15 @@
--- A frame that hands over an outcome is read as one that does.
+-- A frame that reports an outcome is read as one.
 use Rattle.std.proofs.Common.{◌≡◌, ◌⊎◌, ℕ, List, Option, Some, None, true, codes, is_some, option_and_then, sym, ap, subst, ◌∙◌, inl, inr}
 use Rattle.std.proofs.lemmas.Bool.{false≢true}
 use Rattle.std.proofs.lemmas.Option.{none-some}
 use Rattle.serde_json.specs.Data.{Data}
 use Rattle.serde_json.specs.Find.{get, as_number, as_u64}
 use Rattle.http_cache_frames.specs.Line.{exact, number_under}
-use Rattle.http_cache_wire.specs.Wire.{HandsOver, HandsOverNothing, IsAskedBy}
-use Rattle.http_cache_wire.specs.declared.asked.Asked.{Asked}
-use Rattle.http_cache_wire.specs.declared.asked.Asked.TheVariants.{Ask, Received, Failed, Remove, Sweep, Stats, Quit}
+use Rattle.http_cache_wire.specs.Wire.{HandsOver, HandsOverNothing, IsOperationOf}
+use Rattle.http_cache_wire.specs.declared.operation.Operation.{Operation}
+use Rattle.http_cache_wire.specs.declared.operation.Operation.TheVariants.{Ask, Received, Failed, Remove, Sweep, Stats, Quit}
 
--- what isn't there is no number
+-- an absent member is no number
 absent : (name : List ℕ) (line : Data) (token : ℕ) → get name line ≡ None → number_under name line ≡ Some token → ⊥
 absent name line token none some =
     none-some token
@@ -18,13 +18,13 @@ absent name line token none some =
 not_there : (o : Option Data) → o ≡ None → is_some o ≡ true → ⊥
 not_there o none some = false≢true (subst (λ there. is_some there ≡ true) none some)
 
--- a frame can't both hand over an outcome and none
+-- a frame can't both report an outcome and report none
 nothing : (line : Data) (token : ℕ) → HandsOverNothing line → HandsOver line token → ⊥
 nothing line token (ask, received, failed) (none, inl got) = absent (codes "received") line token received got
 nothing line token (ask, received, failed) (none, inr (other, got)) = absent (codes "failed") line token failed got
 
-pub handed : (line : Data) (asked : Asked) (token : ℕ) → IsAskedBy line (Some asked) → HandsOver line token
-    → (asked ≡ Received (Some token)) ⊎ (asked ≡ Failed (Some token))
+pub handed : (line : Data) (operation : Operation) (token : ℕ) → IsOperationOf line (Some operation) → HandsOver line token
+    → (operation ≡ Received (Some token)) ⊎ (operation ≡ Failed (Some token))
 handed line (Ask id) token is (none, got) = absurd (none-some id (sym none ∙ is))
 handed line (Received given) token (ask, there, is) (none, inl got) = inl (ap (λ t. Received t) (sym is ∙ got))
 handed line (Received given) token (ask, there, is) (none, inr (other, got)) =

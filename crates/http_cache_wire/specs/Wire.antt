@@ -1,4 +1,4 @@
--- What a frame asks for, and what a reply says.
+-- What a frame asks for, and what a reply reports.
 use Rattle.std.specs.Prelude.{◌≡◌, ◌⊎◌, ℕ, Option, Some, None, ⊤, true, codes, is_some}
 use Rattle.serde_json.specs.Data.{Data}
 use Rattle.serde_json.specs.Find.{get}
@@ -7,26 +7,25 @@ use Rattle.http_cache_frames.specs.declared.reply.Notice.{Notice}
 use Rattle.http_cache_frames.specs.declared.reply.Notice.TheVariants as notice
 use Rattle.http_cache_frames.specs.declared.reply.Reply.{Reply}
 use Rattle.http_cache_frames.specs.declared.reply.Reply.TheVariants as reply
-use Rattle.http_cache_wire.specs.declared.message.Place.{Place}
-use Rattle.http_cache_wire.specs.declared.message.Place.TheVariants.{Here, Caller}
-use Rattle.http_cache_wire.specs.declared.asked.Asked.{Asked}
-use Rattle.http_cache_wire.specs.declared.asked.Asked.TheVariants.{Ask, Received, Failed, Remove, Sweep, Stats, Quit}
+use Rattle.http_cache_wire.specs.declared.message.BodyLocation.{BodyLocation}
+use Rattle.http_cache_wire.specs.declared.message.BodyLocation.TheVariants.{Here, Caller}
+use Rattle.http_cache_wire.specs.declared.operation.Operation.{Operation}
+use Rattle.http_cache_wire.specs.declared.operation.Operation.TheVariants.{Ask, Received, Failed, Remove, Sweep, Stats, Quit}
 use Rattle.http_cache_wire.specs.declared.fault.Fault.{Fault}
 use Rattle.http_cache_wire.specs.declared.fault.Fault.TheVariants.{Refused, Lost}
 
--- the frame is refused, and there is a reply that says so
+-- the frame is refused, and a reply reports it
 abbrev pub IsRefused : Fault → Type 0
 IsRefused (Refused reason) = ⊤
 IsRefused Lost = ⊥
 
--- the token that a reply gives
+-- the token that a reply assigns
 abbrev pub given_token : Reply → Option ℕ
 given_token (reply.Notice said) = None
 given_token (reply.Answer id head body) = None
 given_token (reply.Stale id token head body request) = Some token
 given_token (reply.Send id token head body) = Some token
 
--- the id of a notice, if it has one
 abbrev pub notice_id : Notice → Option ℕ
 notice_id notice.Protocol = None
 notice_id (notice.Done id) = Some id
@@ -37,14 +36,13 @@ notice_id (notice.Stats id counts) = Some id
 notice_id (notice.Quit id) = Some id
 notice_id (notice.Error reason id token) = id
 
--- the id of a reply, if it has one
 abbrev pub reply_id : Reply → Option ℕ
 reply_id (reply.Notice said) = notice_id said
 reply_id (reply.Answer id head body) = Some id
 reply_id (reply.Stale id token head body request) = Some id
 reply_id (reply.Send id token head body) = Some id
 
--- an error, and not that there is no response
+-- an error other than "no response"
 abbrev pub IsRefusalNotice : Notice → Type 0
 IsRefusalNotice notice.Protocol = ⊥
 IsRefusalNotice (notice.Done id) = ⊥
@@ -55,50 +53,48 @@ IsRefusalNotice (notice.Stats id counts) = ⊥
 IsRefusalNotice (notice.Quit id) = ⊥
 IsRefusalNotice (notice.Error reason id token) = ⊤
 
--- a reply that refuses a frame
 abbrev pub IsRefusal : Reply → Type 0
 IsRefusal (reply.Notice said) = IsRefusalNotice said
 IsRefusal (reply.Answer id head body) = ⊥
 IsRefusal (reply.Stale id token head body request) = ⊥
 IsRefusal (reply.Send id token head body) = ⊥
 
--- a reply has this id, and refuses nothing
+-- the reply has this id, and refuses nothing
 abbrev pub IsReplyFor : ℕ → Reply → Type 0
 IsReplyFor id r = (reply_id r ≡ Some id) × ¬ (IsRefusal r)
 
--- a frame hands over what became of the request with a token
+-- the frame reports the outcome of the request with this token
 abbrev pub HandsOver : Data → ℕ → Type 0
 HandsOver line token =
     (number_under (codes "ask") line ≡ None)
     × ((number_under (codes "received") line ≡ Some token)
     ⊎ ((get (codes "received") line ≡ None) × (number_under (codes "failed") line ≡ Some token)))
 
--- a frame hands over nothing, and asks for no response
+-- the frame reports no outcome, and has no request
 abbrev pub HandsOverNothing : Data → Type 0
 HandsOverNothing line =
     (number_under (codes "ask") line ≡ None) × (get (codes "received") line ≡ None)
     × (get (codes "failed") line ≡ None)
 
--- a frame says that a body stays with the caller
+-- the frame says that the caller keeps the body
 abbrev pub HasRest : Data → Type 0
 HasRest line = is_some (get (codes "rest") line) ≡ true
 
--- the body of a message is with the caller
-abbrev pub IsWithCaller : Place → Type 0
+abbrev pub IsWithCaller : BodyLocation → Type 0
 IsWithCaller Here = ⊥
 IsWithCaller (Caller length) = ⊤
 
--- what a line asks for, as far as it is about a request: its own member counts first, then a response, then a failure
-abbrev pub IsAskedBy : Data → Option Asked → Type 0
-IsAskedBy line None = HandsOverNothing line
-IsAskedBy line (Some (Ask id)) = number_under (codes "ask") line ≡ Some id
-IsAskedBy line (Some (Received token)) =
+-- what a line asks of a request: a request to answer counts first, then a response, then a failure
+abbrev pub IsOperationOf : Data → Option Operation → Type 0
+IsOperationOf line None = HandsOverNothing line
+IsOperationOf line (Some (Ask id)) = number_under (codes "ask") line ≡ Some id
+IsOperationOf line (Some (Received token)) =
     (number_under (codes "ask") line ≡ None) × (is_some (get (codes "received") line) ≡ true)
     × (number_under (codes "received") line ≡ token)
-IsAskedBy line (Some (Failed token)) =
+IsOperationOf line (Some (Failed token)) =
     (number_under (codes "ask") line ≡ None) × (get (codes "received") line ≡ None)
     × (number_under (codes "failed") line ≡ token)
-IsAskedBy line (Some (Remove id)) = HandsOverNothing line
-IsAskedBy line (Some (Sweep id)) = HandsOverNothing line
-IsAskedBy line (Some (Stats id)) = HandsOverNothing line
-IsAskedBy line (Some (Quit id)) = HandsOverNothing line
+IsOperationOf line (Some (Remove id)) = HandsOverNothing line
+IsOperationOf line (Some (Sweep id)) = HandsOverNothing line
+IsOperationOf line (Some (Stats id)) = HandsOverNothing line
+IsOperationOf line (Some (Quit id)) = HandsOverNothing line

@@ -1,14 +1,14 @@
-//! Why a frame has no other reply than an error, or none.
+//! The reasons why a frame isn't answered as it asks.
 use http_cache_fields::CacheError;
 use http_cache_frames::Reason;
 use http_cache_storage::ShelfError;
 use http_heads::HeadError;
 use std::alloc::AllocError;
 
-/// Why a frame isn't answered as it asks.
+/// The reason why a frame isn't answered as it asks.
 #[derive(Clone, Copy, Debug, PartialEq, Eq)]
 pub enum Fault {
-    /// It is refused, and nothing is changed.
+    /// The frame is refused, and nothing is changed.
     Refused(Reason),
     /// There is no memory for a reply after something was changed.
     Lost,

@@ -1,4 +1,4 @@
-//! Times, bodies and messages from frames.
+//! Reads times, bodies and messages from frames.
 ghost use Rattle.std.specs.Prelude.{IfOk};
 ghost use Rattle.http.specs.Response.{body_of};
 ghost use Rattle.serde_json.specs.View.{view};
@@ -19,48 +19,49 @@ use std::hash::RandomState;
 
 const NANOS_A_MILLISECOND: i128 = 1_000_000;
 
-// Stands for the body of a request that is with the caller. It isn't empty, and is never written.
-const PLACE: &[u8] = b"-";
+// The replacement for the body of a request that the caller has. It isn't empty, and is never
+// written.
+const PLACEHOLDER: &[u8] = b"-";
 
-/// Where the body of a message is.
+/// The location of a message's body.
 #[derive(Clone, Copy, Debug, PartialEq, Eq)]
-pub enum Place {
-    /// In the frame.
+pub enum BodyLocation {
+    /// The frame.
     Here,
-    /// With the caller; of this length, if that is known.
+    /// The caller, with the length of the body if that is known.
     Caller(Option<u64>),
 }
 
-impl Place {
-    /// Returns where the body of a frame's message is.
-    pub fn of(frame: &Frame) -> Result<Place, Fault>
+impl BodyLocation {
+    /// Returns the location of the body of a frame's message.
+    pub fn of(frame: &Frame) -> Result<BodyLocation, Fault>
         ensures rest { HasRest (view frame.now.line) → IfOk result IsWithCaller }
     {
         if !has_member(&frame.line, "rest") {
-            return Ok(Place::Here);
+            return Ok(BodyLocation::Here);
         }
         if frame.body.is_empty() {
             if let Some(length) = number_under(&frame.line, "rest") {
-                return Ok(Place::Caller(Some(length)));
+                return Ok(BodyLocation::Caller(Some(length)));
             }
             if is_true_under(&frame.line, "rest") {
-                return Ok(Place::Caller(None));
+                return Ok(BodyLocation::Caller(None));
             }
         }
         Err(Fault::Refused(Reason::NoRest))
     }
 
-    /// Returns what an intermediary says of a body of this length in the frame, or of the caller's.
+    /// Returns the body's content for an intermediary. `length` is the length of the frame's body.
     pub fn content(self, length: usize) -> Content {
         match self {
-            Place::Here => Content::Known(length as u64),
-            Place::Caller(Some(length)) => Content::Known(length),
-            Place::Caller(None) => Content::Unknown,
+            BodyLocation::Here => Content::Known(length as u64),
+            BodyLocation::Caller(Some(length)) => Content::Known(length),
+            BodyLocation::Caller(None) => Content::Unknown,
         }
     }
 }
 
-/// Returns the time under a name, which is in milliseconds since 1970 and not after 9999.
+/// Returns the time under a name, in milliseconds since 1970 and up to the year 9999.
 pub fn time_under(line: &Value, name: &str) -> Option<Timestamp> {
     let millis = number_under(line, name)?;
     Timestamp::from_nanosecond(i128::from(millis).saturating_mul(NANOS_A_MILLISECOND)).ok()
@@ -71,7 +72,7 @@ pub fn time_of(line: &Value) -> Result<Timestamp, Fault> {
     time_under(line, "at").ok_or(Fault::Refused(Reason::NoTime))
 }
 
-// Whether the target in the first line of a head has a fragment, which a `Uri` drops.
+// Returns whether the target in the first line of a head has a fragment, which a `Uri` drops.
 fn has_fragment(head: &[u8]) -> bool {
     for byte in head {
         match *byte {
@@ -83,19 +84,19 @@ fn has_fragment(head: &[u8]) -> bool {
     false
 }
 
-/// Returns the request of a frame, and whether its target has a fragment. A body that is with the caller
-/// has a byte in its place.
+/// Returns the request of a frame, and whether its target has a fragment. If the caller has the
+/// body, one byte replaces it.
 pub fn request_in(
     alloc: Global,
     keys: RandomState,
     frame: Frame,
-    place: Place,
+    location: BodyLocation,
 ) -> Result<(Request<Bytes>, bool), Fault> {
     let Frame { head, body, .. } = frame;
     let parts = request_from_bytes(alloc, keys, head.as_slice())?;
-    let body = match place {
-        Place::Here => body,
-        Place::Caller(_) => Bytes::from_static(PLACE),
+    let body = match location {
+        BodyLocation::Here => body,
+        BodyLocation::Caller(_) => Bytes::from_static(PLACEHOLDER),
     };
     Ok((
         Request::from_parts(parts, body),
@@ -108,15 +109,15 @@ pub fn response_in(alloc: Global, keys: RandomState, frame: Frame) -> Result<Res
     ensures rest { HasRest (view frame.line)
         → IfOk result (λ response. IsElsewhere (body_of response)) }
 {
-    let place = Place::of(&frame)?;
+    let location = BodyLocation::of(&frame)?;
     let Frame { head, body, .. } = frame;
     let parts = response_from_bytes(alloc, keys, head.as_slice())?;
     if parts.status.is_informational() {
         return Err(Fault::Refused(Reason::NotFinal));
     }
-    let body = match place {
-        Place::Here => Body::Here(body),
-        Place::Caller(length) => Body::Elsewhere(length),
+    let body = match location {
+        BodyLocation::Here => Body::Here(body),
+        BodyLocation::Caller(length) => Body::Elsewhere(length),
     };
     Ok(Response::from_parts(parts, body))
 }

@@ -1,4 +1,4 @@
-//! Replies as they are written.
+//! Writes messages for replies.
 ghost use Rattle.std.specs.Prelude.{◌≡◌, Some, None};
 ghost use Rattle.http_cache_wire.specs.Wire.{IsReplyFor, given_token};
 
@@ -12,7 +12,7 @@ use http_heads::{bytes_of_request, bytes_of_response};
 use jiff::Timestamp;
 use std::alloc::{AllocError, Global};
 
-/// A message as it is written: its head, and its body unless that is with the caller.
+/// A written message: its head, and its body unless the caller has it.
 #[derive(Drop)]
 pub struct Written {
     pub head: Vec<u8>,
@@ -29,7 +29,7 @@ impl Written {
         Reply::Answer { id, head, body }
     }
 
-    /// Returns the reply that hands out a stale response, and asks for its validation.
+    /// Returns the reply that answers with a stale response, and asks for its validation.
     pub fn stale(self, id: u64, token: u64, check: Written) -> Reply
         ensures given { given_token result ≡ Some token }
         ensures reply { IsReplyFor id result }
@@ -44,7 +44,7 @@ impl Written {
         }
     }
 
-    /// Returns the reply that has a request sent.
+    /// Returns the reply that asks the caller to send a request.
     pub fn send(self, id: u64, token: u64) -> Reply
         ensures given { given_token result ≡ Some token }
         ensures reply { IsReplyFor id result }
@@ -59,7 +59,6 @@ impl Written {
     }
 }
 
-// The body of a response as it is written, and its length.
 fn content_of(body: Body) -> (Option<Bytes>, Content) {
     match body {
         Body::Here(bytes) => {
@@ -71,7 +70,7 @@ fn content_of(body: Body) -> (Option<Bytes>, Content) {
     }
 }
 
-/// Returns a response to a request of a method as it is written, by an intermediary if there is one.
+/// Writes a response to a request with the method, as the intermediary sends it if there is one.
 pub fn written_response(
     alloc: Global,
     intermediary: Option<&Intermediary>,
@@ -90,7 +89,7 @@ pub fn written_response(
     Ok(Written { head, body })
 }
 
-/// Returns a response of the intermediary's own as it is written.
+/// Writes a response of the intermediary's own.
 pub fn written_own(
     alloc: Global,
     intermediary: &Intermediary,
@@ -107,7 +106,7 @@ pub fn written_own(
     })
 }
 
-/// Returns a request as it is written. Without a body, the caller has it.
+/// Writes a request. Without a body, the caller has it.
 pub fn written_request(
     alloc: Global,
     parts: &request::Parts,
@@ -119,12 +118,12 @@ pub fn written_request(
     })
 }
 
-/// Returns a validation as it is written.
+/// Writes a validation request.
 pub fn written_check(alloc: Global, parts: request::Parts) -> Result<Written, AllocError> {
     written_request(alloc, &parts, Some(Bytes::new()))
 }
 
-/// Returns the client's own request as it is written, and the request.
+/// Writes the client's own request, and returns the request too.
 pub fn written_own_request(
     alloc: Global,
     request: Request<Bytes>,

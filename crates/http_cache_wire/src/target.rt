@@ -1,4 +1,4 @@
-//! The targets for which a purge removes what is stored.
+//! The targets of which a purge removes the stored responses.
 use crate::fault::Fault;
 use http::header::{HOST, HeaderValueError};
 use http::{HeaderMap, HeaderValue, Uri};
@@ -7,8 +7,8 @@ use http_cache_storage::Target;
 use http_uri::UriError;
 use std::alloc::Global;
 
-/// Returns the targets of requests for a URI: of one that names all of it, and of one that names its path,
-/// and its host in Host.
+/// Returns the targets of requests for a URI. One has the whole URI as its request target, the
+/// other only the path, with the host in Host.
 pub fn targets_of(alloc: Global, text: &str) -> Result<[Target; 2], Fault> {
     let uri = uri_from(alloc, text)?;
     let (Some(authority), Some(path)) = (uri.authority(), uri.path_and_query()) else {

@@ -1,4 +1,4 @@
--- Why the parts of a message can't be made of the spans of its head.
+-- Why a message can't be made of the spans of its head.
 use Rattle.std.proofs.Common.{◌≡◌, ℕ, ◌<◌, ◌⊎◌, inl, inr, List, [], map, take, length, get_or, sym, ap, ◌∙◌, subst, arith}
 use Rattle.std.specs.Prelude.{All, Any}
 use Rattle.std.proofs.lemmas.Bool.{cases_lt}
@@ -23,12 +23,12 @@ use Rattle.http_heads.specs.Failure.{head_error}
 use Rattle.http_heads.specs.Heads.{entry_of, HasLongName, Overfill}
 use Rattle.http_heads.proofs.HeadLemmas.{appended}
 
--- the parser's tokens are those of the header library
+-- the parser and the header library have the same tokens
 is_token : (name : List ℕ) → IsName name → IsToken name
 unfolding is_token_byte is_name_byte
 is_token name token = (token.0, token.1)
 
--- what is wrong with a field of the spans is wrong with a field of the head
+-- a fault of a span is a fault of the head's field
 fault : (P : List ℕ × List ℕ → Type 0) (head : List ℕ) (spans : List HeaderSpan) (fields : List Field)
     → map (header_bytes head) spans ≡ map name_and_value fields
     → Any (λ s. P (header_bytes head s)) spans → Any (λ f. P (name_and_value f)) fields
@@ -44,7 +44,6 @@ fault P head spans fields are (i, s, inside, here, wrong) =
     ∙ get_or-map name_and_value fields i none (header_bytes head s) within in
     (i, get_or fields i none, within, get_or_default fields i (get_or fields i none) none within, subst P found wrong)
 
--- a token that is no field name is too long
 long_name : (fields : List Field) → All IsField fields → Any (λ f. ¬ (IsFieldName f.name)) fields → Any HasLongName fields
 long_name fields all (i, f, inside, here, wrong) =
     let field : IsField f = subst IsField here (all i f inside) in
@@ -53,13 +52,11 @@ long_name fields all (i, f, inside, here, wrong) =
       | inr short ↦ absurd (wrong (is_token f.name field.name, short))
     ]
 
--- the values of a head are field values
 no_bad_value : (fields : List Field) → All IsField fields → Any (λ f. ¬ (IsFieldValue (name_and_value f).1)) fields → ⊥
 no_bad_value fields all (i, f, inside, here, wrong) =
     let field : IsField f = subst IsField here (all i f inside) in
     wrong (AllPass-trim_ows is_value_byte f.raw field.raw)
 
--- a map that is full after the first spans is full after the first fields
 overfill : (head : List ℕ) (spans : List HeaderSpan) (fields : List Field)
     → map (header_bytes head) spans ≡ map name_and_value fields
     → (count : ℕ) × (name : List ℕ) × RefusesAppend (map_at head (take count spans)) name → Overfill fields

@@ -1,4 +1,4 @@
--- The parts that are read of spans are those of the head under them.
+-- The parts that are read of spans are the head's.
 use Rattle.std.proofs.Common.{◌≡◌, ℕ, List, [], ◌∷◌, map, take, drop, length, refl, ap, ◌∙◌, subst}
 use Rattle.std.proofs.Math.Seq.{drop-length}
 use Rattle.http.specs.declared.request.Parts as Request
@@ -15,20 +15,17 @@ use Rattle.http1_typed.specs.Parts.{entry_at, map_at, IsRequestParts, IsResponse
 use Rattle.std.specs.Prelude.{fold}
 use Rattle.http_heads.specs.Heads.{entry_of, headers_in, IsRequest, IsResponse}
 
--- the fields under spans, appended to a map
 pub appended : (head : List ℕ) (m : Entries FieldValue) (spans : List HeaderSpan)
     → fold (λ n h. append n (entry_at head h).0 (entry_at head h).1) m spans
     ≡ append_all m (map entry_of (map (header_bytes head) spans))
 appended head m [] = refl
 appended head m (s ∷ spans) = appended head (append m (entry_at head s).0 (entry_at head s).1) spans
 
--- the headers under spans are those of the fields
 headers_are : (head : List ℕ) (spans : List HeaderSpan) (count : ℕ) (fields : List Field)
     → AreFieldsAt head spans count fields → map_at head (take count spans) ≡ headers_in fields
 headers_are head spans count fields are =
     appended head [] (take count spans) ∙ ap (λ l. append_all [] (map entry_of l)) are
 
--- nothing is left
 pub nothing_left : (bytes : List ℕ) (n : ℕ) → n ≡ length bytes → drop n bytes ≡ []
 nothing_left bytes n e = ap (λ k. drop k bytes) e ∙ drop-length bytes
 

@@ -1,4 +1,3 @@
--- The lemmas about reading heads.
 mod HeadLemmas
 mod CountLemmas
 mod FailureLemmas

@@ -8,13 +8,13 @@ use thiserror::Error;
 /// Why a head can't be read or written.
 #[derive(Clone, Copy, Debug, PartialEq, Eq, Error)]
 pub enum HeadError {
-    /// Out of memory.
+    /// The allocator is out of memory.
     #[error("out of memory")]
     Memory,
-    /// The bytes aren't the head of a message, or are more than it.
+    /// The bytes aren't the head of a message, or more bytes follow it.
     #[error("not the head of a message")]
     Malformed,
-    /// The head has more names or values than a header map holds.
+    /// The head has more names or values than a header map can hold.
     #[error("header map full")]
     HeaderMapFull,
 }

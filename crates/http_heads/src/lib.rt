@@ -1,5 +1,4 @@
 //! The head of an HTTP/1.1 message, from its bytes and to them (RFC 9112, sections 2 to 5).
-//!
 //! It relies on the kit's `httparse` and `http1_typed`, and knows nothing of caching.
 #![tactic(auto)]
 

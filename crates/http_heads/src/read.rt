@@ -1,6 +1,4 @@
-//! Heads from bytes.
-//!
-//! The kit's parser finds the parts of a head, and the parts of a message are made of its spans.
+//! Reads heads from bytes. The kit's parser finds the spans of a head, of which a message is made.
 ghost use Rattle.std.specs.Prelude.{◌≡◌, ◌==◌, ℕ, IfOk, IsErrOf, length, count_by};
 ghost use Rattle.httparse.specs.Spans.{IsRequestWithin, IsRequestOf, IsResponseWithin, IsResponseOf};
 ghost use Rattle.http_heads.specs.Failure.{head_error};
@@ -17,7 +15,7 @@ use httparse::spans::{
 use std::alloc::{AllocError, Global};
 use std::hash::RandomState;
 
-// Room for a field in each line.
+// Each field has a line.
 fn room(alloc: Global, bytes: &[u8]) -> Result<Vec<HeaderSpan>, AllocError>
     ensures { IfOk result (λ fields. length fields.items ≡ count_by (λ b. b == 10) bytes.now) }
 {
@@ -77,10 +75,9 @@ fn parts_of_response(
     }
 }
 
-/// Returns the parts of the request whose head the bytes are, with nothing after it (RFC 9112,
-/// section 3).
+/// Returns the parts of a request whose head is exactly the bytes (RFC 9112, section 3).
 ///
-/// Another party chose the names, so the header map takes secret keys against collisions.
+/// Another party chose the names, so the header map has secret keys against collisions.
 ///
 /// # Errors
 ///
@@ -107,8 +104,7 @@ pub fn request_from_bytes(
     }
 }
 
-/// Returns the parts of the response whose head the bytes are, with nothing after it (RFC 9112,
-/// section 4).
+/// Returns the parts of a response whose head is exactly the bytes (RFC 9112, section 4).
 ///
 /// # Errors
 ///

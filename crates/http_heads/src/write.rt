@@ -1,6 +1,5 @@
-//! Bytes of heads.
-//!
-//! A name is written in lower case, as a header map holds it, and a status without its phrase.
+//! Writes heads. Names are in lower case, as a header map holds them, and a status has no reason
+//! phrase.
 ghost use Rattle.std.specs.Prelude.{◌≡◌, ◌++◌, IfOk, OnOk};
 ghost use Rattle.http_heads.specs.Texts.{lines_of, line_of, request_text, response_text};
 
@@ -8,7 +7,7 @@ use http::{HeaderMap, HeaderName, HeaderValue, request, response};
 use itoa::Buffer;
 use std::alloc::{AllocError, Global};
 
-// What most heads have room in.
+// Most heads fit.
 const USUAL_LENGTH: usize = 1024;
 
 fn push_line(out: &mut Vec<u8>, name: &HeaderName, value: &HeaderValue) -> Result<(), AllocError>

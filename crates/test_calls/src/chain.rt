@@ -9,19 +9,19 @@ use std::fmt::Write;
 use std::test::Fail;
 use test_cases::fixtures::{after, field, request, response};
 
-// A chain of caches for an exchange.
+// Makes a chain of caches for an exchange.
 #[derive(Clone, Copy)]
 struct OfChain;
 
-// A chain of caches for a request.
+// Makes a chain of caches for a request.
 #[derive(Clone, Copy)]
 struct ChainFor<'a>(&'a request::Parts);
 
-// What a policy is at a time.
+// Describes a policy at a time.
 #[derive(Clone, Copy)]
 struct At(Timestamp);
 
-// The times of a field, with blanks between them.
+// Reads the times of a field, with blanks between them.
 fn times(alloc: Global, text: &str) -> Result<Vec<Timestamp>, Fail> {
     let mut times = Vec::new(alloc);
     for nanos in text.split(' ') {
@@ -32,8 +32,8 @@ fn times(alloc: Global, text: &str) -> Result<Vec<Timestamp>, Fail> {
     Ok(times)
 }
 
-/// The policies of a chain at a time, or why it is refused. The fields are the headers of the request and of
-/// the response, the times at which it is handed on, and the time at which the policies are asked.
+/// Returns the policies of a chain at a time, or why it is refused. The fields are the headers of
+/// the request and of the response, the times of the hand-overs, and the time for the policies.
 pub fn chained(alloc: Global, case: &str) -> Result<String, Fail> {
     make_with(alloc, request(alloc, "GET", field(case, 1)?), OfChain, case)
 }
@@ -76,7 +76,7 @@ impl Make<At> for Vec<CachePolicy> {
     }
 }
 
-// Whether a policy may be stored, its age and what is left of its lifetime in nanoseconds, and its stored form.
+// Returns whether a policy may be stored, its age, its remaining lifetime and its stored form.
 impl Make<At> for CachePolicy {
     type Made = String;
 
@@ -89,7 +89,7 @@ impl Make<At> for CachePolicy {
     }
 }
 
-/// The same of the policy that a stored form is of, when its response was received, or why it isn't read.
+/// Describes the policy in a stored form when its response was received, or why there is none.
 pub fn read_back(alloc: Global, text: &str) -> Result<String, Fail> {
     let Ok(value) = serde_json::Value::from_slice(alloc, text.as_bytes()) else {
         return Ok(String::from_str(alloc, "no JSON")?);

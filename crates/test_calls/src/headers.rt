@@ -1,4 +1,4 @@
-//! Calls on headers, and how headers and directives are written.
+//! Calls on headers, and the text of headers and directives.
 use crate::make::{Make, make_with};
 use http::HeaderMap;
 use http_cache_semantics::CacheError;
@@ -13,7 +13,7 @@ use test_cases::fixtures::{field, headers};
 #[derive(Clone, Copy)]
 pub struct OfHeaders;
 
-/// Lines of headers in their order, with `?` for a value that isn't text.
+/// Returns the lines of headers in their order, with `?` for a value that isn't text.
 pub fn lines(alloc: Global, headers: &HeaderMap) -> Result<String, Fail> {
     let mut text = String::new(alloc);
     for (name, value) in headers.iter() {
@@ -27,7 +27,7 @@ pub fn lines(alloc: Global, headers: &HeaderMap) -> Result<String, Fail> {
     Ok(text)
 }
 
-// The lines of headers, or why there are none.
+// Returns the lines of headers, or why there are none.
 fn lines_or_error(alloc: Global, headers: Result<HeaderMap, CacheError>) -> Result<String, Fail> {
     match headers {
         Ok(headers) => lines(alloc, &headers),
@@ -35,7 +35,7 @@ fn lines_or_error(alloc: Global, headers: Result<HeaderMap, CacheError>) -> Resu
     }
 }
 
-// Directives in their order, each with its value if it has one, or `empty`.
+// Returns directives in their order, each with its value if it has one, or `empty`.
 fn directives(alloc: Global, read: &CacheControl) -> Result<String, Fail> {
     if read.is_empty() {
         return Ok(String::from_str(alloc, "empty")?);
@@ -57,7 +57,7 @@ fn listed(alloc: Global, read: Result<CacheControl, CacheError>) -> Result<Strin
     }
 }
 
-/// The directives as one line.
+/// Returns the directives as one line.
 pub fn formatted(alloc: Global, read: Result<CacheControl, CacheError>) -> Result<String, Fail> {
     match read {
         Ok(read) => Ok(format_cache_control(alloc, &read)?),
@@ -65,7 +65,7 @@ pub fn formatted(alloc: Global, read: Result<CacheControl, CacheError>) -> Resul
     }
 }
 
-// The second of a date, or none.
+// Returns the second of a date, or none.
 fn second(alloc: Global, headers: &HeaderMap) -> Result<String, Fail> {
     let value = headers.get("date").ok_or("no date")?;
     match read_date(alloc, value)? {
@@ -94,7 +94,7 @@ impl Make<OfHeaders> for HeaderMap {
     }
 }
 
-// The stored headers after a 304 with these.
+// Returns the stored headers after a 304 with these.
 impl Make<&HeaderMap> for HeaderMap {
     type Made = String;
 

@@ -1,7 +1,6 @@
-//! Makes calls on policies and headers, one for each line of input, and writes what each returned. It is for
-//! the worked cases of `tests/cases/calls`.
+//! Makes the call in each line of input, and writes its result, for `tests/cases/calls`.
 //!
-//! A line has fields with `|` between them, the first of which names a call:
+//! A line has fields with `|` between them. The first field names a call:
 //!
 //! | fields of a line | call |
 //! |---|---|
@@ -11,10 +10,10 @@
 //! | as `member` reads them | `member` |
 //! | as `chained` reads them | `chain` |
 //! | a stored form | `from_value` |
-//! | an exchange, and what a policy of it is asked | all others |
+//! | an exchange, and arguments for its policy | all others |
 //!
-//! An exchange has the method and the headers of its request, the status and the headers of its response, and a
-//! word for the options. Then come a method or a status, headers, nanoseconds and a target.
+//! An exchange has the method and headers of a request, the status and headers of its response, and
+//! options. Then follow a method or a status, headers, nanoseconds and a target.
 #![tactic(auto)]
 
 mod chain;
@@ -33,7 +32,7 @@ use std::alloc::Global;
 use std::test::Fail;
 use test_cases::fixtures::{after, field, headers};
 
-// The date of so many nanoseconds after the start, or none.
+// Returns the date so many nanoseconds after the start, or none.
 fn dated(alloc: Global, nanos: &str) -> Result<String, Fail> {
     match http_date(after(nanos.parse::<i64>()?)?) {
         Some(date) => Ok(String::from_utf8(Vec::from_slice(alloc, &date)?)?),
@@ -41,7 +40,7 @@ fn dated(alloc: Global, nanos: &str) -> Result<String, Fail> {
     }
 }
 
-// What the call returns that the first field names.
+// Makes the call that the first field names.
 fn answer_to(alloc: Global, case: &str) -> Result<String, Fail> {
     let first = field(case, 1)?;
     match field(case, 0)? {

@@ -1,18 +1,18 @@
-//! What is done with a message, headers or a policy once it is made.
+//! Makes a message, headers or a policy, and passes it to a call.
 use std::alloc::Global;
 use std::test::Fail;
 
-/// A value with which something is made, by what `By` says.
+/// A value from which something is made, as `By` selects.
 pub trait Make<By> {
-    /// What is made.
+    /// The result.
     type Made;
 
-    /// Makes it.
+    /// Makes the result.
     fn make(&self, alloc: Global, by: By, case: &str) -> Result<Self::Made, Fail>;
 }
 
-/// Makes something with a value, if there is one. This alone owns values of types with much in them, whatever
-/// the type, which keeps the proofs of its callers short.
+/// Makes something from a value, if there is one. Only this function owns values of large types,
+/// which keeps the proofs of its callers short.
 pub fn make_with<By: Copy, T: Make<By> + Drop>(
     alloc: Global,
     value: Result<T, Fail>,

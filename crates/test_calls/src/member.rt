@@ -5,7 +5,7 @@ use std::alloc::Global;
 use std::test::Fail;
 use test_cases::fixtures::field;
 
-// What a word of a case names: a hit, what the cache made itself, or why a request is forwarded.
+// Returns the outcome that a word names: a hit, an own response, or a reason to forward.
 fn outcome(word: &str) -> Option<CacheOutcome> {
     let why = match word {
         "hit" => return Some(CacheOutcome::Hit),
@@ -29,7 +29,7 @@ fn status(text: &str) -> Result<Option<StatusCode>, Fail> {
     Ok(Some(StatusCode::from_bytes(text.as_bytes())?))
 }
 
-// Seconds that are left, or past behind a `-`.
+// Returns the seconds that are left, or the seconds past after a `-`.
 fn left(text: &str) -> Result<Option<TimeLeft>, Fail> {
     if text.is_empty() {
         return Ok(None);
@@ -40,8 +40,8 @@ fn left(text: &str) -> Result<Option<TimeLeft>, Fail> {
     }
 }
 
-/// The text of a member: the name of the cache, what it did, the status of the origin's response,
-/// `stored` if that was stored, what is left of the lifetime, and a detail.
+/// Returns the text of a member: the name of the cache, what it did, the status of the origin's
+/// response, `stored` if it was stored, the remaining lifetime, and a detail.
 pub fn member(alloc: Global, case: &str) -> Result<String, Fail> {
     let detail = field(case, 6)?;
     let member = Member {

@@ -13,11 +13,11 @@ use test_cases::fixtures::{after, field, headers, request, response};
 #[derive(Clone, Copy)]
 pub struct OfPolicy;
 
-/// The policy of an exchange.
+/// Makes the policy of an exchange.
 #[derive(Clone, Copy)]
 pub struct OfExchange;
 
-// The options that a word names: `own` is a private cache, `cargo` ignores cargo cult.
+// Returns the options of a word: `own` is a private cache, `cargo` ignores cargo-cult directives.
 fn options(word: &str) -> CacheOptions {
     CacheOptions {
         shared: word != "own",
@@ -26,12 +26,12 @@ fn options(word: &str) -> CacheOptions {
     }
 }
 
-// The time of the call, so many nanoseconds after the response was received.
+// Returns the time of the call, so many nanoseconds after the response was received.
 fn now(case: &str) -> Result<Timestamp, Fail> {
     after(field(case, 8)?.parse::<i64>()?)
 }
 
-/// The policy of the exchange of a case.
+/// Returns the policy of the exchange of a case.
 pub fn policy(alloc: Global, case: &str) -> Result<CachePolicy, Fail> {
     let request = request(alloc, field(case, 1)?, field(case, 2)?);
     make_with(alloc, request, OfExchange, case)
@@ -60,7 +60,6 @@ impl Make<&request::Parts> for response::Parts {
     }
 }
 
-// The request of a case for a target.
 fn asking(alloc: Global, case: &str) -> Result<request::Parts, Fail> {
     Ok(request::Parts {
         method: Method::from_bytes(alloc, field(case, 6)?.as_bytes())?,
@@ -110,7 +109,7 @@ impl Make<OfPolicy> for CachePolicy {
     }
 }
 
-// Whether this response confirms the stored one.
+// Returns whether this response confirms the stored one.
 impl Make<&CachePolicy> for response::Parts {
     type Made = String;
 
@@ -119,7 +118,7 @@ impl Make<&CachePolicy> for response::Parts {
     }
 }
 
-// What the policy says of this request.
+// Returns what the policy says of this request.
 impl Make<&CachePolicy> for request::Parts {
     type Made = String;
 
@@ -157,7 +156,7 @@ fn among_these(
     make_with(alloc, asking(alloc, case), &*variants, case)
 }
 
-/// The member of Cache-Status by several policies, of which there is one.
+/// Returns the member of Cache-Status by a choice among one policy.
 pub fn among(alloc: Global, policy: Result<CachePolicy, Fail>, case: &str) -> Result<String, Fail> {
     let mut variants = Variants::new(alloc);
     among_these(alloc, &mut variants, policy, case)

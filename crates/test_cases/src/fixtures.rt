@@ -1,7 +1,8 @@
-//! Requests, responses, policies and moments of cases.
+//! Makes the requests, responses, policies and times of cases. Headers are written `Name: value`,
+//! with `~` between them.
 //!
-//! Headers are written `Name: value`, with `~` between them. Each function makes at most one policy
-//! or message and hands it on, since the prover looks at every place where one is let go.
+//! Each function makes at most one policy or message and returns it, since the prover examines each
+//! point where one is dropped.
 use http::header::{HeaderName, HeaderValue};
 use http::{HeaderMap, Method, StatusCode, Uri, Version, request, response};
 use http_cache_semantics::CachePolicy;
@@ -10,15 +11,15 @@ use std::alloc::Global;
 use std::fmt::Write;
 use std::test::Fail;
 
-/// 2024-01-01T00:00:00Z, the moment from which the cases count.
+/// 2024-01-01T00:00:00Z, from which the times of cases count.
 pub const START: i64 = 1704067200;
 
-/// A field of a case, trimmed.
-pub fn field(case: &str, place: usize) -> Result<&str, Fail> {
-    Ok(case.split('|').nth(place).ok_or("no such field")?.trim())
+/// Returns a field of a case, trimmed.
+pub fn field(case: &str, index: usize) -> Result<&str, Fail> {
+    Ok(case.split('|').nth(index).ok_or("no such field")?.trim())
 }
 
-// A byte for each character, of which none is above 255.
+// No character is above 255.
 fn bytes(alloc: Global, text: &str) -> Result<Vec<u8>, Fail> {
     let mut bytes = Vec::new(alloc);
     for character in text.chars() {
@@ -27,7 +28,7 @@ fn bytes(alloc: Global, text: &str) -> Result<Vec<u8>, Fail> {
     Ok(bytes)
 }
 
-/// A map of the headers of a field, appended in order, with a byte for each character of a value.
+/// Returns the headers of a field, added in order, with a byte for each character of a value.
 pub fn headers(alloc: Global, text: &str) -> Result<HeaderMap, Fail> {
     let mut map = HeaderMap::new(alloc);
     for line in text.split('~') {
@@ -40,7 +41,7 @@ pub fn headers(alloc: Global, text: &str) -> Result<HeaderMap, Fail> {
     Ok(map)
 }
 
-/// A request for `/a`.
+/// Returns a request for `/a`.
 pub fn request(alloc: Global, method: &str, lines: &str) -> Result<request::Parts, Fail> {
     Ok(request::Parts {
         method: Method::from_bytes(alloc, method.as_bytes())?,
@@ -50,7 +51,7 @@ pub fn request(alloc: Global, method: &str, lines: &str) -> Result<request::Part
     })
 }
 
-/// A response.
+/// Returns a response.
 pub fn response(alloc: Global, status: &str, lines: &str) -> Result<response::Parts, Fail> {
     Ok(response::Parts {
         status: StatusCode::from_bytes(status.as_bytes())?,
@@ -59,27 +60,26 @@ pub fn response(alloc: Global, status: &str, lines: &str) -> Result<response::Pa
     })
 }
 
-/// The moment so many nanoseconds after the start.
+/// Returns the time so many nanoseconds after the start.
 pub fn after(nanos: i64) -> Result<Timestamp, Fail> {
     let start = START as i128 * 1_000_000_000;
     Ok(Timestamp::from_nanosecond(start + nanos as i128)?)
 }
 
-// The policy of a shared cache for a request, answered at the start.
 fn policy_of(alloc: Global, request: &request::Parts, lines: &str) -> Result<CachePolicy, Fail> {
     let received = after(0)?;
     let response = response(alloc, "200", lines)?;
     Ok(CachePolicy::new(alloc, request, &response, received)?)
 }
 
-/// The policy of a shared cache for a GET of `/a` without headers, answered by a status 200 with
-/// these headers at the start.
+/// Returns the policy of a shared cache for a GET of `/a` without headers, and a 200 with these
+/// headers at the start.
 pub fn policy(alloc: Global, lines: &str) -> Result<CachePolicy, Fail> {
     let request = request(alloc, "GET", "")?;
     policy_of(alloc, &request, lines)
 }
 
-/// Headers, and so many further ones.
+/// Returns the headers, and so many more.
 pub fn with_further(alloc: Global, lines: &str, count: u32) -> Result<String, Fail> {
     let mut text = String::from_str(alloc, lines)?;
     for i in 0..count {
@@ -88,8 +88,9 @@ pub fn with_further(alloc: Global, lines: &str, count: u32) -> Result<String, Fa
     Ok(text)
 }
 
-/// Returns what is asked of a value, if it was made. Only this owns values of types with much in them,
-/// whatever the type, which keeps the proofs of its callers short.
+/// Returns the result of a function for a value, if that was made.
+///
+/// Only this function owns values of large types, which keeps the proofs of its callers short.
 pub fn with<T: Drop, R: Drop, F: FnOnce(&T) -> Result<R, Fail>>(
     made: Result<T, Fail>,
     ask: F,
@@ -102,7 +103,8 @@ pub fn with<T: Drop, R: Drop, F: FnOnce(&T) -> Result<R, Fail>>(
     }
 }
 
-/// Returns what is asked of a value that may be changed, if it was made, and owns it as `with` does.
+/// Returns the result of a function that may change a value, if that was made, and owns it as
+/// `with` does.
 pub fn with_mut<T: Drop, R: Drop, F: FnOnce(&mut T) -> Result<R, Fail>>(
     made: Result<T, Fail>,
     ask: F,

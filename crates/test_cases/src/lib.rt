@@ -1,4 +1,4 @@
-//! What tests share: messages and policies of the text of a case. Nothing here is for use.
+//! Messages and policies from the texts of cases, for tests. Nothing here is for use.
 #![tactic(auto)]
 
 pub mod fixtures;

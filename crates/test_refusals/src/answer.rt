@@ -1,6 +1,7 @@
-//! Compares what a call returns with what it has to be. Nothing here takes memory.
+//! Compares what a call returns with what it should return. Nothing here allocates.
 //!
-//! `judged` alone owns what a call returns, whatever its type, which keeps the proofs of its callers short.
+//! Only `judged` owns what a call returns, whatever its type, which keeps the proofs of its callers
+//! short.
 use http::{HeaderMap, request, response};
 use http_cache_semantics::chain::Outcome;
 use http_cache_semantics::directives::CacheControl;
@@ -8,34 +9,35 @@ use http_cache_semantics::{AfterResponse, BeforeRequest, CachePolicy, Choice, Ne
 use jiff::Timestamp;
 use std::time::Duration;
 
-/// What a call may return.
+/// A result of a call.
 pub trait Answer {
-    /// What says how it has to be.
+    /// The description of the right result.
     type Wanted: Copy;
 
-    /// Whether it is as it has to be.
+    /// Returns whether the result is right.
     fn is(&self, wanted: Self::Wanted) -> bool;
 }
 
-/// Returns whether a call returned what it has to.
+/// Returns whether a call returned the right result, or its error.
 pub fn judged<T: Answer + Drop, E>(answer: Result<T, E>, wanted: T::Wanted) -> Result<bool, E> {
     Ok(answer?.is(wanted))
 }
 
-/// What a policy has to say so many nanoseconds after its response was received.
+/// The right values of a policy, so many nanoseconds after its response was received.
 #[derive(Clone, Copy)]
 pub struct Ages {
     /// The nanoseconds.
     pub nanos: u64,
     /// Whether the response may be stored.
     pub is_storable: bool,
-    /// Its age in nanoseconds.
+    /// The age in nanoseconds.
     pub age: u64,
-    /// What is left of its lifetime in nanoseconds.
+    /// The remaining lifetime in nanoseconds.
     pub left: u64,
 }
 
-/// The time so many nanoseconds after 2024-01-01T00:00:00Z, at which the responses were received.
+/// Returns the time so many nanoseconds after 2024-01-01T00:00:00Z, when the responses were
+/// received.
 pub fn after(nanos: u64) -> Timestamp {
     let nanos = 1_704_067_200_000_000_000i128.saturating_add(i128::from(nanos));
     Timestamp::from_nanosecond(nanos).unwrap_or(Timestamp::UNIX_EPOCH)
@@ -64,7 +66,6 @@ impl Answer for Vec<CachePolicy> {
     }
 }
 
-// The policy after a 304.
 impl Answer for NextPolicy {
     type Wanted = Ages;
 
@@ -118,7 +119,7 @@ fn has_line(headers: &HeaderMap, line: &str) -> bool {
     }
 }
 
-// The lines of a text, and no others.
+// It has no other lines.
 fn has_lines(headers: &HeaderMap, lines: &str) -> bool {
     headers.len() == lines.lines().count() && lines.lines().all(|line| has_line(headers, line))
 }
@@ -131,12 +132,11 @@ impl Answer for HeaderMap {
     }
 }
 
-// The first line of a text, and those after it.
 fn first_line(text: &str) -> (&str, &str) {
     text.split_once('\n').unwrap_or((text, ""))
 }
 
-// Whether a text begins with a word and the status of a response, and then has the lines of its headers.
+// The text begins with a word and the status, and then has the lines of the headers.
 fn is_response(parts: &response::Parts, word: &str, wanted: &str) -> bool {
     let (first, lines) = first_line(wanted);
     match first.rsplit_once(' ') {
@@ -147,7 +147,8 @@ fn is_response(parts: &response::Parts, word: &str, wanted: &str) -> bool {
     }
 }
 
-// Whether a text begins with a word, and then has the lines of the headers of a request, a GET for `/a`.
+// The text begins with a word, and then has the lines of the headers. The request is a GET for
+// `/a`.
 fn is_request(parts: &request::Parts, word: &str, wanted: &str) -> bool {
     let (first, lines) = first_line(wanted);
     first == word
@@ -196,7 +197,7 @@ impl Answer for AfterResponse {
     }
 }
 
-// A position, and the request's report.
+// An index, and the lines of the answer.
 impl Answer for Choice {
     type Wanted = (usize, &'static str);
 

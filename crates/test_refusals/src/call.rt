@@ -1,7 +1,7 @@
 //! The calls, and the exchange on which each is made.
 use crate::exchange::{EXAMPLE, Exchange, MAIN, PRIVATE, VARIANTS, VARIED};
 
-/// How many calls may take memory. They come first.
+/// The number of calls that may allocate. They come first.
 const TAKING_MEMORY: usize = 30;
 
 /// A call.
@@ -13,25 +13,25 @@ pub enum Call {
     StoredDirectives,
     Parse,
     Format,
-    /// `before_request`, with an answer that is fresh.
+    /// `before_request` with a fresh answer.
     Fresh,
-    /// `before_request`, where the stored response is to be validated.
+    /// `before_request` if the stored response has to be validated.
     Validated,
-    /// `before_request`, where the request doesn't match.
+    /// `before_request` if the request doesn't match.
     Unmatched,
-    /// The same for a HEAD, whose request validates.
+    /// `before_request` for a HEAD that doesn't match, whose request validates.
     UnmatchedHead,
-    /// `before_request`, where the response may not be stored.
+    /// `before_request` if the response may not be stored.
     Unstorable,
     NotModified,
     Modified,
-    /// `next_policy`, with a 304.
+    /// `next_policy` with a 304.
     NextPolicy,
     /// `response_at`.
     ResponseAt,
     ToValue,
     FromValue,
-    /// Three caches behind the first one.
+    /// Three caches after the first one.
     Chain,
     /// Steps of each kind.
     Replay,
@@ -39,23 +39,23 @@ pub enum Call {
     ReplayExample,
     /// `add` of a copy to variants.
     Add,
-    /// `choose`, with a choice that is fresh.
+    /// `choose` with a fresh choice.
     ChooseFresh,
-    /// `choose`, with one that is to be validated.
+    /// `choose` with a choice that has to be validated.
     ChooseValidated,
-    /// The headers of the response, as a proxy passes them on.
+    /// The headers of the response, as a proxy forwards them.
     Forward,
     /// One line for each name of the response.
     Join,
     /// The headers of the response after a 304.
     Update,
-    /// `append`, to headers that hold nothing.
+    /// `append` to empty headers.
     Append,
     /// `cache_status`, with a name and a detail that are strings.
     CacheStatus,
     /// `detail` of an explanation.
     Detail,
-    /// `text` of a member that says all that a cache learns.
+    /// `text` of a member with everything that a cache can learn.
     Member,
     IsStorable,
     Age,
@@ -70,25 +70,25 @@ pub enum Call {
     StoredRequestHeaders,
     StoredOptions,
     StoredResponseTime,
-    /// Of a request that matches, and of one that doesn't.
+    /// For a request that matches, and for one that doesn't.
     MatchesRequest,
-    /// The same.
+    /// For a request that matches, and for one that doesn't.
     FreshAt,
-    /// The same.
+    /// For a request that matches, and for one that doesn't.
     Explain,
     /// `outcome` of both explanations.
     Outcome,
-    /// `time_left` of the first.
+    /// `time_left` of the first explanation.
     TimeLeft,
-    /// Of a request that is to be validated, where no use of a stale response is allowed.
+    /// For a request that has to be validated, if no stale use is allowed.
     StaleUse,
-    /// Of a response that doesn't say so.
+    /// For a response that allows it.
     ForbidsStale,
-    /// Of a request whose If-None-Match has another tag.
+    /// For a request whose If-None-Match has another tag.
     IsNotModifiedFor,
     SatisfiesWithoutRevalidation,
     GetStr,
-    /// With each step to the end.
+    /// Each step to the end.
     GetAllComma,
     Len,
     ContainsKey,
@@ -100,7 +100,7 @@ pub enum Call {
     MomentFromValue,
     IsSameUri,
     Method,
-    /// Of a request and of a response.
+    /// For a request and for a response.
     Headers,
     Status,
     /// `new`, `len` and `is_empty` of variants.
@@ -108,21 +108,21 @@ pub enum Call {
     PolicyAt,
     Replace,
     Remove,
-    /// `choose`, where none of the variants matches.
+    /// `choose` if none of the variants matches.
     ChooseNothing,
     FreshPlace,
     MatchingPlace,
-    /// `explain` of variants, for a request that one answers, and where none matches.
+    /// `explain` of variants, for a request that one answers, and if none matches.
     ExplainVariants,
     /// From 1900 on, and before.
     PrintDate,
-    /// The same.
+    /// From 1900 on, and before.
     HttpDate,
-    /// Of the usual length.
+    /// For a text of the usual length.
     ReadDate,
     IsConfirmedBy,
     IsEmpty,
-    /// `iter`, with each step to the end.
+    /// `iter`, and each step to the end.
     Iter,
 }
 
@@ -210,7 +210,7 @@ pub const CALLS: [Call; 80] = [
     Call::Iter,
 ];
 
-/// Returns the exchange on which the call at a position is made.
+/// Returns the exchange on which the call at an index is made.
 pub fn exchange_of(call: Call, at: usize) -> Exchange {
     match call {
         Call::Unstorable => PRIVATE,

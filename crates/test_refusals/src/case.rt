@@ -1,4 +1,4 @@
-//! The calls that may take memory, on an exchange and its policy.
+//! Makes the calls that may allocate, on an exchange and its policy.
 use crate::answer::{Ages, Answer, after, judged};
 use crate::call::Call;
 use crate::exchange::{Exchange, FORM};
@@ -26,21 +26,21 @@ use std::alloc::{AllocError, Global};
 /// An exchange and its policy.
 #[derive(Clone, Copy)]
 pub struct Case<'a> {
-    /// What the policy has to be.
+    /// The exchange, and what its policy should be.
     pub exchange: Exchange,
-    /// The exchange, and what comes after it.
+    /// The exchange and its steps, as read.
     pub script: &'a Script,
     /// Its policy.
     pub policy: &'a CachePolicy,
 }
 
-/// What a call is made on beside the exchange.
+/// The values on which a call is made, besides the exchange.
 pub trait Scene {
-    /// Makes a call, and returns whether its answer is right.
+    /// Makes a call, and returns whether its result is right.
     fn is_right(&mut self, alloc: Global, case: Case<'_>, call: Call) -> Result<bool, CacheError>;
 }
 
-/// Nothing beside the exchange.
+/// Nothing besides the exchange.
 #[derive(Clone, Copy)]
 pub struct Alone;
 
@@ -52,7 +52,7 @@ fn read(alloc: Global, text: Result<String, AllocError>) -> Result<Script, Cache
     }
 }
 
-/// Reads the script of an exchange.
+/// Returns the script of an exchange.
 pub fn script_of(alloc: Global, exchange: &Exchange) -> Result<Script, CacheError> {
     read(
         alloc,
@@ -60,7 +60,7 @@ pub fn script_of(alloc: Global, exchange: &Exchange) -> Result<Script, CacheErro
     )
 }
 
-/// The stored form of the usual exchange's policy.
+/// Returns the stored form of the usual exchange's policy.
 pub fn form(alloc: Global) -> Result<Value, CacheError> {
     match Value::from_str(alloc, FORM) {
         Ok(value) => Ok(value),
@@ -80,7 +80,7 @@ fn is_text(
     }
 }
 
-// Whether a value was added, or comes back as it was.
+// A value that wasn't added is returned unchanged.
 fn is_added<T: Answer + Drop>(
     added: Result<(), (T, CacheError)>,
     wanted: T::Wanted,
@@ -135,23 +135,24 @@ fn is_member(alloc: Global) -> Result<bool, CacheError> {
 }
 
 impl Case<'_> {
-    /// Whether the policy says what it has to.
+    /// Returns whether the policy is as it should be.
     pub fn is_unchanged(&self) -> bool {
         self.policy.is(self.exchange.ages)
     }
 
-    /// Whether the policy's stored form is as it has to be.
+    /// Returns whether the policy's stored form is as it should be.
     pub fn is_written_so(&self, alloc: Global) -> Result<bool, CacheError> {
         is_text(alloc, self.policy.to_value(alloc), self.exchange.form)
     }
 
-    /// The directives of the response.
+    /// Returns the directives of the response.
     pub fn directives(&self, alloc: Global) -> Result<CacheControl, CacheError> {
         let values = self.script.response.headers.get_all("cache-control");
         parse_cache_control(alloc, values)
     }
 
-    /// The policies of what is received in the steps, the last of which is the first.
+    /// Returns the policies of the responses that the steps receive. The last one is the first of
+    /// them.
     pub fn variants(&self, alloc: Global) -> Result<Variants, CacheError> {
         let mut variants = Variants::new(alloc);
         for step in self.script.steps.as_slice() {
@@ -160,7 +161,7 @@ impl Case<'_> {
         Ok(variants)
     }
 
-    /// What the policy answers to the request of a step.
+    /// Returns the policy's answer to the request of a step.
     pub fn answer_at(&self, alloc: Global, at: usize) -> Result<BeforeRequest, CacheError> {
         match self.script.steps.get(at) {
             Some(Step::Ask { request, moment }) => {
@@ -256,7 +257,7 @@ impl Case<'_> {
         )
     }
 
-    // Makes a call that makes a policy or more, or writes one.
+    // The call makes policies, or writes one.
     fn makes(&self, alloc: Global, call: Call) -> Result<bool, CacheError> {
         let (script, ages) = (self.script, self.exchange.ages);
         match call {
@@ -272,7 +273,7 @@ impl Case<'_> {
         }
     }
 
-    // Makes a call on the policy and a request, or a response.
+    // The call is on the policy and a request, or a response.
     fn answers(&self, alloc: Global, call: Call) -> Result<bool, CacheError> {
         match call {
             Call::Fresh => judged(self.answer_at(alloc, 0), FRESH),
@@ -288,7 +289,7 @@ impl Case<'_> {
         }
     }
 
-    // Makes a call on the headers of the response, or on all steps.
+    // The call is on the headers of the response, or on all steps.
     fn hands_on(&self, alloc: Global, call: Call) -> Result<bool, CacheError> {
         let headers = &self.script.response.headers;
         let steps = self.script.steps.as_slice();
@@ -339,7 +340,7 @@ impl Scene for Alone {
 }
 
 impl Scene for HeaderMap {
-    // The headers hold nothing, and still do so where that is refused.
+    // The headers are empty, and stay so if the call fails.
     fn is_right(
         &mut self,
         _alloc: Global,

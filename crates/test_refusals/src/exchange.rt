@@ -1,16 +1,16 @@
-//! The exchanges on which the calls are made, as scripts, and what their policies have to be.
+//! The exchanges on which the calls are made, as scripts, and what their policies should be.
 use crate::answer::Ages;
 
 /// An exchange.
 #[derive(Clone, Copy)]
 pub struct Exchange {
-    /// Its script, with `$VARY` for the names by which the response varies.
+    /// The script, with `$VARY` for the names in the response's Vary.
     pub script: &'static str,
-    /// These names.
+    /// The names in Vary.
     pub vary: &'static str,
     /// The stored form of its policy.
     pub form: &'static str,
-    /// What its policy says after five and a half seconds.
+    /// What the policy should be after five and a half seconds.
     pub ages: Ages,
 }
 
@@ -22,8 +22,8 @@ pub const MAIN: Exchange = Exchange {
     ages: TEN_SECONDS,
 };
 
-/// The usual exchange with a response that varies by a name of 200 letters too, so that a copy of it would
-/// take memory.
+/// The usual exchange with a Vary that also has a name of 200 letters, so that a copy of it would
+/// allocate.
 pub const VARIED: Exchange = Exchange {
     script: SCRIPT,
     vary: concat!(
@@ -56,7 +56,7 @@ pub const EXAMPLE: Exchange = Exchange {
     ages: TEN_SECONDS,
 };
 
-/// Three exchanges that are stored under one key, the newest of which is the exchange itself.
+/// Three exchanges under one key, of which the exchange itself is the newest.
 pub const VARIANTS: Exchange = Exchange {
     script: VARIANTS_SCRIPT,
     vary: "Accept",
@@ -69,7 +69,7 @@ pub const VARIANTS: Exchange = Exchange {
     },
 };
 
-// A response is fresh for ten seconds.
+// The response is fresh for ten seconds.
 const TEN_SECONDS: Ages = Ages {
     nanos: 5_500_000_000,
     is_storable: true,

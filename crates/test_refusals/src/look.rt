@@ -1,4 +1,4 @@
-//! The calls that take no memory.
+//! Makes the calls that don't allocate.
 use crate::answer::after;
 use crate::call::Call;
 use crate::case::Case;
@@ -17,7 +17,7 @@ use serde_json::Value;
 use std::alloc::Global;
 use std::time::Duration;
 
-// Whether a policy of ten seconds says what it has to after five and a half, and of what it was made.
+// A lifetime of ten seconds, after five and a half.
 fn is_right_of_policy(case: Case<'_>, call: Call) -> bool {
     let policy = case.policy;
     let now = after(5_500_000_000);
@@ -43,8 +43,8 @@ fn is_right_of_policy(case: Case<'_>, call: Call) -> bool {
     }
 }
 
-// What the policy says of the request of a step: whether it matches, is answered without validation, may be
-// answered by a stale response after an error, or by a 304.
+// Whether the request matches, is answered without validation, may be answered by a stale response
+// after an error, or by a 304.
 fn says_at(case: Case<'_>, at: usize, call: Call) -> Option<bool> {
     match case.script.steps.get(at) {
         Some(Step::Ask { request, moment }) => Some(match call {
@@ -58,7 +58,7 @@ fn says_at(case: Case<'_>, at: usize, call: Call) -> Option<bool> {
     }
 }
 
-// What the policy's explanation for the request of a step says: a hit or why not, and whole seconds that are left.
+// A hit or why not, and the whole seconds that are left.
 fn explained_at(case: Case<'_>, at: usize) -> Option<(CacheOutcome, TimeLeft)> {
     match case.script.steps.get(at) {
         Some(Step::Ask { request, moment }) => {
@@ -69,7 +69,7 @@ fn explained_at(case: Case<'_>, at: usize) -> Option<(CacheOutcome, TimeLeft)> {
     }
 }
 
-// Whether a request that is answered and one with another Accept have different results.
+// The requests are one that is answered, and one with another Accept.
 fn is_right_of_request(case: Case<'_>, call: Call) -> bool {
     match call {
         Call::Outcome => {
@@ -131,7 +131,6 @@ fn is_right_of_date(call: Call) -> bool {
     }
 }
 
-// Whether the Last-Modified of the response is read as the date that it is.
 fn reads_date(alloc: Global, headers: &HeaderMap) -> Result<bool, CacheError> {
     match headers.get("last-modified") {
         Some(value) => {
@@ -149,7 +148,7 @@ fn is_confirmed_at(case: Case<'_>, at: usize) -> Option<bool> {
     }
 }
 
-/// Makes a call on the exchange, or on nothing, and returns whether its answer is right.
+/// Makes a call on the exchange, or on nothing, and returns whether its result is right.
 pub fn is_right(alloc: Global, case: Case<'_>, call: Call) -> Result<bool, CacheError> {
     Ok(match call {
         Call::MatchesRequest
@@ -179,7 +178,7 @@ pub fn is_right(alloc: Global, case: Case<'_>, call: Call) -> Result<bool, Cache
 
 fn is_pair(entry: Option<(&str, Option<&str>)>, name: &str, value: &str) -> bool {
     match entry {
-        Some((found, Some(told))) => found == name && told == value,
+        Some((found, Some(its_value))) => found == name && its_value == value,
         _ => false,
     }
 }
@@ -189,7 +188,7 @@ fn are_in_order(read: &CacheControl) -> bool {
     is_pair(directives.next(), "max-age", "10") && directives.count() == 4
 }
 
-/// Makes a call on the directives of the response, and returns whether its answer is right.
+/// Makes a call on the directives of the response, and returns whether its result is right.
 pub fn is_right_of_directives(read: &CacheControl, call: Call) -> bool {
     match call {
         Call::Len => read.len() == 5,
@@ -215,7 +214,7 @@ fn is_moment_of_response(value: &Value) -> bool {
     }
 }
 
-/// Makes a call on the stored form, and returns whether its answer is right.
+/// Makes a call on the stored form, and returns whether its result is right.
 pub fn is_right_of_form(form: &Value, call: Call) -> bool {
     match (call, form.get("opts"), form.get("response_time")) {
         (Call::OptionsFromValue, Some(options), _) => ignores_cargo_cult(options),
@@ -232,7 +231,7 @@ fn is_some<T: Drop>(option: Option<T>) -> bool {
     option.is_some()
 }
 
-// The last of three takes the position of the first, and then there are two.
+// The last of three replaces the first, and then there are two.
 fn replaces(variants: &mut Variants) -> bool {
     match variants.remove(2) {
         Some(policy) => is_ok(variants.replace(0, policy)) && variants.len() == 2,
@@ -240,12 +239,12 @@ fn replaces(variants: &mut Variants) -> bool {
     }
 }
 
-// The middle one of three is taken out, and then there are two.
+// The middle one of three is removed, and then there are two.
 fn removes(variants: &mut Variants) -> bool {
     !is_some(variants.remove(3)) && is_some(variants.remove(1)) && variants.len() == 2
 }
 
-// What is said among variants of the request of a step: which is fresh, which matches, and whether one answers.
+// Which variant is fresh, which matches, and whether one answers.
 fn says_among(
     variants: &Variants,
     script: &Script,
@@ -253,16 +252,17 @@ fn says_among(
 ) -> (Option<usize>, Option<usize>, bool) {
     match script.steps.get(at) {
         Some(Step::Ask { request, moment }) => (
-            variants.fresh_place(request, *moment),
-            variants.matching_place(request),
+            variants.fresh_index(request, *moment),
+            variants.matching_index(request),
             variants.explain(request, *moment).reason.is_none(),
         ),
         _ => (None, None, false),
     }
 }
 
-/// Makes a call on variants, and returns whether its answer is right. The newest of three matches and is
-/// stale; the oldest is fresh. A HEAD has none.
+/// Makes a call on variants, and returns whether its result is right.
+///
+/// The newest of three matches and is stale; the oldest is fresh. None matches a HEAD.
 pub fn is_right_of_variants(variants: &mut Variants, script: &Script, call: Call) -> bool {
     let (of_get, of_head) = (
         says_among(variants, script, 0),

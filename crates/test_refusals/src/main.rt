@@ -1,8 +1,8 @@
-//! Makes each call of the library, or the one whose position it is given, and names it: those that may
-//! take memory, and after them those that take none. A refused one is reported, and made again once it is
-//! seen that nothing has changed.
+//! Makes and prints each call of the library, or only the one at the given index: those that may
+//! allocate, and then the others. A call that fails is reported, and made again after a check that
+//! nothing has changed.
 //!
-//! It is for runs with requests for memory refused. Without that, no call is refused.
+//! It is for runs in which requests for memory are refused. Otherwise no call fails.
 #![tactic(auto)]
 
 mod answer;
@@ -22,18 +22,18 @@ use std::alloc::Global;
 use std::process::ExitCode;
 use std::{env, io};
 
-// How a call went: at once, or after a refusal.
+// How a call went: at once, or after an error.
 #[derive(Clone, Copy)]
 enum End {
     Answered,
     Refused,
-    // What the call is made on couldn't be made, so there was no call.
+    // The value for the call couldn't be made, so there was no call.
     Unmade,
     Wrong,
 }
 
 impl End {
-    fn status(self) -> u8 {
+    fn exit_status(self) -> u8 {
         match self {
             End::Answered => 0,
             End::Wrong => 1,
@@ -50,7 +50,6 @@ fn unmade(e: CacheError) -> End {
     }
 }
 
-// Whether nothing has changed, and the call is right when it is made again.
 fn is_as_before<S: Scene>(
     alloc: Global,
     scene: &mut S,
@@ -67,8 +66,7 @@ fn again<S: Scene>(alloc: Global, scene: &mut S, case: Case<'_>, call: Call, e: 
     }
 }
 
-// Names a call and makes it. The line that reports a refusal ends it where all requests up to a write are
-// refused.
+// If all requests up to a write are refused, the line that reports a failure ends it.
 fn made<S: Scene>(rt: &HostRuntime, scene: &mut S, case: Case<'_>, call: Call) -> End {
     let _ = println!(rt; "{call:?}");
     match scene.is_right(rt.alloc(), case, call) {
@@ -158,7 +156,6 @@ fn end_of(rt: &HostRuntime, call: Call, exchange: Exchange) -> End {
     by_script(rt, exchange, script_of(rt.alloc(), &exchange), call)
 }
 
-// The call at a position.
 fn end_at(rt: &HostRuntime, at: usize) -> End {
     match CALLS.get(at) {
         Some(call) => end_of(rt, *call, exchange_of(*call, at)),
@@ -170,7 +167,7 @@ fn end_at(rt: &HostRuntime, at: usize) -> End {
 fn end_of_all(rt: &HostRuntime) -> End {
     for at in 0..CALLS.len() {
         let end = end_at(rt, at);
-        if end.status() != 0 {
+        if end.exit_status() != 0 {
             return end;
         }
     }
@@ -193,5 +190,5 @@ fn run(rt: &HostRuntime) -> End {
 }
 
 fn main(rt: HostRuntime) -> ExitCode {
-    ExitCode::from(run(&rt).status())
+    ExitCode::from(run(&rt).exit_status())
 }

@@ -1,13 +1,13 @@
-//! What the answers have to be, worked out by hand from docs/RULES.md.
+//! The right results, worked out by hand from docs/RULES.md.
 use crate::answer::Ages;
 
-/// The directives of the response, as they were received.
+/// The directives of the response, as received.
 pub const DIRECTIVES: &str = "max-age=10\npre-check=1\npost-check=2\na=b c\npublic";
 
-/// Those by which the policy decides, without those of cargo cult.
+/// The directives by which the policy decides, without cargo cult.
 pub const STORED_DIRECTIVES: &str = "max-age=10\na=b c\npublic";
 
-/// All of them on one line.
+/// All directives on one line.
 pub const DIRECTIVES_LINE: &str = "max-age=10, pre-check=1, post-check=2, a=\"b c\", public";
 
 /// The answer after five and a half seconds.
@@ -27,13 +27,13 @@ accept: a
 if-modified-since: Sat, 23 Sep 2023 00:00:00 GMT
 if-none-match: "z", "c""#;
 
-/// The request where the response may not be stored.
+/// The request if the response may not be stored.
 pub const PLAIN: &str = "stale\naccept: a";
 
-/// The request that doesn't match: all of its own headers.
+/// The request that doesn't match, with all of its own headers.
 pub const UNMATCHED: &str = "unmatched\naccept: b\nte: x";
 
-/// The request where a HEAD doesn't match.
+/// The request if a HEAD doesn't match.
 pub const UNMATCHED_HEAD: &str = r#"unmatched
 accept: b
 if-modified-since: Sat, 23 Sep 2023 00:00:00 GMT
@@ -73,7 +73,7 @@ pub const REPLACED: Ages = Ages {
     left: 0,
 };
 
-/// What comes of the steps, from the policy of the exchange on.
+/// The outcomes of the steps, from the policy of the exchange on.
 pub const OUTCOMES: [&str; 8] = [
     FRESH,
     "restarted",
@@ -93,7 +93,7 @@ x: 3"#,
     "unmatched\naccept: b",
 ];
 
-/// What comes of the steps of the longest example.
+/// The outcomes of the steps of the longest example.
 pub const EXAMPLE_OUTCOMES: [&str; 6] = [
     "fresh 200\nage: 5\ncache-control: max-age=10\ndate: Mon, 01 Jan 2024 00:00:05 +0000",
     "restarted",
@@ -103,7 +103,7 @@ pub const EXAMPLE_OUTCOMES: [&str; 6] = [
     "modified 500\nage: 0\ndate: Mon, 01 Jan 2024 00:00:20 +0000",
 ];
 
-/// All that may be sent of the stored response.
+/// The stored response as it may be sent.
 pub const SENT: &str = r#"sent 200
 age: 5
 cache-control: max-age=10, a="b c", public
@@ -114,7 +114,7 @@ warning: 110 - "s", 214 - "x"
 x: 1
 x: 2"#;
 
-/// The headers that a proxy passes on: not what Connection names.
+/// The headers that a proxy forwards, without those that Connection lists.
 pub const PASSED_ON: &str = r#"cache-control: max-age=10, pre-check=1, post-check=2, a="b c", public
 etag: "c"
 last-modified: Sat, 23 Sep 2023 00:00:00 GMT
@@ -162,7 +162,7 @@ etag: "1"
 vary: Accept"#,
 );
 
-/// The newest of the variants, which is to be validated.
+/// The newest of the variants, which has to be validated.
 pub const CHOSEN_STALE: (usize, &str) = (0, "stale\naccept: a\nif-none-match: \"3\"");
 
 /// None of the variants.
@@ -171,5 +171,5 @@ pub const NOT_CHOSEN: (usize, &str) = (0, "nothing");
 /// The member of Cache-Status for a request that has another Accept.
 pub const CACHE_STATUS: &str = "\"example cache\"; fwd=vary-miss; detail=\"Accept\"";
 
-/// All that a member of Cache-Status may say.
+/// A member of Cache-Status with all of its parameters.
 pub const MEMBER: &str = "a; fwd=stale; fwd-status=304; stored; ttl=60; detail=\"max-age=5\"";

@@ -1,8 +1,8 @@
-//! Commands on the store in a file, a line of input each, and what each answers: for tests of what
-//! outlives the process.
+//! Runs commands on a store in a file, one for each line of input, for tests of what outlives the
+//! process.
 //!
-//! The words are the path, how many calls are committed together (1 if left out), and how many
-//! responses are stored at most.
+//! The arguments are the path, the number of calls in a commit (1 if left out), and the greatest
+//! number of stored responses.
 //!
 //! | command | what it prints |
 //! |---|---|
@@ -13,8 +13,8 @@
 //! | `forget|TARGET` | `forgotten`, after all that is stored for the target is removed |
 //! | `sweep|SECOND` | `swept COUNT` |
 //!
-//! A target is a URI, or a URI and a host. A policy is its stored form. IDS, with commas, are of superseded
-//! responses. If the store refuses a command, the line is `refused:` and the reason.
+//! A target is a URI, or a URI and a host. A policy is its stored form. IDS are superseded
+//! responses, with commas. If the store refuses a command, the line is `refused:` and the reason.
 mod command;
 
 use anyhow::anyhow;
@@ -24,7 +24,7 @@ use http_cache_store::{Durability, Store, StoreOptions};
 use sqlite::Alter;
 use std::alloc::Global;
 
-// The number of an argument, or another one where it is left out.
+// Returns the number in an argument, or the default if it is left out.
 fn number_at(words: &[String], at: usize, default: u32) -> anyhow::Result<u32> {
     match words.get(at) {
         Some(word) => Ok(word.as_str().parse::<u32>()?),
@@ -52,7 +52,7 @@ fn run_all<S: Alter>(rt: &HostRuntime, store: &mut Store<S>) -> anyhow::Result<(
     Ok(())
 }
 
-/// Runs the commands on standard input on the store that the words name.
+/// Runs the commands on standard input, on the store that the words name.
 pub fn run(rt: &HostRuntime, words: &[String]) -> anyhow::Result<()> {
     let Some(path) = words.first() else {
         return Err(anyhow!("no path"));

@@ -1,7 +1,8 @@
-//! How long a hit takes over a shelf of so many responses with bodies of 1 kB.
+//! Measures how long a hit takes over a shelf of many responses with bodies of 1 kB.
 //!
-//! `memory COUNT HITS` stores so many in memory, asks for some of them, and prints how many nanoseconds a
-//! hit took. `fill COUNT PATH` stores so many in a file, and `file HITS PATH` opens it and asks.
+//! `memory COUNT HITS` stores COUNT responses in memory, requests some of them, and prints the
+//! nanoseconds for each hit. `fill COUNT PATH` stores COUNT in a file. `file HITS PATH` opens it
+//! and sends requests.
 mod pages;
 mod requests;
 
@@ -30,7 +31,7 @@ fn options() -> StoreOptions {
     }
 }
 
-// Prints the mean nanoseconds of so many hits on a shelf of so many pages.
+// Prints the mean nanoseconds of `hits` hits on a shelf of `count` pages.
 fn tell_hits<S: Shelf + Drop>(
     rt: &HostRuntime,
     shelf: S,
@@ -57,7 +58,7 @@ fn in_memory(rt: &HostRuntime, count: u64, hits: u64) -> anyhow::Result<()> {
     tell_hits(rt, shelf, count, hits)
 }
 
-// Stores so many pages in a new file, committed in batches.
+// Stores pages in a new file, committed in batches.
 fn in_file(rt: &HostRuntime, count: u64, path: &str) -> anyhow::Result<()> {
     let mut store = Store::open(rt, path, options())?;
     let begun = Instant::now(rt)?;
@@ -68,7 +69,6 @@ fn in_file(rt: &HostRuntime, count: u64, path: &str) -> anyhow::Result<()> {
     Ok(())
 }
 
-// Asks for pages of a store.
 fn tell_store<S: Alter + Drop>(rt: &HostRuntime, store: Store<S>, hits: u64) -> anyhow::Result<()> {
     let count = store.len() as u64;
     println!(rt; "stored {count}")?;
@@ -83,7 +83,6 @@ fn opened(rt: &HostRuntime, path: &str) -> anyhow::Result<Store<FileStore<File>>
     Ok(store)
 }
 
-// Opens a file, and asks for pages in it.
 fn from_file(rt: &HostRuntime, hits: u64, path: &str) -> anyhow::Result<()> {
     tell_store(rt, opened(rt, path)?, hits)
 }

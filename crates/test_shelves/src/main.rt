@@ -1,4 +1,4 @@
-//! Runs what tests and measurements ask of a shelf in memory or of a store, by its first argument:
+//! Runs tests and measurements of a shelf in memory or of a store, by its first argument:
 //!
 //! | arguments | what is run |
 //! |---|---|

@@ -1,4 +1,4 @@
-//! Runs over readers and writers that stutter, fail and never end, as tests. Nothing here is for use.
+//! Tests over readers and writers that stutter, fail and never end. Nothing here is for use.
 #![tactic(auto)]
 
 #[cfg(test)]

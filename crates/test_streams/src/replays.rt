@@ -4,7 +4,7 @@ use std::io;
 use std::io::{BufReader, Read, Write};
 use std::test::Fail;
 
-/// Gives one byte at a time, and fails at one call.
+/// A reader of one byte at a time that fails at one call.
 #[derive(Drop)]
 struct Drip<'a> {
     rest: &'a [u8],
@@ -26,7 +26,6 @@ impl Read for Drip<'_> {
     }
 }
 
-/// Takes nothing.
 #[derive(Drop)]
 struct Broken;
 

@@ -7,7 +7,7 @@ use std::io::{ErrorKind, Read, Write};
 use std::process::Abort;
 use std::test::Fail;
 
-/// Gives the bytes a few at a time, and fails at one call.
+/// A reader of a few bytes at a time that fails at one call.
 #[derive(Drop)]
 struct Stutter<'a> {
     rest: &'a [u8],
@@ -36,7 +36,7 @@ impl Source for Stutter<'_> {
     }
 }
 
-/// Never ends.
+/// A reader that never ends.
 #[derive(Drop)]
 struct Endless {
     calls: u32,
@@ -61,7 +61,7 @@ impl Source for Endless {
 
 const ROOM: usize = 160;
 
-/// Takes a few bytes at a time, into room of its own, and fails at one call.
+/// A writer of a few bytes at a time, into its own room, that fails at one call.
 #[derive(Drop)]
 struct Gate {
     room: [u8; ROOM],
@@ -107,7 +107,7 @@ impl Sink for Gate {
     }
 }
 
-/// Steps of every kind.
+/// A script with steps of every kind.
 const SCRIPT: &str = concat!(
     r#"{"options":{"shared":true,"cache_heuristic":[1,10],"immutable_min_time_to_live":[86400,0],"#,
     r#""ignore_cargo_cult":false},"received":[1704067200,0],"request":{"uri":"/a","method":"GET","headers":[]},"#,
@@ -149,13 +149,13 @@ fn open_gate(most: usize, fails_at: usize, is_full: bool) -> Gate {
     }
 }
 
-// Nothing is written, and why is told by the exit status and a text.
+// Nothing is written. The exit status and a text report why.
 fn is_no_script<R: Source>(rt: &impl Abort, alloc: Global, reader: &mut R) -> Result<(), Fail> {
     let mut writer = open_gate(ROOM, 0, false);
     match run(alloc, reader, &mut writer) {
         Ok(()) => assert!(rt; false, "not refused"),
         Err(e) => {
-            assert_eq!(rt; e.status(), 2);
+            assert_eq!(rt; e.exit_status(), 2);
             let text = format!(in alloc; "{e}")?;
             assert_eq!(rt; text.as_str(), "script: not readable");
         }
@@ -177,7 +177,7 @@ fn reads_in_pieces(rt: HostRuntime) -> Result<(), Fail> {
 
 #[test]
 fn each_read_fails(rt: HostRuntime) -> Result<(), Fail> {
-    // One byte at a time, and the end.
+    // Each call reads one byte; the last one reads the end.
     let calls = SCRIPT.len().saturating_add(1);
     for fails_at in 1..=calls {
         let mut reader = stuttering(SCRIPT.as_bytes(), 1, fails_at);
@@ -189,7 +189,7 @@ fn each_read_fails(rt: HostRuntime) -> Result<(), Fail> {
 
 #[test]
 fn reads_no_further_than_the_end(rt: HostRuntime) -> Result<(), Fail> {
-    // One byte at a time, and the end: the read behind it would fail.
+    // Each call reads one byte and the last one the end, so the failing read would be after it.
     let calls = SCRIPT.len().saturating_add(1);
     let mut reader = stuttering(SCRIPT.as_bytes(), 1, calls.saturating_add(1));
     let mut writer = open_gate(ROOM, 0, false);
@@ -207,7 +207,7 @@ fn is_not_written(rt: &impl Abort, alloc: Global, writer: &mut Gate) -> Result<(
     match run(alloc, &mut reader, writer) {
         Ok(()) => assert!(rt; false, "written"),
         Err(e) => {
-            assert_eq!(rt; e.status(), 3);
+            assert_eq!(rt; e.exit_status(), 3);
             let text = format!(in alloc; "{e}")?;
             assert_eq!(rt; text.as_str(), "output: not written");
         }
@@ -218,7 +218,7 @@ fn is_not_written(rt: &impl Abort, alloc: Global, writer: &mut Gate) -> Result<(
 #[test]
 fn each_write_fails(rt: HostRuntime) -> Result<(), Fail> {
     for written in 0..LINES.len() {
-        // One byte at a time, and the one that fails.
+        // Each call writes one byte; the last one fails.
         let calls = written.saturating_add(1);
         for is_full in [false, true] {
             let mut writer = open_gate(1, calls, is_full);

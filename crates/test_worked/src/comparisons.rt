@@ -1,4 +1,4 @@
-//! What is equal of fractions, options and explanations.
+//! Which fractions, options and explanations are equal.
 use http_cache_semantics::policy::Fraction;
 use http_cache_semantics::{CacheOptions, CachePolicy};
 use std::alloc::Global;
@@ -28,7 +28,7 @@ fn fractions_are_compared_as_given(rt: HostRuntime) -> Result<(), Fail> {
     Ok(())
 }
 
-// The explanations of a request at two moments are equal where their ages are.
+// They are equal if the ages are.
 fn is_same_at(alloc: Global, policy: &CachePolicy, one: i64, other: i64) -> Result<bool, Fail> {
     let (one, other) = (after(one)?, after(other)?);
     with(request(alloc, "GET", ""), |request| {

@@ -1,4 +1,4 @@
-//! In which words a call is refused.
+//! The texts of errors.
 use http_cache_semantics::CacheError;
 use std::test::Fail;
 

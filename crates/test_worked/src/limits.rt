@@ -1,9 +1,11 @@
-//! What a shelf in memory stores within its limits, which responses it evicts, and what is left after a sweep.
+//! Tests what a shelf in memory stores within its limits, which responses it evicts, and what a
+//! sweep leaves.
 //!
-//! A case has a limit in its first line, and a step in each line after it: what is done, the path of a target, the headers
-//! of a response, its body, and the outcome: for `put` the id of the response or `no`, for `find` the ids found, for
-//! `sweep` how many responses are removed, for `count` how many are stored, and for `evicted` the ids of those that the
-//! last call evicted. `restore` and `skip` have a number in a sixth field; the outcome of `restore` is whether the
+//! A case has a limit in its first line, and a step in each line after it: the call, the path of a
+//! target, the headers of a response, its body, and the outcome. For `put` that is the id of the
+//! response or `no`, and for `find` the ids found. For `sweep` it is the number of removed
+//! responses, for `count` of stored ones, and for `evicted` the ids that the last call evicted.
+//! `restore` and `skip` have a number in a sixth field. The outcome of `restore` is whether the
 //! response is stored, and of `skip` the same number.
 use bytes::Bytes;
 use http::{HeaderMap, Uri};
@@ -28,7 +30,7 @@ fn cases() -> [&'static str; 9] {
          find|/2|||
          find|/3|||2
          find|/1|||3",
-        // The target that was used longest ago is evicted, and not the one that was stored first.
+        // The target that was used longest ago is evicted, not the one that was stored first.
         "responses 2
          put|/1|Cache-Control: max-age=100|x|0
          put|/2|Cache-Control: max-age=100|x|1
@@ -60,7 +62,8 @@ fn cases() -> [&'static str; 9] {
          put|/1|Cache-Control: max-age=100|four|no
          count||||0
          put|/1|Cache-Control: max-age=100|two|0",
-        // A stale response without a validator that must be revalidated is removed. The order of use stays.
+        // A stale response without a validator that must be revalidated is removed. The order of
+        // use stays.
         "responses 3
          put|/1|Cache-Control: max-age=1, must-revalidate ~ ETag: \"1\"|x|0
          put|/2|Cache-Control: max-age=1, must-revalidate|x|1
@@ -71,7 +74,7 @@ fn cases() -> [&'static str; 9] {
          put|/5|Cache-Control: max-age=100|x|4
          find|/1|||
          find|/3|||2",
-        // The ids that are evicted are listed, and only by a call that evicts.
+        // Evicted ids are listed, and only by a call that evicts.
         "responses 2
          put|/1|Cache-Control: max-age=100|x|0
          put|/1|Cache-Control: max-age=100|x|1
@@ -80,7 +83,7 @@ fn cases() -> [&'static str; 9] {
          evicted||||1 0
          put|/2|Cache-Control: max-age=100|x|3
          evicted||||",
-        // What is restored keeps its id, and ids rise.
+        // A restored response keeps its id, and ids rise.
         "body 3
          restore|/1|Cache-Control: max-age=100|x|true|5
          restore|/2|Cache-Control: max-age=100|x|false|5
@@ -132,7 +135,6 @@ fn done<T: Drop>(outcome: Result<T, ShelfError>) -> Result<T, Fail> {
     }
 }
 
-// Stores the response of a step.
 fn put(
     alloc: Global,
     shelf: &mut MemoryShelf,
@@ -147,7 +149,7 @@ fn put(
     }
 }
 
-// Stores the response of a step under the id of the step.
+// The step has the id.
 fn restore(
     alloc: Global,
     shelf: &mut MemoryShelf,
@@ -185,14 +187,12 @@ fn ids_evicted(alloc: Global, shelf: &MemoryShelf) -> Result<String, Fail> {
     Ok(text)
 }
 
-// Raises the next id to the number of a step.
 fn skip(alloc: Global, shelf: &mut MemoryShelf, step: &str) -> Result<String, Fail> {
     let next = field(step, 5)?.parse::<u64>()?;
     shelf.skip_ids_below(next);
     Ok(format!(in alloc; "{next}")?)
 }
 
-// Does what a step says, and returns the text of its outcome.
 fn outcome_of(alloc: Global, shelf: &mut MemoryShelf, step: &str) -> Result<String, Fail> {
     match field(step, 0)? {
         "put" => with(

@@ -1,4 +1,4 @@
-//! Requests and responses of one's own.
+//! Tests requests and responses of other types than the library's.
 use http::{HeaderMap, Method, StatusCode, Uri, request, response};
 use http_cache_semantics::chain::chain;
 use http_cache_semantics::{
@@ -11,8 +11,8 @@ use std::process::Abort;
 use std::test::Fail;
 use test_cases::fixtures::{after, policy, request, response, with};
 
-// A request that takes each target for its own, or none. It counts how often it is asked for a copy
-// of its target, and may have none to give.
+// It takes each target for its own, or none. It counts the requests for a copy of its target, and
+// may be out of memory for one.
 #[derive(Drop)]
 struct Own {
     parts: request::Parts,
@@ -52,7 +52,7 @@ impl RequestLike for Own {
     }
 }
 
-// A response that has no more than a cache reads.
+// It has no more than a cache reads.
 #[derive(Drop)]
 struct Bare {
     status: StatusCode,
@@ -85,35 +85,35 @@ fn own_request(alloc: Global, lines: &str, takes_all: bool, is_tight: bool) -> R
 }
 
 // Whether the answer is fresh, and whether the request matches.
-fn told(answer: &BeforeRequest) -> (bool, bool) {
+fn decision(answer: &BeforeRequest) -> (bool, bool) {
     match answer {
         BeforeRequest::Fresh(_) => (true, true),
         BeforeRequest::Stale { matches, .. } => (false, *matches),
     }
 }
 
-fn told_by(
+fn decision_on(
     alloc: Global,
     policy: &CachePolicy,
     request: &Own,
     now: Timestamp,
 ) -> Result<(bool, bool), Fail> {
     let answer = policy.before_request(alloc, request, now);
-    with(answer.map_err(Fail::from), |answer| Ok(told(answer)))
+    with(answer.map_err(Fail::from), |answer| Ok(decision(answer)))
 }
 
-// The same, once it is seen that the calls that take no memory tell it too.
+// The calls that allocate nothing have to agree.
 fn asked(alloc: Global, policy: &CachePolicy, request: &Own) -> Result<(bool, bool), Fail> {
     let now = after(0)?;
-    let told = told_by(alloc, policy, request, now)?;
+    let decision = decision_on(alloc, policy, request, now)?;
     let without = (
         policy.fresh_at(request, now),
         policy.matches_request(request),
     );
-    if told != without {
+    if decision != without {
         return Err("told in two ways")?;
     }
-    Ok(told)
+    Ok(decision)
 }
 
 fn asked_for_copies(
@@ -124,7 +124,7 @@ fn asked_for_copies(
     Ok((asked(alloc, policy, request)?, request.copies.get()))
 }
 
-// What is told of a request, which has no copy of its target to give and isn't asked for one.
+// The request has no memory for a copy of its target, and isn't asked for one.
 fn asks(alloc: Global, lines: &str, takes_all: bool) -> Result<((bool, bool), u32), Fail> {
     with(policy(alloc, LINES), |policy| {
         let request = own_request(alloc, lines, takes_all, true);
@@ -148,7 +148,7 @@ fn no_copy_of_the_target_of_what_asks(rt: HostRuntime) -> Result<(), Fail> {
     Ok(())
 }
 
-// How many caches a chain for the request reaches with one hand-over.
+// The chain has one time.
 fn caches(
     alloc: Global,
     request: &Own,
@@ -183,7 +183,6 @@ fn a_chain_ends_where_no_target_matches(rt: HostRuntime) -> Result<(), Fail> {
     Ok(())
 }
 
-// Why no policy is made, if that is so.
 fn stored(alloc: Global, request: &Own, now: Timestamp) -> Result<Option<CacheError>, Fail> {
     let response = Bare {
         status: StatusCode::OK,
@@ -195,7 +194,7 @@ fn stored(alloc: Global, request: &Own, now: Timestamp) -> Result<Option<CacheEr
     )
 }
 
-// The same, and how often one asks for a copy of the target.
+// It also returns how often a copy of the target is requested.
 fn stores(alloc: Global, is_tight: bool) -> Result<(Option<CacheError>, u32), Fail> {
     let now = after(0)?;
     let request = own_request(alloc, "", true, is_tight);
@@ -212,7 +211,7 @@ fn one_copy_of_the_target_of_what_is_stored(rt: HostRuntime) -> Result<(), Fail>
     Ok(())
 }
 
-// Why a policy isn't renewed for a request that has no copy of its target to give.
+// The request has no memory for a copy of its target.
 fn renewed(alloc: Global, request: &Own) -> Result<Option<CacheError>, Fail> {
     let now = after(0)?;
     with(policy(alloc, LINES), |policy| {

@@ -1,11 +1,11 @@
-//! The texts of targets, and what references in a response name.
+//! Tests the texts of targets, and the targets of references in a response.
 use http::{HeaderMap, Uri};
 use http_cache_shelf::Target;
 use std::alloc::Global;
 use std::test::Fail;
 use test_cases::fixtures::{field, headers};
 
-// A request target, the header fields, and the text of the target.
+// A request target, the field lines, and the text of the target.
 fn requests() -> &'static str {
     "http://A.example:80/X?Y||http//a.example/X?Y
      https://a.example:443||https//a.example/

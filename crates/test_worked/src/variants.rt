@@ -1,4 +1,4 @@
-//! Several variants of a response, of which one answers.
+//! Tests the choice among several variants of a response.
 use http::{request, response};
 use http_cache_semantics::directives::GetHeaderStr;
 use http_cache_semantics::{CachePolicy, Choice, Variants};
@@ -8,9 +8,9 @@ use std::process::Abort;
 use std::test::Fail;
 use test_cases::fixtures::{after, field, request, response, with, with_further, with_mut};
 
-// What is done in turn: a policy is added for a request with its headers and those of its response,
-// the policy at a place is taken out, or a request with headers asks so many seconds after the
-// responses came, and what is chosen. Requests for the origin are told by their headers.
+// A line adds a policy for a request and a response, removes the policy at an index, or makes a
+// request so many seconds after the receipt. It ends with the outcome, in which headers show a
+// request to the origin server.
 fn steps() -> &'static str {
     r#"ask|Accept: a|5|nothing
        add|Accept: a|Cache-Control: max-age=100 ~ ETag: "1" ~ Vary: Accept|1
@@ -40,28 +40,28 @@ fn text<'a>(headers: &'a http::HeaderMap, name: &str) -> &'a str {
     headers.get_str(name).unwrap_or("none")
 }
 
-fn add_choice(told: &mut String, choice: &Choice) -> Result<(), AllocError> {
+fn add_choice(shown: &mut String, choice: &Choice) -> Result<(), AllocError> {
     match choice {
         Choice::Fresh { place, parts } => {
-            write!(told, "fresh {place} age {}", text(&parts.headers, "age"))
+            write!(shown, "fresh {place} age {}", text(&parts.headers, "age"))
         }
         Choice::Validate { place, request } => {
             let accept = text(&request.headers, "accept");
             let tags = text(&request.headers, "if-none-match");
             let count = request.headers.len();
             write!(
-                told,
+                shown,
                 "validate {place} accept: {accept} if-none-match: {tags} of {count}"
             )
         }
-        Choice::Nothing => told.push_str("nothing"),
+        Choice::Nothing => shown.push_str("nothing"),
     }
 }
 
 fn text_of(alloc: Global, choice: &Choice) -> Result<String, Fail> {
-    let mut told = String::new(alloc);
-    add_choice(&mut told, choice)?;
-    Ok(told)
+    let mut shown = String::new(alloc);
+    add_choice(&mut shown, choice)?;
+    Ok(shown)
 }
 
 fn asked(
@@ -83,10 +83,10 @@ fn policy_of(
     Ok(CachePolicy::new(alloc, asking, answer, after(0)?)?)
 }
 
-fn policy(alloc: Global, asked: &str, told: &str) -> Result<CachePolicy, Fail> {
+fn policy(alloc: Global, asked: &str, answered: &str) -> Result<CachePolicy, Fail> {
     with(request(alloc, "GET", asked), |asking| {
         with(
-            response(alloc, "200", told),
+            response(alloc, "200", answered),
             |answer| policy_of(alloc, asking, answer),
         )
     })
@@ -102,10 +102,10 @@ fn put(variants: &mut Variants, policy: CachePolicy) -> Result<(), Fail> {
         .map_err(|refused| Fail::from(second(refused)))
 }
 
-// The seconds that the policy had left which was taken out, or 0 where there was none.
-fn taken(variants: &mut Variants, place: usize) -> Result<u64, Fail> {
+// The seconds that were left of the removed policy's lifetime, or 0 if there was none.
+fn taken(variants: &mut Variants, index: usize) -> Result<u64, Fail> {
     let now = after(0)?;
-    match variants.remove(place) {
+    match variants.remove(index) {
         Some(policy) => with(Ok(policy), |policy| Ok(policy.time_to_live(now).as_secs())),
         None => Ok(0),
     }
@@ -124,8 +124,8 @@ fn choice_for(
 }
 
 fn asks(rt: &impl Abort, alloc: Global, variants: &Variants, step: &str) -> Result<(), Fail> {
-    let told = choice_for(alloc, variants, field(step, 1)?, field(step, 2)?)?;
-    assert_eq!(rt; told.as_str(), field(step, 3)?, "at {step}");
+    let shown = choice_for(alloc, variants, field(step, 1)?, field(step, 2)?)?;
+    assert_eq!(rt; shown.as_str(), field(step, 3)?, "at {step}");
     Ok(())
 }
 
@@ -167,7 +167,7 @@ fn choices_among_variants(rt: HostRuntime) -> Result<(), Fail> {
     })
 }
 
-// The choice among the policies for a request, or in which words it is refused.
+// The choice, or the text of the error.
 fn choice_or_refusal(
     alloc: Global,
     variants: &Variants,
@@ -180,7 +180,7 @@ fn choice_or_refusal(
     }
 }
 
-// The same for a GET without headers, where there is one policy of a response with headers.
+// For a GET without headers, and one policy of a response with headers.
 fn choice_of_one(alloc: Global, lines: &str, nanos: i64) -> Result<String, Fail> {
     with_mut(Ok(Variants::new(alloc)), |variants| {
         put(variants, policy(alloc, "", lines)?)?;
@@ -211,9 +211,9 @@ fn choices_from_full_maps(rt: HostRuntime) -> Result<(), Fail> {
 #[test]
 fn choices_before_1900(rt: HostRuntime) -> Result<(), Fail> {
     let lines = "Cache-Control: max-age=10";
-    let told = choice_of_one(rt.alloc(), lines, -3_913_056_000_000_000_000)?;
-    assert_eq!(rt; told.as_str(), "fresh 0 age 0");
-    let told = choice_of_one(rt.alloc(), lines, -3_913_056_000_000_000_001)?;
-    assert_eq!(rt; told.as_str(), "date not printable");
+    let shown = choice_of_one(rt.alloc(), lines, -3_913_056_000_000_000_000)?;
+    assert_eq!(rt; shown.as_str(), "fresh 0 age 0");
+    let shown = choice_of_one(rt.alloc(), lines, -3_913_056_000_000_000_001)?;
+    assert_eq!(rt; shown.as_str(), "date not printable");
     Ok(())
 }

@@ -1,4 +1,4 @@
-//! Whether a 304 answers a request's own conditions (RFC 9110, section 13.2.2).
+//! Answers a request's own conditions (RFC 9110, section 13.2.2).
 ghost use Rattle.std.specs.Prelude.{◌≡◌, true};
 ghost use Rattle.http_cache_rules.specs.Conditions.{is_conditional};
 ghost use Rattle.http_cache_policy.specs.NotModified.{is_not_modified_for};
@@ -8,12 +8,12 @@ use http::{Method, StatusCode};
 use http_cache_rules::conditions::has_stored_already;
 
 impl CachePolicy {
-    /// Returns whether a 304 answers the request's own conditions, by the stored response.
+    /// Returns whether a 304 answers the request's own conditions.
     ///
-    /// That is for GET and HEAD and a stored 200. If-None-Match counts by weak comparison, or else
-    /// If-Modified-Since against the stored Last-Modified, or Date where there is none (RFC 9110,
-    /// sections 13.1.2, 13.1.3 and 13.2.2, and RFC 9111, section 4.3.2). Ask it only where the
-    /// response may be used, or was validated: whether the request matches isn't looked at.
+    /// It can only be true for GET and HEAD, and a stored 200. If-None-Match is compared weakly. If
+    /// there is none, If-Modified-Since is compared with the stored Last-Modified, or with Date
+    /// (RFC 9110, sections 13.1.2, 13.1.3 and 13.2.2, and RFC 9111, section 4.3.2). Ask only if the
+    /// response may be used or was validated: whether the request matches isn't checked.
     #[tactic(auto, unfolding(crate::specs::NotModified::is_not_modified_for))]
     pub fn is_not_modified_for<Req: RequestLike>(&self, req: &Req) -> bool
         ensures value { result ≡ is_not_modified_for self.now (Req.seen req.now) }

@@ -1,4 +1,4 @@
-//! The headers of a fresh answer.
+//! Makes the headers of a fresh answer.
 ghost use Rattle.std.specs.Prelude.{◌≡◌, ◌≢◌, ◌⊎◌, ◌≤◌, ℤ, true, false, codes, decimal, length};
 ghost use Rattle.std.specs.Prelude.{IfOk, IfErr, IsErrOf};
 ghost use Rattle.std.specs.FinMap as fin;
@@ -24,10 +24,10 @@ use jiff::Timestamp;
 use std::alloc::{AllocError, Global};
 use std::time::Duration;
 
-// 24 hours, in nanoseconds.
+// In nanoseconds.
 const DAY: u128 = 86_400_000_000_000;
 
-// An age in seconds and a date as values, in one block of memory.
+// Both values share one allocation.
 fn age_and_date(
     alloc: Global,
     seconds: u64,
@@ -51,8 +51,7 @@ fn age_and_date(
 }
 
 impl CachePolicy {
-    // Whether the response, of the age, is more than a day old and still fresh by a guess
-    // (RFC 7234, section 5.5.4).
+    // A heuristically fresh response of more than a day gets a warning (RFC 7234, section 5.5.4).
     #[tactic(auto, unfolding(crate::specs::Fresh::is_guessed_past_a_day))]
     fn is_guessed_past_a_day(&self, age: Duration) -> bool
         ensures { (now : ℤ) → as_nanos age ≡ age_at self.now now
@@ -61,8 +60,7 @@ impl CachePolicy {
         age.as_nanos() > DAY && self.lifetime().as_nanos() > DAY && !self.has_explicit_expiration()
     }
 
-    // The stored headers that are handed on, and where a date is to be told, one that came beside
-    // them: it keeps the place.
+    // A Date is kept if one is to be sent, since it keeps its index.
     fn handed_on(&self, alloc: Global, dated: bool) -> Result<HeaderMap, AllocError>
         ensures beside { IfOk result (λ out. fin.remove (headers_of out) (codes "date")
             ≡ filtered_headers self.now.response_headers) }
@@ -78,7 +76,6 @@ impl CachePolicy {
         }
     }
 
-    // The same with the warning that is due at the age.
     fn warned_headers(
         &self,
         alloc: Global,
@@ -107,10 +104,12 @@ impl CachePolicy {
         Ok(out)
     }
 
-    /// The fresh answer at a moment, at which the response has the age.
+    /// Returns the fresh answer at `now`, when the response has the age.
     ///
-    /// `HeaderMapFull` comes where `warning`, `age` or `date` has to be added to headers that are
-    /// full, and `DateNotPrintable` where the moment is earlier than 1900.
+    /// # Errors
+    ///
+    /// `HeaderMapFull` if `warning`, `age` or `date` has no room, `DateNotPrintable` before 1900,
+    /// and `Memory`.
     #[tactic(auto, unfolding(crate::specs::Fresh::RefusesFreshHeaders, crate::specs::Fresh::HasNoDate))]
     pub(crate) fn cached_response(
         &self,
@@ -129,7 +128,7 @@ impl CachePolicy {
         let date = print_date(now);
         let mut headers = self.warned_headers(alloc, age, date.is_some())?;
         let Some(date) = date else {
-            // The age comes first, and may have no room.
+            // Age is set first, and may have no room.
             insert(
                 &mut headers,
                 AGE,

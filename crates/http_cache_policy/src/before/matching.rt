@@ -1,4 +1,4 @@
-//! Which requests a stored response is the answer to (RFC 7234, sections 4 and 4.1).
+//! Decides which requests a stored response matches (RFC 7234, sections 4 and 4.1).
 ghost use Rattle.std.specs.Prelude.{◌≡◌, true};
 ghost use Rattle.http_cache_fields.specs.Headers.{headers_of};
 ghost use Rattle.http_cache_policy.specs.Match.{varied_values, vary_matches, request_matches, IsForStored};
@@ -10,9 +10,10 @@ use http_cache_fields::directives::get_all_comma;
 use http_cache_fields::headers::{has_same_first, has_same_first_under};
 
 impl CachePolicy {
-    /// Whether the stored response is the answer to a request, once it is fresh or validated: the
-    /// target, the method, Host and what the response varies by are the same (RFC 7234, sections 4
-    /// and 4.1).
+    /// Returns whether the stored response answers a request, once it is fresh or validated.
+    ///
+    /// The target, the method, Host and the fields that Vary names have to match (RFC 7234,
+    /// sections 4 and 4.1).
     #[tactic(auto, unfolding(crate::specs::Match::matches))]
     pub fn matches_request<Req: RequestLike>(&self, req: &Req) -> bool
         ensures value { result ≡ request_matches self.now (Req.seen req.now) }
@@ -25,7 +26,7 @@ impl CachePolicy {
             && *self.stored_method() == *req.method()
     }
 
-    // Whether a request has the values that the stored response varies by.
+    // RFC 7234, section 4.1.
     #[tactic(auto, unfolding(crate::specs::Match::vary_matches))]
     fn vary_matches(&self, headers: &HeaderMap) -> bool
         ensures { result ≡ vary_matches self.now (varied_values self.now (headers_of headers.now)) }

@@ -1,4 +1,4 @@
-//! The request that goes to the origin (RFC 7234, section 4.3.1).
+//! Makes the request to the origin server (RFC 7234, section 4.3.1).
 ghost use Rattle.std.specs.Prelude.{◌≡◌, ◌⊎◌, true, IfOk, IfErr, OnOk, IsErrOf};
 ghost use Rattle.http_cache_fields.specs.Headers.{headers_of};
 ghost use Rattle.http_cache_policy.specs.Stale.{without_conditions, with_stored_tag, with_stored_date};
@@ -21,7 +21,7 @@ use http_cache_fields::pieces::pieces_under;
 use http_cache_rules::filter::filter;
 use std::alloc::{AllocError, Global};
 
-// Takes the conditions away that a stored response could meet.
+// A stored response could meet these conditions.
 fn take_out_conditions(headers: &mut HeaderMap)
     ensures { headers_of headers.new ≡ without_conditions (headers_of headers.old) }
 {
@@ -29,7 +29,7 @@ fn take_out_conditions(headers: &mut HeaderMap)
     remove(headers, IF_MODIFIED_SINCE);
 }
 
-// Leaves strong validators alone. No name is new.
+// No name is new.
 fn leave_strong(alloc: Global, headers: &mut HeaderMap) -> Result<(), AllocError>
     ensures { OnOk result (headers_of headers.new ≡ with_strong_alone (headers_of headers.old)) }
 {
@@ -39,7 +39,6 @@ fn leave_strong(alloc: Global, headers: &mut HeaderMap) -> Result<(), AllocError
 }
 
 impl CachePolicy {
-    // Puts the stored entity tag behind those that are asked for.
     fn add_tag(&self, alloc: Global, headers: &mut HeaderMap) -> Result<(), CacheError>
         ensures ok { OnOk result
             (headers_of headers.new ≡ with_stored_tag self.now (headers_of headers.old)) }
@@ -56,7 +55,6 @@ impl CachePolicy {
         insert(headers, IF_NONE_MATCH, value_of(line.into_bytes())?)
     }
 
-    // Asks for the stored date, where none is asked for.
     fn add_date(&self, alloc: Global, headers: &mut HeaderMap) -> Result<(), CacheError>
         ensures ok { OnOk result (headers_of headers.new
             ≡ with_stored_date self.now (headers_of headers.old)) }
@@ -76,7 +74,6 @@ impl CachePolicy {
         insert(headers, IF_MODIFIED_SINCE, value)
     }
 
-    // Whether a weak validator won't do.
     fn forbids_weak(&self, headers: &HeaderMap) -> bool
         ensures { result ≡ forbids_weak self.now (headers_of headers.now) }
     {
@@ -86,7 +83,6 @@ impl CachePolicy {
             || contains_key(headers, IF_UNMODIFIED_SINCE)
     }
 
-    // Puts the stored validators that will do into the headers that go on.
     fn add_validators(&self, alloc: Global, headers: &mut HeaderMap) -> Result<(), CacheError>
         ensures ok { OnOk result
             (headers_of headers.new ≡ with_validators self.now (headers_of headers.old)) }
@@ -103,7 +99,6 @@ impl CachePolicy {
         self.add_date(alloc, headers)
     }
 
-    // The headers that validate the stored response.
     #[tactic(auto, unfolding(crate::specs::Stale::revalidation_headers, crate::specs::Stale::RefusesRevalidation))]
     fn revalidation_headers(
         &self,
@@ -129,7 +124,6 @@ impl CachePolicy {
         Ok(headers)
     }
 
-    // The headers of the request for the origin.
     fn headers_for_origin(
         &self,
         alloc: Global,
@@ -152,7 +146,7 @@ impl CachePolicy {
         }
     }
 
-    /// The request for the origin.
+    /// Returns the request to the origin server.
     pub(crate) fn request_for_origin(
         &self,
         alloc: Global,

@@ -7,40 +7,38 @@ use http::{HeaderMap, Method, Request, Response, StatusCode, Uri, request, respo
 use http_cache_fields::CacheError;
 use std::alloc::Global;
 
-/// What a cache reads of a request. Each function means one value of the object, the same at
-/// every call.
+/// A request, as a cache reads it. Each function returns one value, on every call.
 pub trait RequestLike {
     ghost seen: { Self → RequestSeen };
 
-    /// A copy of the target. It is refused for want of memory alone.
+    /// Returns a copy of the target URI. The only error is `Memory`.
     fn uri(&self, alloc: Global) -> Result<Uri, CacheError>
         ensures value { IfOk result (λ target. target ≡ (seen self.now).target) }
         ensures only_memory { IsOkUnless result CacheError.Memory };
 
-    /// Whether the target is the other one, as this kind of request compares targets. It need not
+    /// Returns whether the target equals another, as this kind of request compares them. It needn't
     /// agree with `uri`.
     fn is_same_uri(&self, other: &Uri) -> bool
         ensures { result ≡ (seen self.now).is_same_target other.now };
 
-    /// The method.
+    /// Returns the method.
     fn method(&self) -> &Method
         ensures { result.now ≡ (seen self.now).method };
 
-    /// The headers.
+    /// Returns the headers.
     fn headers(&self) -> &HeaderMap
         ensures { headers_of result.now ≡ (seen self.now).headers };
 }
 
-/// What a cache reads of a response. Each function means one value of the object, the same at
-/// every call.
+/// A response, as a cache reads it. Each function returns one value, on every call.
 pub trait ResponseLike {
     ghost seen: { Self → ResponseSeen };
 
-    /// The status.
+    /// Returns the status.
     fn status(&self) -> StatusCode
         ensures { result ≡ (seen self.now).status };
 
-    /// The headers.
+    /// Returns the headers.
     fn headers(&self) -> &HeaderMap
         ensures { headers_of result.now ≡ (seen self.now).headers };
 }

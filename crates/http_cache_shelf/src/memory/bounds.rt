@@ -1,5 +1,5 @@
-//! What is evicted to keep the limits: the oldest responses of the target that was used last, if it is
-//! over a limit by itself, and then the targets that were used longest ago.
+//! Evicts what exceeds the limits. If the target that was used last exceeds a limit by itself, its
+//! oldest responses are evicted first. Then the targets that were used longest ago are.
 ghost use Rattle.std.specs.Prelude.{◌≡◌, ◌≤◌, ◌-◌, ◌⊎◌, length, take};
 ghost use Rattle.http_cache_shelf.specs.Size.{IsAtMost, IsAllowed};
 ghost use Rattle.http_cache_shelf.specs.Memory.{stored_under, AreFewer, KeepsTexts, IsFront, IsBounded, IsHeld, IsFirstText, IsFirstShortened, CanStay};
@@ -28,8 +28,8 @@ fn evict_one(kept: &mut Kept, held: &mut Amount, evicted: &mut Vec<ResponseId>)
     }
 }
 
-// Removes texts, those used longest ago first, until what is left is within the limits, but leaves the
-// one that was used last.
+// Removes the texts that were used longest ago until the rest is within the limits. The text that
+// was used last stays.
 fn evict(kept: &mut Kept, held: &mut Amount, limits: &Limits, evicted: &mut Vec<ResponseId>)
     requires { IsHeld held.old kept.old }
     ensures front { IsFront kept.old.entries kept.new.entries }
@@ -42,8 +42,8 @@ fn evict(kept: &mut Kept, held: &mut Amount, limits: &Limits, evicted: &mut Vec<
     }
 }
 
-// Removes the oldest responses under a text until they are within the limits by themselves, but leaves
-// the newest `stay` in any case.
+// Removes the oldest responses under a text until they are within the limits by themselves. The
+// newest `stay` responses stay.
 fn shorten(
     kept: &mut Kept,
     held: &mut Amount,
@@ -70,8 +70,8 @@ fn shorten(
     }
 }
 
-/// Evicts what is over the limits, and lists the ids of what it evicts. Of the text that was used last
-/// the newest `stay` responses are left in any case.
+/// Evicts what exceeds the limits, and lists the evicted ids. The newest `stay` responses of the
+/// text that was used last stay.
 pub(crate) fn keep_limits(
     kept: &mut Kept,
     held: &mut Amount,

@@ -1,4 +1,4 @@
-//! The limits of a shelf in memory, and what is within them.
+//! The limits of a shelf in memory.
 ghost use Rattle.std.specs.Prelude.{◌≡◌, ◌↔◌, map, false, IsTrue};
 ghost use Rattle.http_cache_shelf.specs.Memory.{seen_of};
 ghost use Rattle.http_cache_shelf.specs.Size.{FitsAlone, FitTogether, IsAllowed};
@@ -8,16 +8,16 @@ use bytes::Bytes;
 use http_cache_policy::policy::CachePolicy;
 use http_cache_storage::StoredResponse;
 
-/// How much a shelf in memory stores at most.
+/// The most that a shelf in memory stores.
 #[derive(Clone, Copy, Debug, PartialEq, Eq)]
 pub struct Limits {
-    /// Stored responses.
+    /// The number of stored responses.
     pub responses: usize,
-    /// Bytes of heads and bodies together.
+    /// The bytes of all heads and bodies.
     pub bytes: u64,
-    /// Bytes of one body. A response with a longer one isn't stored.
+    /// The bytes of one body. A response with a longer body isn't stored.
     pub body: u64,
-    /// Stored responses of one target.
+    /// The number of stored responses of one target.
     pub variants: usize,
 }
 
@@ -52,7 +52,7 @@ impl Limits {
             && total_size(responses) <= u128::from(self.bytes)
     }
 
-    /// Returns whether so much may be stored together.
+    /// Returns whether the amount is within the limits.
     pub(crate) fn allow(&self, held: Amount) -> bool
         ensures { IsTrue result → IsAllowed self.now held }
     {

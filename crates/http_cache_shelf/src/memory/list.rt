@@ -1,7 +1,7 @@
-//! The stored responses of one target, newest first.
+//! The stored responses of one target, newest first. No function here knows the target's text.
 //!
-//! No function here knows under which text the list is kept. A call that may drop a policy is in a
-//! function of its own, since the prover looks into all that a dropped response holds.
+//! Each call that may drop a policy is in a separate function, since the prover looks into all that
+//! a dropped response holds.
 ghost use Rattle.std.specs.Prelude.{◌≡◌, ◌-◌, ◌<◌, ◌≤◌, ◌∷◌, [], ℕ, length, map, take, not, nat_eq, vec_len, vec_capacity, option_copied, is_some, position, IsOk, IfOk, OnOk, OnErr};
 ghost use Rattle.std.specs.List.{filter, find, list_any};
 ghost use Rattle.http_cache_messages.specs.Worth.{can_be_used_again};
@@ -20,13 +20,12 @@ use lru::LruCache;
 use std::alloc::{AllocError, Global};
 use std::hash::RandomState;
 
-/// What is stored for one target, newest first.
 #[derive(Drop)]
 pub(crate) struct StoredList {
     pub(crate) responses: Vec<StoredResponse>,
 }
 
-/// The lists under the texts of their targets, the text that was used last first.
+/// The lists under the texts of their targets. The text that was used last is first.
 pub(crate) type Kept = LruCache<String, StoredList, RandomState>;
 
 fn is_among(ids: &[ResponseId], id: ResponseId) -> bool
@@ -51,7 +50,7 @@ fn drop_unusable(responses: &mut Vec<StoredResponse>, now: Timestamp)
     responses.retain(|stored| can_be_used_again(&stored.policy, now));
 }
 
-// Lists an id. If there is no memory for it, the list of ids is left as it is.
+// Lists an id, unless there is no memory for it.
 fn note(ids: &mut Vec<ResponseId>, id: ResponseId) {
     let _listed = ids.push(id);
 }
@@ -66,8 +65,8 @@ fn drop_oldest(responses: &mut Vec<StoredResponse>, evicted: &mut Vec<ResponseId
     }
 }
 
-// Drops the oldest responses until the rest is within the limits by itself, but leaves the newest `stay`
-// in any case. Lists the ids of those that it drops.
+// Drops the oldest responses until the rest is within the limits by itself, and lists their ids.
+// The newest `stay` responses stay.
 fn drop_until(
     responses: &mut Vec<StoredResponse>,
     stay: usize,
@@ -95,7 +94,6 @@ fn push_newest(
     Ok(())
 }
 
-/// Returns a list of one response.
 pub(crate) fn list_of_one(alloc: Global, stored: StoredResponse) -> Result<StoredList, ShelfError>
     ensures { IfOk result (λ list. list.responses.items ≡ stored ∷ []) }
 {
@@ -104,7 +102,7 @@ pub(crate) fn list_of_one(alloc: Global, stored: StoredResponse) -> Result<Store
     Ok(StoredList { responses })
 }
 
-// The body of a stored response, which a shelf in memory always has.
+// Returns the body, which a shelf in memory always has.
 fn body_of(stored: &StoredResponse) -> Result<Bytes, AllocError>
     ensures { IfOk result (λ body. body ≡ (seen_of stored.now).body) }
 {
@@ -126,7 +124,7 @@ fn index_of(responses: &[StoredResponse], id: ResponseId) -> Option<usize>
     responses.iter().position(|stored| stored.id == id)
 }
 
-/// Returns the body of the first response of an id.
+/// Returns the body of the first response that has the id.
 pub(crate) fn body_among(
     responses: &[StoredResponse],
     id: ResponseId,
@@ -145,7 +143,6 @@ fn replace_policy(stored: &mut StoredResponse, policy: CachePolicy)
     stored.policy = policy;
 }
 
-// Replaces the policy of the response at an index.
 fn set_policy_at(responses: &mut Vec<StoredResponse>, at: usize, policy: CachePolicy)
     requires { at < length responses.old.items }
     ensures { IsRenewedAt at policy responses.old.items responses.new.items }
@@ -156,7 +153,7 @@ fn set_policy_at(responses: &mut Vec<StoredResponse>, at: usize, policy: CachePo
 impl StoredList {
     ghost use Rattle.http_cache_shelf.specs.Memory.{all_seen, usable};
 
-    /// Returns how much the list counts for.
+    /// Returns the amount of the listed responses.
     pub(crate) fn amount(&self) -> Amount
         ensures amount { IsAmountOf result (all_seen self.now) }
         ensures list { IsOfList result }
@@ -167,7 +164,7 @@ impl StoredList {
         }
     }
 
-    /// Removes the responses of some ids.
+    /// Removes the responses that have one of the ids.
     pub(crate) fn remove(&mut self, ids: &[ResponseId])
         ensures stored { all_seen self.new ≡ without ids.now (all_seen self.old) }
         ensures length { vec_len self.new.responses ≤ vec_len self.old.responses }
@@ -176,7 +173,7 @@ impl StoredList {
         drop_ids(&mut self.responses, ids);
     }
 
-    /// Removes what can't be used again at a time.
+    /// Removes the responses that can't be used again at `now`.
     pub(crate) fn sweep(&mut self, now: Timestamp)
         ensures { all_seen self.new ≡ usable now.nanosecond (all_seen self.old) }
     {
@@ -199,7 +196,7 @@ impl StoredList {
         Ok(())
     }
 
-    /// Replaces the policy of the first response of an id, and returns whether there is one.
+    /// Replaces the policy of the first response that has the id, and returns whether there is one.
     pub(crate) fn set_policy(&mut self, id: ResponseId, policy: CachePolicy) -> bool
         ensures stored { all_seen self.new ≡ renewed id.0 policy (all_seen self.old) }
         ensures was_stored { result ≡ has_id id.0 (all_seen self.old) }
@@ -212,8 +209,8 @@ impl StoredList {
         true
     }
 
-    /// Removes the oldest responses until the rest is within the limits by itself, but leaves the newest
-    /// `stay` in any case. Lists the ids of those that it removes.
+    /// Removes the oldest responses until the rest is within the limits by itself, and lists their
+    /// ids. The newest `stay` responses stay.
     pub(crate) fn shorten(&mut self, stay: usize, limits: &Limits, evicted: &mut Vec<ResponseId>)
         ensures left { AreLeft stay (all_seen self.old) (all_seen self.new) }
         ensures fits { FitTogether limits.now (take stay (all_seen self.old))
@@ -222,7 +219,6 @@ impl StoredList {
         drop_until(&mut self.responses, stay, limits, evicted);
     }
 
-    /// Lists the ids of all responses.
     pub(crate) fn list_ids(&self, ids: &mut Vec<ResponseId>) {
         for stored in self.responses.as_slice() {
             note(ids, stored.id);

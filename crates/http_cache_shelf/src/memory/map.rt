@@ -1,7 +1,8 @@
-//! Changes of the map from texts to lists, each with what is stored under every text after it.
+//! Changes of the map from texts to lists. Each function calls the map once, and its contract says
+//! what is stored under every text. None of them knows limits; `held` stays the amount of what is
+//! stored.
 //!
-//! Each function calls the map once. A look-up by `&str` is one that std's lemmas on texts read. The
-//! functions know nothing of limits. Those that change what is stored keep `held` the amount of it.
+//! Look-ups are by `&str`, since std's lemmas on texts are about it.
 ghost use Rattle.std.specs.Prelude.{◌≡◌, ◌∷◌, [], true, false, None, OnOk, OnErr, IsTrue, string_bytes, map};
 ghost use Rattle.std.specs.Map.{lookup};
 ghost use Rattle.http_cache_storage.specs.Shelf.{without, renewed, has_id, RemovesThese, ShowsAll};
@@ -26,7 +27,7 @@ pub(crate) fn promote(kept: &mut Kept, text: &str)
     let _is_kept = kept.promote(text);
 }
 
-/// Returns what is stored under a text if it was used last, and else nothing.
+/// Returns what is stored under a text if it was used last, and otherwise nothing.
 pub(crate) fn first_stored<'a>(kept: &'a Kept, text: &str) -> &'a [StoredResponse]
     ensures { is_last_used kept.now.entries text.now
         → ShowsAll result.now (stored_under kept.now.entries text.now) }
@@ -49,7 +50,7 @@ pub(crate) fn remove_text(kept: &mut Kept, held: &mut Amount, text: &str)
     ensures held { IsHeld held.new kept.new }
     ensures less { IsAtMost held.new held.old }
 {
-    // The length comes with the proof that no text is a key twice.
+    // The length comes with the proof that all keys are different.
     let _length = kept.len();
     match kept.pop(text) {
         Some(list) => {
@@ -74,7 +75,6 @@ pub(crate) fn remove_texts(kept: &mut Kept, held: &mut Amount, targets: &[Target
     }
 }
 
-// Whether a text is a key with an empty list.
 fn is_spent(kept: &Kept, text: &str) -> bool
     ensures { result ≡ true → stored_under kept.now.entries text.now ≡ [] }
 {
@@ -84,7 +84,7 @@ fn is_spent(kept: &Kept, text: &str) -> bool
     }
 }
 
-/// Removes a text if its list is empty, so that it isn't counted as used.
+/// Removes a text if its list is empty, so that it doesn't count as used.
 pub(crate) fn tidy(kept: &mut Kept, held: &mut Amount, text: &str)
     requires { IsHeld held.old kept.old }
     ensures stored { stored_under kept.new.entries ≡ stored_under kept.old.entries }
@@ -97,7 +97,6 @@ pub(crate) fn tidy(kept: &mut Kept, held: &mut Amount, text: &str)
     }
 }
 
-/// Removes responses under a text by their ids.
 pub(crate) fn remove_ids(kept: &mut Kept, held: &mut Amount, text: &str, ids: &[ResponseId])
     requires { IsHeld held.old kept.old }
     ensures stored { HasUnder text.now (without ids.now (stored_under kept.old.entries text.now))
@@ -116,8 +115,8 @@ pub(crate) fn remove_ids(kept: &mut Kept, held: &mut Amount, text: &str, ids: &[
     }
 }
 
-/// Replaces the policy of the first response of an id under a text, which is then the one used last.
-/// Returns whether there is such a response.
+/// Replaces the policy of the first response that has the id, and returns whether there is one. The
+/// text becomes the one that was used last.
 pub(crate) fn set_policy(
     kept: &mut Kept,
     held: &mut Amount,
@@ -149,7 +148,6 @@ pub(crate) fn set_policy(
     }
 }
 
-// Puts a list under a key that isn't there.
 fn put_key(
     kept: &mut Kept,
     held: &mut Amount,
@@ -165,7 +163,7 @@ fn put_key(
     ensures held { IsHeld held.new kept.new }
     ensures less { OnErr result (IsAtMost held.new held.old) }
 {
-    // The length comes with the proof that the map has room for one key more.
+    // The length comes with the proof that the map has room for one more key.
     let _length = kept.len();
     let added = list.amount();
     drop(kept.put(key, list)?);
@@ -173,7 +171,6 @@ fn put_key(
     Ok(())
 }
 
-// Puts a response under a text that isn't a key.
 fn put_new(
     kept: &mut Kept,
     alloc: Global,
@@ -196,8 +193,8 @@ fn put_new(
     Ok(())
 }
 
-/// Stores a response as the newest under a text, which is then the one used last, and removes the
-/// superseded ones.
+/// Stores a response as the newest under a text, and removes the superseded ones. The text becomes
+/// the one that was used last.
 pub(crate) fn put_stored(
     kept: &mut Kept,
     alloc: Global,

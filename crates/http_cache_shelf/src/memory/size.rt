@@ -1,4 +1,4 @@
-//! How much is stored: a number of responses, and the bytes that they count for.
+//! How much is stored: the number of responses and their bytes.
 ghost use Rattle.std.specs.Prelude.{◌≡◌, ◌<◌, ◌≤◌, ◌*◌, ◌-◌, ◌^◌, min, length, map};
 ghost use Rattle.std.specs.List.{sum_by};
 ghost use Rattle.http_cache_fields.specs.Headers.{headers_of};
@@ -10,9 +10,8 @@ use http::HeaderMap;
 use http_cache_policy::policy::CachePolicy;
 use http_cache_storage::StoredResponse;
 
-/// A number of stored responses, and the bytes that they count for.
-///
-/// Both have room for what the limits allow and one list of responses more.
+/// A number of stored responses and of their bytes. Both fields have room for the limits plus one
+/// list.
 #[derive(Clone, Copy)]
 pub(crate) struct Amount {
     pub(crate) responses: u128,
@@ -29,7 +28,7 @@ impl Amount {
         }
     }
 
-    /// Takes away what a list counted for, and adds what is left of it.
+    /// Subtracts the amount of a list, and adds the smaller amount that is left of it.
     pub(crate) fn reduce(&mut self, before: Amount, after: Amount)
         requires held { IsAtMost before self.old }
         requires less { IsAtMost after before }
@@ -39,7 +38,7 @@ impl Amount {
         self.bytes -= before.bytes - after.bytes;
     }
 
-    /// Takes away what a list counted for, and adds what it counts for now.
+    /// Subtracts the amount of a list, and adds its new amount.
     pub(crate) fn change(&mut self, before: Amount, after: Amount)
         requires held { IsAtMost before self.old }
         requires small { IsSmall self.old }
@@ -54,7 +53,7 @@ impl Amount {
 fn head_size(headers: &HeaderMap) -> u64
     ensures { result ≡ min (headers_size (headers_of headers.now)) (2 ^ 64 - 1) }
 {
-    // The length comes with the proof that no name is there twice.
+    // The length comes with the proof that all names are different.
     let _length = headers.len();
     let mut size = 0u64;
     for (name, value) in headers.iter() {
@@ -81,7 +80,7 @@ fn stored_size(stored: &StoredResponse) -> u64
     }
 }
 
-/// Returns the bytes of some stored responses together.
+/// Returns the bytes of all these responses.
 pub(crate) fn total_size(responses: &[StoredResponse]) -> u128
     ensures sum { result ≡ sum_by size_of (map seen_of responses.now) }
     ensures fits { result ≤ length responses.now * (2 ^ 64 - 1) }

@@ -1,7 +1,6 @@
-//! The state of a shelf in memory, and the changes of it that are made in more than one call.
-//!
-//! The struct counts what is stored and assigns the ids. Its ghost fields say that what is stored is
-//! within the limits after every call.
+//! The state of a shelf in memory, and the changes of it that several calls make. The struct counts
+//! what is stored and assigns the ids. Its ghost fields say that what is stored is always within
+//! the limits.
 ghost use Rattle.std.specs.Prelude.{◌≡◌, ◌<◌, ◌≤◌, ◌↔◌, ℕ, List, string_capacity, IsTrue, OnOk, OnErr};
 ghost use Rattle.http_cache_storage.specs.Shelf.{without, AreIdsBelow, IsPutFirst, KeepsOthers, KeepsAll};
 ghost use Rattle.http_cache_storage.specs.Target.{text_of};
@@ -21,12 +20,11 @@ use std::alloc::Global;
 
 /// Stored responses in memory, which are lost when the process ends.
 ///
-/// After every call what is stored is within the limits. If the target that was used last is over a
-/// limit by itself, the shelf evicts the oldest responses of that target. Then it evicts targets, with
-/// all their responses, the one that was used longest ago first. A new response that alone is over a
-/// limit isn't stored.
+/// After every call what is stored is within the limits. A target that was used last and exceeds a
+/// limit by itself loses its oldest responses. Then whole targets are evicted, the one that was
+/// used longest ago first. A new response that alone exceeds a limit isn't stored.
 ///
-/// Only `put`, `restore` and `body` return errors, when out of memory.
+/// Only `put`, `restore` and `body` return errors, if there is not enough memory.
 ///
 ///     let limits = Limits {
 ///         body: 3,
@@ -37,14 +35,14 @@ use std::alloc::Global;
 pub struct MemoryShelf {
     pub(crate) alloc: Global,
     pub(crate) limits: Limits,
-    // The stored responses under the text of their target, the text that was used last first.
+    // The stored responses under the texts of their targets. The text that was used last is first.
     pub(crate) kept: Kept,
-    // How much `kept` holds.
+    // The amount of `kept`.
     pub(crate) held: Amount,
-    // Has room for the longest text in `kept`, so that `sweep` takes no memory.
+    // It has room for the longest text in `kept`, so that `sweep` allocates nothing.
     pub(crate) buffer: String,
     pub(crate) next_id: u64,
-    // What the last `put`, `renew` or `restore` evicted.
+    // The ids that the last `put`, `renew` or `restore` evicted.
     pub(crate) evicted: Vec<ResponseId>,
     ghost ids_below: { (text : List ℕ) → AreIdsBelow next_id (stored_under kept.entries text) },
     ghost has_room: { AreTextsWithin (string_capacity buffer) kept.entries },
@@ -54,7 +52,7 @@ pub struct MemoryShelf {
 }
 
 impl MemoryShelf {
-    /// Returns how much is stored. Both numbers are within limits of 64 bits.
+    /// Returns how much is stored. Both numbers are below 2^64.
     pub(crate) fn amount(&self) -> Amount
         ensures held { result ≡ self.now.held }
         ensures small { IsSmall result }
@@ -64,14 +62,14 @@ impl MemoryShelf {
         self.held
     }
 
-    /// Returns whether an id may be assigned.
     pub(crate) fn is_next(&self, id: ResponseId) -> bool
         ensures { IsTrue result ↔ (self.now.next_id ≤ id.0) × (id.0 < u64.MAX) }
     {
         self.next_id <= id.number() && id.number() < u64::MAX
     }
 
-    /// Stores a response under an id, removes the superseded ones, and evicts what is over the limits.
+    /// Stores a response under an id, removes the superseded ones, and evicts what exceeds the
+    /// limits.
     pub(crate) fn store(
         &mut self,
         target: &Target,
@@ -99,7 +97,7 @@ impl MemoryShelf {
             body: Some(body),
         };
         let text = target.as_str();
-        // The amount comes with the proof that there is room to count one response more.
+        // The amount comes with the proof that there is room to count one more response.
         let _amount = self.amount();
         make_room(&mut self.buffer, text.len())?;
         put_stored(
@@ -122,7 +120,6 @@ impl MemoryShelf {
         Ok(())
     }
 
-    /// Removes responses of a target by their ids.
     pub(crate) fn remove_ids(&mut self, target: &Target, ids: &[ResponseId])
         ensures stored { HasUnder (text_of target.now)
             (without ids.now (stored_under self.old.kept.entries (text_of target.now)))

@@ -1,7 +1,7 @@
-//! Removes under every text what can't be used again, in one round over the map.
+//! Removes what can't be used again under every text, in one round over the map.
 //!
-//! The map lends a list only by its key, so each turn copies the key of the last entry into a buffer,
-//! sweeps that entry and makes it the first. After as many turns as entries the order is as before.
+//! The map lends a list only by its key. So each turn copies the key of the last entry into a
+//! buffer, sweeps that entry and makes it the first. The round restores the order.
 ghost use Rattle.std.specs.Prelude.{◌≡◌, ◌⊎◌, ◌<◌, ◌≤◌, [], true, length, slice_get, string_bytes, string_capacity, IfSome, OnOk, OnErr};
 ghost use Rattle.http_cache_storage.specs.Shelf.{IsSwept};
 ghost use Rattle.http_cache_shelf.specs.Memory.{stored_under, all_seen, AreTextsWithin, IsLastText, IsTurned, IsTurnedOrRemoved, IsFirstDropped, IsHeld};
@@ -13,11 +13,11 @@ use crate::memory::size::Amount;
 use jiff::Timestamp;
 use std::alloc::AllocError;
 
-/// Empties a buffer and makes room in it for a text of some length.
+/// Empties a buffer, and makes room in it for a text of `length` bytes.
 ///
 /// # Errors
 ///
-/// Returns `AllocError` when out of memory.
+/// `AllocError` if there is not enough memory.
 pub(crate) fn make_room(buffer: &mut String, length: usize) -> Result<(), AllocError>
     ensures room { OnOk result (length ≤ string_capacity buffer.new) }
     ensures capacity { string_capacity buffer.old ≤ string_capacity buffer.new }
@@ -26,7 +26,6 @@ pub(crate) fn make_room(buffer: &mut String, length: usize) -> Result<(), AllocE
     buffer.reserve(length)
 }
 
-// Copies a text into a buffer that has room for it.
 fn copy_text(buffer: &mut String, text: &str)
     requires { length text.now ≤ string_capacity buffer.old }
     ensures bytes { string_bytes buffer.new ≡ text.now }
@@ -60,7 +59,7 @@ fn turn(kept: &mut Kept, held: &mut Amount, text: &str, now: Timestamp)
     ensures held { IsHeld held.new kept.new }
     ensures less { IsAtMost held.new held.old }
 {
-    // The length comes with the proof that no text is a key twice.
+    // The length comes with the proof that all keys are different.
     let _length = kept.len();
     match kept.get_mut(text) {
         Some(list) => {
@@ -72,7 +71,6 @@ fn turn(kept: &mut Kept, held: &mut Amount, text: &str, now: Timestamp)
     }
 }
 
-// Whether the list of the text that was used last is empty.
 fn is_first_spent(kept: &Kept) -> bool
     ensures { result ≡ true → IfSome (slice_get kept.now.entries 0) (λ e. all_seen e.1 ≡ []) }
 {
@@ -93,7 +91,7 @@ fn tidy_first(kept: &mut Kept)
     }
 }
 
-// Sweeps the last entry, and removes it if nothing of it is left.
+// Sweeps the last entry, and removes it if its list is then empty.
 fn sweep_last(kept: &mut Kept, held: &mut Amount, buffer: &mut String, now: Timestamp)
     requires some { 0 < length kept.old.entries }
     requires room { AreTextsWithin (string_capacity buffer.old) kept.old.entries }
@@ -108,8 +106,8 @@ fn sweep_last(kept: &mut Kept, held: &mut Amount, buffer: &mut String, now: Time
     tidy_first(kept);
 }
 
-/// Removes under every text what can't be used again at a time. The buffer has room for each text, so
-/// no memory is taken.
+/// Removes what can't be used again at `now` under every text. It allocates nothing, since the
+/// buffer has room for each text.
 pub(crate) fn sweep_all(kept: &mut Kept, held: &mut Amount, buffer: &mut String, now: Timestamp)
     requires room { AreTextsWithin (string_capacity buffer.old) kept.old.entries }
     requires held { IsHeld held.old kept.old }

@@ -1,4 +1,4 @@
-//! What a command answers.
+//! Runs a command, and returns what it prints.
 use anyhow::anyhow;
 use bytes::Bytes;
 use http::header::HOST;
@@ -13,7 +13,6 @@ fn field(line: &str, at: usize) -> anyhow::Result<&str> {
     line.split('|').nth(at).ok_or(anyhow!("no such field"))
 }
 
-// The headers of a request to a host, if there is one.
 fn headers_to(alloc: Global, host: &str) -> anyhow::Result<HeaderMap> {
     let mut headers = HeaderMap::new(alloc);
     if !host.is_empty() {
@@ -22,7 +21,7 @@ fn headers_to(alloc: Global, host: &str) -> anyhow::Result<HeaderMap> {
     Ok(headers)
 }
 
-// The target of `URI`, or of `URI HOST`.
+// Returns the target of `URI`, or of `URI HOST`.
 fn target_of(alloc: Global, text: &str) -> anyhow::Result<Target> {
     let (uri, host) = text.split_once(' ').unwrap_or((text, ""));
     let headers = headers_to(alloc, host)?;
@@ -37,7 +36,7 @@ fn id_of(text: &str) -> anyhow::Result<ResponseId> {
     Ok(ResponseId::new(text.parse::<u64>()?))
 }
 
-// The ids of a list with commas, which may be empty.
+// Returns the ids in a list with commas, which may be empty.
 fn ids_of(alloc: Global, text: &str) -> anyhow::Result<Vec<ResponseId>> {
     let mut ids = Vec::new(alloc);
     for word in text.split(',') {
@@ -121,7 +120,6 @@ fn sweep<S: Shelf>(alloc: Global, shelf: &mut S, second: &str) -> anyhow::Result
     Ok(format!(in alloc; "swept {swept}")?)
 }
 
-// What a command on a target answers.
 fn run_under<S: Shelf>(
     alloc: Global,
     shelf: &mut S,
@@ -146,7 +144,7 @@ fn run<S: Shelf>(alloc: Global, shelf: &mut S, line: &str) -> anyhow::Result<Str
     run_under(alloc, shelf, target_of(alloc, argument)?, line)
 }
 
-/// Returns what a command answers, without a line feed at its end.
+/// Returns what a command prints, without a line feed at its end.
 pub fn answer_to<S: Shelf>(alloc: Global, shelf: &mut S, line: &str) -> anyhow::Result<String> {
     match run(alloc, shelf, line) {
         Ok(answer) => Ok(answer),

@@ -1,4 +1,4 @@
-//! Pages of 1 kB under targets of their own, and requests for them.
+//! Pages of 1 kB, each with its own target, and requests for them.
 use bytes::Bytes;
 use http::header::{
     CACHE_CONTROL, CONTENT_TYPE, DATE, ETAG, HeaderName, HeaderValue, LAST_MODIFIED, SERVER, VARY,
@@ -9,7 +9,6 @@ use http_cache_shelf::{Shelf, Target};
 use jiff::Timestamp;
 use std::alloc::Global;
 
-// The fields of each page.
 const FIELDS: [(HeaderName, &str); 7] = [
     (CACHE_CONTROL, "public, max-age=31536000"),
     (CONTENT_TYPE, "text/html; charset=utf-8"),
@@ -20,10 +19,9 @@ const FIELDS: [(HeaderName, &str); 7] = [
     (VARY, "accept-encoding"),
 ];
 
-// The bytes of a page.
 const PAGE: [u8; 1000] = [b'x'; 1000];
 
-/// Returns the time at which all pages are received and asked for: 2024-01-01T00:00:00Z.
+/// Returns the time at which all pages are received and requested: 2024-01-01T00:00:00Z.
 pub fn start() -> anyhow::Result<Timestamp> {
     Ok(Timestamp::from_second(1_704_067_200)?)
 }
@@ -76,7 +74,7 @@ fn store_page<S: Shelf>(alloc: Global, shelf: &mut S, number: u64) -> anyhow::Re
     store(alloc, shelf, &asking)
 }
 
-/// Stores so many pages, and returns how many were stored.
+/// Stores pages, and returns how many were stored.
 pub fn fill<S: Shelf>(alloc: Global, shelf: &mut S, count: u64) -> anyhow::Result<u64> {
     let mut stored = 0u64;
     for number in 0..count {

@@ -9,7 +9,7 @@ use std::alloc::Global;
 // A prime near the golden ratio of 2^32, so that successive requests are for pages far apart.
 const STEP: u64 = 2_654_435_761;
 
-/// Returns requests for pages among so many.
+/// Returns requests for pages with numbers below `count`.
 pub fn requests(alloc: Global, count: u64, hits: u64) -> anyhow::Result<Vec<Request<Bytes>>> {
     let mut requests = Vec::new(alloc);
     for number in 0..hits {
@@ -23,7 +23,7 @@ fn is_answer(decision: Decision) -> bool {
     matches!(decision, Decision::Answer(_))
 }
 
-/// Asks for each page, and returns how many of the requests were answered from the shelf.
+/// Sends each request, and returns how many were answered from the shelf.
 pub fn answered<S: Shelf + Drop>(
     alloc: Global,
     client: &mut Client<S>,

@@ -1,4 +1,4 @@
--- Recorded values are texts exactly where each of them is seen as one.
+-- The recorded values are texts exactly if each is seen as one.
 use Rattle.std.proofs.Common.{◌∙◌, rules, is_some}
 use Rattle.std.proofs.lemmas.Iterator.{YieldsList-from_slice}
 use Rattle.std.proofs.lemmas.Iterator.Search.{all_from_yields_List}

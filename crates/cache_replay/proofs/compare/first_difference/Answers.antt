@@ -1,4 +1,4 @@
--- No difference is found exactly where the recorded values are the lines of the text.
+-- There is no difference exactly if the recorded values are the lines of the text.
 use Rattle.std.proofs.Common.{true≢false, get_or, map, sym, ap, ◌∙◌}
 use Rattle.std.specs.Str.Iter.{lines_rest}
 use Rattle.std.specs.Str.Lines.{lines}

@@ -1,4 +1,4 @@
--- The recorded values are the lines so far, and then the rest.
+-- In the loop: the recorded values are the lines so far, and then the rest.
 use Rattle.std.proofs.Common.{◌≡◌, ◌++◌, map}
 use Rattle.cache_replay.proofs.CompareLemmas.{texts, shown}
 use Rattle.cache_replay.proofs.compare.first_difference.Given as goal

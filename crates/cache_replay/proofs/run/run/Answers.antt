@@ -1,4 +1,4 @@
--- The verdict on one line more, when it is added, makes the tally of the lines so far.
+-- Adding the verdict on one more line makes the tally of the lines so far.
 use Rattle.std.proofs.Common.{rules, arith}
 use Rattle.std.proofs.lemmas.Grind.{common_steps}
 use Rattle.cache_replay.proofs.TallyLemmas.{no_lines, one_at_most, next_tally}

@@ -1,4 +1,4 @@
--- The tally is that of the lines so far, and counts no more lines than were read.
+-- In the loop: the tally is of the lines so far, and counts no more lines than were read.
 use Rattle.std.proofs.Common.{◌+◌, ◌<◌}
 use Rattle.cache_replay.proofs.TallyLemmas.{HasTally}
 use Rattle.cache_replay.proofs.run.run.Given as goal

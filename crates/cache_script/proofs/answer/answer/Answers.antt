@@ -1,4 +1,5 @@
--- The text is the script's only output; but for memory, the cache refuses where its steps stop.
+-- The text is the script's only output. Except for memory, an error means that its steps stop
+-- there.
 use Rattle.std.proofs.Common.{rules, string_bytes}
 use Rattle.cache_script.specs.Script.{ScriptSeen, script_seen, start_of}
 use Rattle.http_cache_policy.specs.RunStops.{RefusesStep, HasUndatedStep, LosesTarget, StopsFor}

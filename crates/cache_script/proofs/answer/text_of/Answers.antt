@@ -1,11 +1,11 @@
--- Each stored response that the steps use has an age, and the lines are those of their outcomes.
+-- Each stored response that the steps use has an age, and the lines are the outcomes'.
 use Rattle.std.proofs.Common.{List, map, string_bytes, ap, sym, subst}
 use Rattle.std.specs.List.{AllByRecursion}
 use Rattle.http_cache_policy.specs.Steps.{outcome_seen}
 use Rattle.http_cache_policy.specs.declared.steps.Outcome.{Outcome}
 use Rattle.cache_script.specs.Script.{script_seen}
 use Rattle.cache_script.specs.Steps.{script_step_seen}
-use Rattle.cache_script.specs.Lines.{first_line, AreLinesBehind, HasAge}
+use Rattle.cache_script.specs.Lines.{first_line, AreLinesAfter, HasAge}
 use Rattle.cache_script.proofs.AgeLemmas.{run-has_ages}
 use Rattle.cache_script.proofs.JoinLemmas.{output_of}
 use Rattle.cache_script.proofs.answer.text_of.Goals as goal
@@ -24,5 +24,5 @@ returns-clause-text c =
     let text = string_bytes c.in_ok-lines_of.field-0 in
     output_of s c.args.policy.now _ c.in_ok-outcomes.outcomes.items run.0 text c.requires
     (ap (map script_step_seen) c.as_slice.ensures.value) run.1.run
-    (subst (λ (os : List Outcome). AreLinesBehind (map outcome_seen os) (first_line c.args.policy.now s.received) text)
+    (subst (λ (os : List Outcome). AreLinesAfter (map outcome_seen os) (first_line c.args.policy.now s.received) text)
     c.as_slice-2.ensures.value c.in_ok-lines_of.ensures)

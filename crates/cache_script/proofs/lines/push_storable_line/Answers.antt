@@ -1,4 +1,4 @@
--- The line has the seconds that are left, a point and nine digits for the nanoseconds.
+-- The line has the remaining seconds, a point and nine digits for the nanoseconds.
 use Rattle.std.proofs.Common.{◌∙◌, ap, ◌++◌, string_bytes}
 use Rattle.std.specs.Duration.{as_nanos}
 use Rattle.std.proofs.lemmas.Result.{on_ok_weaker}

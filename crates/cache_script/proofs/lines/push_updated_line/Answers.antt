@@ -1,4 +1,4 @@
--- What is written is the line of the answer and its status.
+-- The text gets the line of the answer and its status.
 use Rattle.std.proofs.Common.{◌∙◌, ◌++◌, ap, string_bytes}
 use Rattle.std.proofs.lemmas.Result.{on_ok_weaker}
 use Rattle.cache_script.proofs.LineLemmas.{not_modified_line, modified_line}

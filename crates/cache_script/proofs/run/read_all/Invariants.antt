@@ -1,4 +1,4 @@
--- So far each read gave a byte at least, and all that came is kept and is not too long.
+-- In the loop: each read returned at least one byte, and all bytes are kept and not too many.
 use Rattle.std.proofs.Common.{◌≤◌, length}
 use Rattle.std.specs.Io.KnownBytes.{Consumes}
 use Rattle.cache_script.specs.Script.{longest_script}

@@ -1,4 +1,4 @@
--- Where all is written, the reader gave a script, and the writer took its only output.
+-- If all is written, the reader's bytes are a script, and the writer has its only output.
 use Rattle.std.proofs.Common.{List, ℕ, string_bytes, refl, subst}
 use Rattle.std.specs.Io.KnownBytes.{Appends}
 use Rattle.cache_script.specs.Output.{IsAnswered}

@@ -1,4 +1,4 @@
--- Each write takes a front of what is left; where one fails, only a beginning has gone out.
+-- Each write takes the first of the bytes left. If one fails, only a beginning was written.
 use Rattle.std.proofs.Common.{◌≡◌, ℕ, ◌-◌, ◌<◌, List, [], ◌++◌, Option, arith, length, take, drop}
 use Rattle.std.proofs.Common.{sym, ap, subst, ◌∙◌, append_assoc, append-nil, length-append}
 use Rattle.std.proofs.Common.{take-append-drop}
@@ -18,7 +18,6 @@ moves_front all done rest n e =
     ∙ sym (append_assoc done (take n rest) (drop n rest))
     ∙ ap (λ l. (done ++ take n rest) ++ l) (sym (take_rest rest n))
 
--- what went out is a beginning where something is left
 begins : (before after : Option (List ℕ)) (all done rest : List ℕ) → all ≡ done ++ rest → 0 < length rest
     → Appends before after done → IsBegun before after all
 begins before after all done rest e some went =

@@ -1,4 +1,4 @@
--- The bytes are those that went out and those left; a writer that never fails stays one.
+-- In the loop: the bytes are those written and those left. A writer that never fails stays one.
 use Rattle.std.proofs.Common.{◌≡◌, ℕ, List, ◌++◌, length}
 use Rattle.std.specs.Io.KnownBytes.{Appends}
 use Rattle.cache_script.proofs.run.write_out.Given as goal

@@ -1,4 +1,4 @@
--- A look-up gives the first value.
+-- A look-up returns the first value.
 use Rattle.std.proofs.Common.{◌≡◌, ◌∙◌, Bor, Option, Some, None, option_copied, option_map, refl, sym, ap}
 use Rattle.http_header.specs.FieldValue.{FieldValue}
 use Rattle.http_cache_fields.proofs.HeadersLemmas.{first-headers_of}

@@ -1,4 +1,4 @@
--- The names so far are taken over.
+-- In the loop: the names so far have their stored values.
 use Rattle.std.proofs.Common.{◌≡◌, take}
 use Rattle.http_cache_fields.specs.Headers.{headers_of}
 use Rattle.http_cache_audit.specs.Assume.{all_taken_over}

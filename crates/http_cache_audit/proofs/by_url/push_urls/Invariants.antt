@@ -1,4 +1,4 @@
--- The objects of the indices so far are written.
+-- In the loop: the objects of the indices so far are written.
 use Rattle.std.proofs.Common.{◌≡◌, ◌++◌, map, take, string_bytes}
 use Rattle.std.specs.List.{flat_map}
 use Rattle.http_cache_audit.specs.Row.{row_seen}

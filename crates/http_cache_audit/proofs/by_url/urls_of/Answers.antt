@@ -1,4 +1,4 @@
--- One row more is counted, and listed if it is the first of its url.
+-- One more row is counted, and listed if it is the first of its url.
 use Rattle.std.proofs.Common.{rules, arith, refl, ◌≡◌, ◌≤◌, ◌∙◌, sym, ap, subst, ℕ, ◌++◌, List, length, map, take, Some, option_map, slice_get, codes}
 use Rattle.std.specs.List.{flat_map, enumerate_from}
 use Rattle.std.proofs.lemmas.List.{length-map, take_all, take-map}

@@ -1,4 +1,4 @@
--- The rows so far are counted, and the first of each url is listed.
+-- In the loop: the rows so far are counted, and the first of each url is listed.
 use Rattle.std.proofs.Common.{◌≡◌, map, take}
 use Rattle.std.specs.List.{flat_map, enumerate_from}
 use Rattle.http_cache_audit.specs.Row.{row_seen}

@@ -1,4 +1,4 @@
--- The changes so far are made.
+-- In the loop: the changes so far are made.
 use Rattle.std.proofs.Common.{◌≡◌, map, take, fold}
 use Rattle.http_cache_recording.specs.Entry.{recorded_seen}
 use Rattle.http_cache_audit.specs.Change.{change_seen, changed_by}

@@ -1,4 +1,4 @@
--- What was changed so far with what is left is all.
+-- In the loop: the changed entries and those left are all.
 use Rattle.std.proofs.Common.{◌≡◌, ◌++◌, map}
 use Rattle.http_cache_recording.specs.Entry.{recorded_seen}
 use Rattle.http_cache_audit.specs.Change.{change_seen, changed}

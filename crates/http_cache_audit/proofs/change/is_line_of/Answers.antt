@@ -1,4 +1,4 @@
--- What follows all pieces is left in the end.
+-- After the loop the text after all pieces is left.
 use Rattle.std.proofs.Common.{◌≡◌, ◌∙◌, ap, refl, Option, Some, None, option_map, is_some, fold, lit<}
 use Rattle.std.proofs.lemmas.Iterator.Consumers.{YieldsList-end}
 use Rattle.std.proofs.lemmas.Iterator.Splits.{YieldsList-from_str_split}

@@ -1,4 +1,4 @@
--- What follows the pieces so far is left.
+-- In the loop: the text after the pieces so far is left.
 use Rattle.std.proofs.Common.{◌≡◌, Some, option_map, map, fold}
 use Rattle.http_cache_audit.specs.Change.{after}
 use Rattle.http_cache_audit.proofs.change.is_line_of.Given as goal

@@ -1,4 +1,4 @@
--- What the rows so far cost is counted.
+-- In the loop: the costs of the rows so far are counted.
 use Rattle.std.proofs.Common.{map, take}
 use Rattle.std.specs.List.{flat_map, enumerate_from}
 use Rattle.http_cache_recording.specs.Entry.{recorded_seen}

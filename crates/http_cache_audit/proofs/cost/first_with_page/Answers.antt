@@ -1,4 +1,4 @@
--- The rows are looked through in turn.
+-- The rows are examined in turn.
 use Rattle.std.proofs.Common.{rules, tests, Bor, ◌∙◌, sym, ap, option_map}
 use Rattle.std.proofs.lemmas.Iterator.{YieldsList-from_slice}
 use Rattle.std.proofs.lemmas.Iterator.Search.{find_from_yields_List}

@@ -1,4 +1,4 @@
--- The rows so far are counted.
+-- In the loop: the rows so far are counted.
 use Rattle.std.proofs.Common.{map, take}
 use Rattle.std.specs.List.{flat_map}
 use Rattle.http_cache_audit.specs.Row.{row_seen}

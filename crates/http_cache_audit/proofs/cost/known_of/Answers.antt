@@ -1,4 +1,4 @@
--- What is known of one row more is listed.
+-- What is known of one more row is listed.
 use Rattle.std.proofs.Common.{rules, ◌≡◌, ◌∙◌, sym, ap, refl, ℕ, ◌∷◌, [], ◌++◌, List, map, take, length, add-one, codes}
 use Rattle.std.proofs.lemmas.Option.{slice_get_read}
 use Rattle.http_cache_recording.specs.Entry.{recorded_seen}

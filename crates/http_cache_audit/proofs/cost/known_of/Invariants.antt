@@ -1,4 +1,4 @@
--- What is known of the rows so far is listed.
+-- In the loop: what is known of the rows so far is listed.
 use Rattle.std.proofs.Common.{◌≡◌, map, take}
 use Rattle.http_cache_recording.specs.Entry.{recorded_seen}
 use Rattle.http_cache_audit.specs.Row.{row_seen}

@@ -1,4 +1,4 @@
--- The words for the findings so far are listed.
+-- In the loop: the words for the findings so far are listed.
 use Rattle.std.proofs.Common.{◌≡◌, map, take, string_bytes}
 use Rattle.std.specs.List.{flat_map}
 use Rattle.http_cache_fields.specs.Headers.{headers_of}

@@ -1,4 +1,4 @@
--- The pieces are looked through in turn.
+-- The pieces are examined in turn.
 use Rattle.std.proofs.Common.{rules, tests, bytes_eq, codes}
 use Rattle.std.proofs.lemmas.Iterator.Consumers.{YieldsList-from_first}
 use Rattle.std.proofs.lemmas.Iterator.Search.{any_from_yields_List}

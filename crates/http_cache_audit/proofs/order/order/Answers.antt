@@ -1,4 +1,4 @@
--- What is made of one index more is put last.
+-- The time of one more entry is added last.
 use Rattle.std.proofs.Common.{rules, ◌≡◌, ◌∙◌, ap, refl, map, slice_get, Some, option_map, length}
 use Rattle.std.specs.Option.{option_to_list}
 use Rattle.std.proofs.lemmas.Option.{slice_get-map, slice_get_read}
@@ -7,13 +7,13 @@ use Rattle.http_cache_audit.specs.Order.{moment_at, moments}
 use Rattle.http_cache_audit.proofs.ListLemmas.{made-next}
 use Rattle.http_cache_audit.proofs.order.order.Goals as goal
 
-pub loop-place-preserved : goal.loop-place-preserved
-loop-place-preserved c =
+pub loop-index-preserved : goal.loop-index-preserved
+loop-index-preserved c =
     let all = c.args.recorded.now in
     let rs = map recorded_seen all in
-    let k = c.loop-place.place in
-    let r = c.index-recorded-place.result in
-    let at = slice_get_read all (length all) k r refl (search rules) c.index-recorded-place.is in
+    let k = c.loop-index.index in
+    let r = c.index-recorded-index.result in
+    let at = slice_get_read all (length all) k r refl (search rules) c.index-recorded-index.is in
     let there : slice_get rs k ≡ Some (recorded_seen r) = slice_get-map recorded_seen all k ∙ ap (option_map recorded_seen) at in
     rw (c.in_ok-push_some.ensures, c.moment_at.ensures)
-    (made-next (λ at. option_to_list (moment_at at)) rs k (recorded_seen r) c.loop-place.all.items (moments rs) there c.loop-place.invariant)
+    (made-next (λ at. option_to_list (moment_at at)) rs k (recorded_seen r) c.loop-index.all.items (moments rs) there c.loop-index.invariant)

@@ -1,4 +1,4 @@
--- The moments so far with those of what is left are all.
+-- In the loop: the times so far and those left are all.
 use Rattle.std.proofs.Common.{◌≡◌, ◌++◌, map, drop}
 use Rattle.std.specs.List.{flat_map, enumerate_from}
 use Rattle.std.specs.Option.{option_to_list}
@@ -6,7 +6,7 @@ use Rattle.http_cache_recording.specs.Entry.{recorded_seen}
 use Rattle.http_cache_audit.specs.Order.{moment_at, moments}
 use Rattle.http_cache_audit.proofs.order.order.Given as goal
 
-abbrev pub invariant-loop-place : goal.invariant-loop-place
-invariant-loop-place l =
+abbrev pub invariant-loop-index : goal.invariant-loop-index
+invariant-loop-index l =
     let rs = map recorded_seen l.recorded in
-    l.all.items ++ flat_map (λ at. option_to_list (moment_at at)) (enumerate_from l.place (drop l.place rs)) ≡ moments rs
+    l.all.items ++ flat_map (λ at. option_to_list (moment_at at)) (enumerate_from l.index (drop l.index rs)) ≡ moments rs

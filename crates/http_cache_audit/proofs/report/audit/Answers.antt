@@ -1,4 +1,4 @@
--- The rows are written and counted, then comes the end.
+-- The rows are written and counted, and then the end is written.
 use Rattle.std.proofs.Common.{rules, [], map}
 use Rattle.http_cache_audit.specs.Row.{row_seen}
 use Rattle.http_cache_audit.specs.Counts.{CountsAlso}

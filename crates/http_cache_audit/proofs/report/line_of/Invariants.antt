@@ -1,4 +1,4 @@
--- The members so far are written.
+-- In the loop: the members so far are written.
 use Rattle.std.proofs.Common.{◌≡◌, map, take, string_bytes}
 use Rattle.http_cache_audit.specs.Members.{member_seen}
 use Rattle.http_cache_audit.specs.Report.{line_text}

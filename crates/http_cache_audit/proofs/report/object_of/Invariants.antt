@@ -1,4 +1,4 @@
--- The members so far are put.
+-- In the loop: the members so far are in the object.
 use Rattle.std.proofs.Common.{◌≡◌, map, take}
 use Rattle.serde_json.specs.View.{members_view}
 use Rattle.http_cache_audit.specs.Members.{member_seen}

@@ -1,4 +1,4 @@
--- The bytes so far are written.
+-- In the loop: the bytes so far are written.
 use Rattle.std.proofs.Common.{◌≡◌, ◌++◌, map, take, string_bytes}
 use Rattle.http_cache_audit.specs.Report.{printed_byte}
 use Rattle.http_cache_audit.proofs.report.push_printed.Given as goal

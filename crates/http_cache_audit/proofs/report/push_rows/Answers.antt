@@ -1,4 +1,4 @@
--- One row more is written and counted.
+-- One more row is written and counted.
 use Rattle.std.proofs.Common.{rules, refl, length}
 use Rattle.std.proofs.lemmas.Option.{slice_get_read}
 use Rattle.http_cache_audit.specs.Row.{row_seen}

@@ -1,4 +1,4 @@
--- The rows so far are written and counted.
+-- In the loop: the rows so far are written and counted.
 use Rattle.std.proofs.Common.{◌≡◌, ◌++◌, map, take, string_bytes}
 use Rattle.http_cache_audit.specs.Row.{row_seen}
 use Rattle.http_cache_audit.specs.Counts.{CountsAlso}

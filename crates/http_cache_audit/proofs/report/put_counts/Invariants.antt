@@ -1,4 +1,4 @@
--- What was put, and the counts that are left.
+-- In the loop: the members so far, and the counts that are left.
 use Rattle.std.proofs.Common.{◌≡◌, map, fold}
 use Rattle.serde_json.specs.View.{members_view}
 use Rattle.http_cache_audit.specs.Report.{with_count, count_seen}

@@ -1,4 +1,4 @@
--- The values are of the texts so far.
+-- In the loop: the values are those of the texts so far.
 use Rattle.std.proofs.Common.{◌≡◌, map, take, string_bytes}
 use Rattle.serde_json.specs.Data.{string}
 use Rattle.serde_json.specs.View.{view}

@@ -1,4 +1,4 @@
--- The stored responses are looked through in turn.
+-- The stored responses are examined in turn.
 use Rattle.std.proofs.Common.{rules, tests, ◌∙◌}
 use Rattle.std.proofs.lemmas.Iterator.{YieldsList-from_slice}
 use Rattle.std.proofs.lemmas.Iterator.Search.{position_from_yields_List}

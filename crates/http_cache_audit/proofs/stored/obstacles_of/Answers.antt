@@ -1,4 +1,4 @@
--- What is reported to forbid is all that does.
+-- All conditions that forbid to store the response are reported.
 use Rattle.std.proofs.Common.{◌≡◌, false, sym, ap, ◌∙◌, refl}
 use Rattle.http_cache_semantics.specs.Storing.{is_storable}
 use Rattle.http_cache_semantics.specs.Storability.{obstacles, is_allowed}

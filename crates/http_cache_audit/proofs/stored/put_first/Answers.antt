@@ -1,4 +1,4 @@
--- The first 63 of what is seen are what is seen of the first 63.
+-- The first 63 are kept, as they are seen.
 use Rattle.std.proofs.Common.{ap, sym, ◌∷◌, List}
 use Rattle.std.proofs.lemmas.List.{take-map}
 use Rattle.http_cache_audit.specs.Stored.{StoredSeen, stored_seen}

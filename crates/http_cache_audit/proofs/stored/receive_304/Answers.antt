@@ -1,10 +1,10 @@
--- What is updated is put in front of the others.
+-- The updated response is put before the others.
 use Rattle.std.proofs.Common.{rules, ◌≡◌, ◌∙◌, sym, ap, Some, true, false, map, slice_get}
 use Rattle.http_cache_semantics.specs.Messages.{response_seen}
 use Rattle.http_cache_semantics.specs.Update.{selects}
 use Rattle.http_cache_audit.specs.Row.{not_selected}
 use Rattle.http_cache_audit.specs.Lifetime.{kept_of}
-use Rattle.http_cache_audit.specs.Assume.{asked_seen}
+use Rattle.http_cache_audit.specs.Assume.{assumed_seen}
 use Rattle.http_cache_audit.specs.Stored.{StoredSeen, stored_seen, put_first, updated_one, receive_304}
 use Rattle.http_cache_audit.proofs.StoredLemmas.{updated-if}
 use Rattle.http_cache_audit.proofs.stored.receive_304.Goals as goal
@@ -13,7 +13,7 @@ pub returns-then-not-is_confirmed_by : goal.returns-then-not-is_confirmed_by
 unfolding receive_304
 returns-then-not-is_confirmed_by c =
     let s = stored_seen c.stored_at-one.result.now in
-    let at : slice_get (map stored_seen c.args.list.now.items) c.args.place ≡ Some s = search rules in
+    let at : slice_get (map stored_seen c.args.list.now.items) c.args.index ≡ Some s = search rules in
     let fails : selects s.exchange (response_seen c.args.response.now) ≡ false =
     sym c.is_confirmed_by.ensures ∙ c.if-not-is_confirmed_by.true in
     rw (at, fails) (λ i. (c.take_out.ensures.seen i, not_selected))
@@ -24,8 +24,8 @@ returns c =
     let s = stored_seen c.stored_at-one.result.now in
     let now = c.args.now.nanosecond in
     let ss = map stored_seen c.args.list.now.items in
-    let next = updated_one (asked_seen c.args.asked.now) (response_seen c.args.response.now) now s in
-    let at : slice_get ss c.args.place ≡ Some s = search rules in
+    let next = updated_one (assumed_seen c.args.asked.now) (response_seen c.args.response.now) now s in
+    let at : slice_get ss c.args.index ≡ Some s = search rules in
     let passes : selects s.exchange (response_seen c.args.response.now) ≡ true =
     sym c.is_confirmed_by.ensures ∙ c.if-not-is_confirmed_by.false in
     let left = c.in_ok-put_updated.ensures.stored

@@ -7,6 +7,6 @@ use Rattle.http_cache_audit.proofs.stored.stored_at.Goals as goal
 pub returns : goal.returns
 returns c =
     let all = c.args.list.now in
-    slice_get-map stored_seen all c.args.place
+    slice_get-map stored_seen all c.args.index
     ∙ ap (option_map stored_seen)
-    (slice_get_read all (length all) c.args.place c.index-list-place.result refl (search rules) c.index-list-place.is)
+    (slice_get_read all (length all) c.args.index c.index-list-index.result refl (search rules) c.index-list-index.is)

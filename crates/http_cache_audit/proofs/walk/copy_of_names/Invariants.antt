@@ -1,4 +1,4 @@
--- The names so far are copied.
+-- In the loop: the names so far are copied.
 use Rattle.std.proofs.Common.{◌≡◌, take}
 use Rattle.http_cache_audit.proofs.walk.copy_of_names.Given as goal
 

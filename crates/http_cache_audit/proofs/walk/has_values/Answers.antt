@@ -1,4 +1,4 @@
--- Its length is the count of its values.
+-- A map's length is the number of its values.
 use Rattle.std.proofs.Common.{refl}
 use Rattle.http_cache_fields.proofs.HeadersLemmas.{value_count-headers_of}
 use Rattle.http_cache_audit.proofs.walk.has_values.Goals as goal

@@ -1,4 +1,4 @@
--- The row of one index more is put last.
+-- The row of one more index is added last.
 use Rattle.std.proofs.Common.{rules, ◌≡◌, ◌∙◌, ap, refl, ◌++◌, map, slice_get, Some, option_map, length}
 use Rattle.std.proofs.lemmas.Option.{slice_get-map, slice_get_read}
 use Rattle.http_cache_recording.specs.Entry.{recorded_seen}

@@ -1,4 +1,4 @@
--- The rows so far with those of what is left are all.
+-- In the loop: the rows so far and those left are all.
 use Rattle.std.proofs.Common.{◌≡◌, ◌++◌, map, drop}
 use Rattle.std.specs.List.{flat_map, enumerate_from}
 use Rattle.http_cache_recording.specs.Entry.{recorded_seen}

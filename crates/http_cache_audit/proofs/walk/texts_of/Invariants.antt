@@ -1,4 +1,4 @@
--- The texts are those of the names so far.
+-- In the loop: the texts are those of the names so far.
 use Rattle.std.proofs.Common.{◌≡◌, take, map, string_bytes}
 use Rattle.http_cache_audit.proofs.walk.texts_of.Given as goal
 

@@ -1,4 +1,4 @@
--- The answer is to the request that was read.
+-- The answer is for the request that was read.
 use Rattle.std.proofs.lemmas.Result.{IfOk-weaker}
 use Rattle.std.proofs.Common.{inr}
 use Rattle.http_cache_bytes.proofs.answer.ask.Goals as goal

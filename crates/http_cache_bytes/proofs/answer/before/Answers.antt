@@ -1,4 +1,4 @@
--- The answer is that of the policy.
+-- The answer is by the policy that was read.
 use Rattle.std.proofs.lemmas.Result.{IfOk-weaker}
 use Rattle.std.proofs.Common.{inl, inr}
 use Rattle.http_cache_bytes.proofs.answer.before.Goals as goal

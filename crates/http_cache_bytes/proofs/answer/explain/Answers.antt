@@ -1,4 +1,4 @@
--- The member is of the policy.
+-- The member is about the policy that was read.
 use Rattle.std.proofs.lemmas.Result.{IfOk-weaker}
 use Rattle.http_cache_bytes.proofs.answer.explain.Goals as goal
 

@@ -1,4 +1,4 @@
--- The member is of the request that was read.
+-- The member is about the request that was read.
 use Rattle.std.proofs.lemmas.Result.{IfOk-weaker}
 use Rattle.std.proofs.Common.{ap, ◌∙◌}
 use Rattle.http_cache_semantics.specs.CacheStatus.{cache_status}

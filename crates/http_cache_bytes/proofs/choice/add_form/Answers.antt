@@ -1,4 +1,3 @@
--- The policy of the form is before the others.
 use Rattle.std.proofs.Common.{rules, ◌≡◌, ◌∷◌}
 use Rattle.http_cache_bytes.proofs.choice.add_form.Goals as goal
 

@@ -1,4 +1,4 @@
--- What was read is the policies of the last forms.
+-- The policies of the last forms were read.
 use Rattle.std.proofs.Common.{rules, ◌≡◌, ◌+◌, ◌-◌, ◌∷◌, List, ℕ, length, sym, subst, arith}
 use Rattle.std.specs.Prelude.{IsErrOf, slice_index}
 use Rattle.http_cache_fields.specs.declared.error.CacheError.TheVariants.{Malformed}

@@ -1,4 +1,4 @@
--- The forms that were read, and those that are left.
+-- The forms are read from the last one on.
 use Rattle.http_cache_bytes.proofs.ChoiceLemmas.{IsReading}
 use Rattle.http_cache_bytes.proofs.choice.variants_in.Given as goal
 

@@ -1,4 +1,4 @@
--- It is the policy that is confirmed.
+-- The policy that was read is confirmed.
 use Rattle.std.proofs.lemmas.Result.{IfOk-weaker}
 use Rattle.http_cache_bytes.proofs.facts.is_confirmed_by.Goals as goal
 

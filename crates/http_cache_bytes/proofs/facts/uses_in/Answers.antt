@@ -1,4 +1,4 @@
--- The uses are those of the policy.
+-- The policy that was read decides the uses.
 use Rattle.std.proofs.lemmas.Result.{IfOk-weaker}
 use Rattle.http_cache_bytes.proofs.facts.uses_in.Goals as goal
 

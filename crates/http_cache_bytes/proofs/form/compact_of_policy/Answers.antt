@@ -1,4 +1,4 @@
--- What is kept is what the policy keeps.
+-- The form keeps what the policy keeps.
 use Rattle.std.proofs.Common.{◌↔◌, subst}
 use Rattle.http_cache_semantics.specs.Exchange.{Exchange}
 use Rattle.http_cache_semantics.specs.Stored.{ReadsBack}

@@ -1,4 +1,3 @@
--- What is stored is of the policy.
 use Rattle.std.proofs.lemmas.Result.{IfOk-weaker}
 use Rattle.http_cache_bytes.proofs.form.new.Goals as goal
 

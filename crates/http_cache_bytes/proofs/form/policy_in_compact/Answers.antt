@@ -1,4 +1,4 @@
--- The policy is that of what the form keeps.
+-- The policy has what the form keeps.
 use Rattle.std.proofs.lemmas.Result.{IfOk-weaker}
 use Rattle.http_cache_bytes.specs.Form.{IsNoCompact}
 use Rattle.http_cache_bytes.proofs.ResultLemmas.{same_error}

@@ -1,8 +1,8 @@
--- The policy is that of the JSON value.
+-- The policy is the JSON value's.
 use Rattle.std.proofs.lemmas.Result.{IfOk-weaker}
 use Rattle.std.proofs.Common.{rules, sym, ◌∙◌}
 use Rattle.serde_json.specs.Errors.{IsMemory}
-use Rattle.http_cache_stored.proofs.SomeLemmas.{none_some}
+use Rattle.http_cache_json.proofs.SomeLemmas.{none_some}
 use Rattle.http_cache_bytes.specs.Form.{IsNoJson}
 use Rattle.http_cache_bytes.proofs.form.policy_in_json.Goals as goal
 

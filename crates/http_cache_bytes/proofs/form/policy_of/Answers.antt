@@ -1,4 +1,3 @@
--- The policy is of both heads.
 use Rattle.std.proofs.lemmas.Result.{IfOk-weaker}
 use Rattle.http_cache_bytes.proofs.form.policy_of.Goals as goal
 

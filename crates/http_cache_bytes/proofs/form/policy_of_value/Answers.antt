@@ -1,4 +1,4 @@
--- The value is of an exchange, and the policy is what is kept of that.
+-- The policy has what is kept of the value's exchange.
 use Rattle.http_cache_bytes.proofs.ResultLemmas.{both_ok}
 use Rattle.http_cache_bytes.proofs.form.policy_of_value.Goals as goal
 

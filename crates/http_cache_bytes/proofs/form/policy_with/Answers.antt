@@ -1,4 +1,4 @@
--- The policy is of the response that was read.
+-- The policy is for the response that was read.
 use Rattle.std.proofs.lemmas.Result.{IfOk-weaker}
 use Rattle.http_cache_bytes.proofs.form.policy_with.Goals as goal
 

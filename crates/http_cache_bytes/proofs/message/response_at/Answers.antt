@@ -1,4 +1,4 @@
--- The head is that of the policy.
+-- The head is by the policy that was read.
 use Rattle.std.proofs.lemmas.Result.{IfOk-weaker}
 use Rattle.http_cache_bytes.proofs.message.response_at.Goals as goal
 

@@ -1,4 +1,4 @@
--- There is no room only if there is none for both.
+-- A header map is full only if it can't hold the fields of both.
 use Rattle.http_cache_bytes.proofs.ResultLemmas.{same_error}
 use Rattle.http_cache_bytes.proofs.message.update.Goals as goal
 

@@ -1,4 +1,4 @@
--- The head is of the response that was read.
+-- The head has the fields of the response that was read.
 use Rattle.std.proofs.lemmas.Result.{IfOk-weaker}
 use Rattle.std.proofs.Common.{inr}
 use Rattle.http_cache_bytes.proofs.message.update_with.Goals as goal

@@ -1,4 +1,3 @@
--- The head is of both responses.
 use Rattle.std.proofs.lemmas.Result.{IfOk-weaker}
 use Rattle.std.proofs.Common.{inl, inr}
 use Rattle.http_cache_bytes.proofs.message.updated.Goals as goal

@@ -1,4 +1,4 @@
--- What is stored and sent is of the policy.
+-- The policy that was read decides what is stored and sent.
 use Rattle.std.proofs.lemmas.Result.{IfOk-weaker}
 use Rattle.std.proofs.Common.{inl, inr}
 use Rattle.http_cache_bytes.proofs.next.after.Goals as goal

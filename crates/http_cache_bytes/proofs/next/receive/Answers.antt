@@ -1,4 +1,4 @@
--- What is stored and sent is of the response that was read.
+-- The response that was read decides what is stored and sent.
 use Rattle.std.proofs.lemmas.Result.{IfOk-weaker}
 use Rattle.std.proofs.Common.{inr}
 use Rattle.http_cache_bytes.proofs.next.receive.Goals as goal

@@ -1,4 +1,4 @@
--- What is stored and sent is of the request that was read.
+-- The request that was read decides what is stored and sent.
 use Rattle.std.proofs.lemmas.Result.{IfOk-weaker}
 use Rattle.std.proofs.Common.{inl, inr}
 use Rattle.http_cache_bytes.proofs.next.receive_for.Goals as goal

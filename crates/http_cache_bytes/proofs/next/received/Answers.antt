@@ -1,4 +1,4 @@
--- What is stored and sent is of the next exchange.
+-- The next exchange is stored and sent.
 use Rattle.std.proofs.lemmas.Result.{IfOk-weaker}
 use Rattle.std.proofs.Common.{◌≡◌, sym, ◌∙◌, subst}
 use Rattle.http_cache_semantics.specs.Exchange.{Exchange}

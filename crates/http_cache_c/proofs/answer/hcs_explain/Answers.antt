@@ -1,4 +1,4 @@
--- What was written is the member at the time that was passed.
+-- The written member is for the passed time.
 use Rattle.std.proofs.Common.{◌≡◌, rules, ℕ, ℤ, List, subst, w32, string_bytes, pos}
 use Rattle.std.proofs.lemmas.Int.{to_z-of_z}
 use Rattle.http_cache_bytes.specs.Cause.{ForAsked}

@@ -1,4 +1,4 @@
--- What was written is of the options and the time that were passed.
+-- The written policy has the passed options and time.
 use Rattle.std.proofs.Common.{ℤ, subst, w32}
 use Rattle.std.proofs.lemmas.Int.{to_z-of_z}
 use Rattle.http_cache_c.proofs.BorderLemmas.{same_out}

@@ -1,4 +1,4 @@
--- What was written is the choice at the time that was passed.
+-- The written choice is for the passed time.
 use Rattle.std.proofs.Common.{ℤ, Err, sym, ap, ◌∙◌, subst, w32, ◌⊎◌}
 use Rattle.std.proofs.lemmas.Int.{to_z-of_z}
 use Rattle.http_heads.specs.Heads.{OverfillsRequest}

@@ -1,4 +1,4 @@
--- What was written is of the time that was passed.
+-- The written age is at the passed time.
 use Rattle.std.proofs.Common.{ap, ◌∙◌}
 use Rattle.http_cache_semantics.specs.Age.{age_at}
 use Rattle.http_cache_c.proofs.facts.hcs_age.Goals as goal

@@ -1,4 +1,4 @@
--- What was returned is of what was read.
+-- The result is about the policy and the response that were read.
 use Rattle.std.proofs.Common.{ap, ◌∙◌, w32}
 use Rattle.std.proofs.lemmas.Int.{to_z-of_z}
 use Rattle.http_cache_c.specs.Codes.{bool_code}

@@ -1,4 +1,4 @@
--- What was returned is of the time that was passed.
+-- The result is for the passed time.
 use Rattle.std.proofs.Common.{ap, ◌∙◌, w32}
 use Rattle.std.proofs.lemmas.Int.{to_z-of_z}
 use Rattle.http_cache_semantics.specs.Messages.{request_seen}

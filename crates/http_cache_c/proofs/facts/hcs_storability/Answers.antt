@@ -1,4 +1,4 @@
--- What was returned and written is of what was read.
+-- The result is about the policy that was read.
 use Rattle.std.proofs.Common.{ap, ◌∙◌, w32}
 use Rattle.std.proofs.lemmas.Int.{to_z-of_z}
 use Rattle.http_cache_c.specs.Codes.{storability_code, obstacle_bits}

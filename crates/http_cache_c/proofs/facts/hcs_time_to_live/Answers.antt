@@ -1,4 +1,4 @@
--- What was written is of the time that was passed.
+-- The written time is what is left at the passed time.
 use Rattle.std.proofs.Common.{ap, ◌∙◌}
 use Rattle.http_cache_semantics.specs.Age.{time_to_live_at}
 use Rattle.http_cache_c.proofs.facts.hcs_time_to_live.Goals as goal

@@ -1,4 +1,4 @@
--- What was written is the head at the time that was passed.
+-- The written head is for the passed time.
 use Rattle.std.proofs.Common.{ℕ, ℤ, List, Err, sym, ap, ◌∙◌, subst, w32, pos}
 use Rattle.std.proofs.lemmas.Int.{to_z-of_z}
 use Rattle.http_cache_bytes.specs.Cause.{ForPolicy}

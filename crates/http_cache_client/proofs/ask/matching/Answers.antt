@@ -1,4 +1,4 @@
--- What is sent while a stale response is validated has its status.
+-- The stale response that is sent during its validation has a stored status.
 use Rattle.std.proofs.Common.{Option, Some, subst}
 use Rattle.http_cache_plans.specs.Reply.{IsReplyOf}
 use Rattle.http_cache_plans.specs.declared.reply.Reply.{Reply}

@@ -1,4 +1,4 @@
--- The request in the box is the one that was made.
+-- The boxed request is the one that was made.
 use Rattle.std.proofs.Common.{sym, subst}
 use Rattle.http.specs.declared.request.Parts.{Parts}
 use Rattle.http_cache_messages.specs.Outgoing.{IsClean}

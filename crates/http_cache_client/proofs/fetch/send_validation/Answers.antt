@@ -1,4 +1,4 @@
--- The request of a token is sent without a body.
+-- A validation request is sent without a body.
 use Rattle.std.proofs.Common.{Ok, Err, IfOk, OnErr, Some, None, sym, subst, ◌∙◌}
 use Rattle.http.specs.declared.request.Parts.{Parts}
 use Rattle.http_cache_messages.specs.Outgoing.{IsClean}

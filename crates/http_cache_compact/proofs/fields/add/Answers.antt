@@ -1,8 +1,8 @@
--- A field line is added where there is room, and refused only where there is none.
+-- A field line is added if there is room, and refused only if there is none.
 use Rattle.std.proofs.Common.{◌≡◌, rules, sym, ◌∙◌, subst, ap, Err}
 use Rattle.http_header.specs.HeaderMap.{RefusesAppend}
-use Rattle.http_cache_stored.specs.Pairs.{Pair, Fits, with_pair}
-use Rattle.http_cache_stored.proofs.HeldLemmas.{fits_more, refused_fits}
+use Rattle.http_cache_json.specs.Pairs.{Pair, Fits, with_pair}
+use Rattle.http_cache_json.proofs.HeldLemmas.{fits_more, refused_fits}
 use Rattle.http_cache_compact.proofs.fields.add.Goals as goal
 
 pub returns-in-Ok-clause-fits : goal.returns-in-Ok-clause-fits

@@ -1,6 +1,5 @@
--- The field lines that were read are those at the front.
 use Rattle.std.proofs.Common.{◌∷◌, [], ◌++◌, arith}
-use Rattle.http_cache_stored.specs.Pairs.{Pair}
+use Rattle.http_cache_json.specs.Pairs.{Pair}
 use Rattle.http_cache_compact.proofs.FieldLemmas.{reading_more, reading_end, no_field}
 use Rattle.http_cache_compact.proofs.TextLemmas.{none_holds}
 use Rattle.http_cache_compact.proofs.fields.after_fields.Goals as goal

@@ -1,6 +1,6 @@
--- What was read, and the field lines that are left.
+-- Some field lines were read, and the others are left.
 use Rattle.std.proofs.Common.{List}
-use Rattle.http_cache_stored.specs.Pairs.{Pair}
+use Rattle.http_cache_json.specs.Pairs.{Pair}
 use Rattle.http_cache_compact.proofs.FieldLemmas.{IsReading}
 use Rattle.http_cache_compact.proofs.fields.after_fields.Given as goal
 

@@ -1,4 +1,3 @@
--- The value is before what follows the field line.
 use Rattle.http_cache_compact.proofs.ValueLemmas.{two_cuts}
 use Rattle.http_cache_compact.proofs.fields.field_of.Goals as goal
 

@@ -1,9 +1,8 @@
--- The headers are those of the field lines that were read.
 use Rattle.std.proofs.Common.{rules, ◌≡◌, ◌∷◌, [], ◌++◌, ◌-◌, length, List, ℕ, Some, None, refl, sym, ◌∙◌, subst, ap, arith}
 use Rattle.std.specs.Prelude.{IsErrOf}
 use Rattle.http_cache_fields.specs.declared.error.CacheError.TheVariants.{Malformed}
 use Rattle.http_cache_compact.specs.Compact.{field_of, IsField}
-use Rattle.http_cache_stored.specs.Pairs.{Pair, Fits, with_pair}
+use Rattle.http_cache_json.specs.Pairs.{Pair, Fits, with_pair}
 use Rattle.http_cache_compact.proofs.FieldLemmas.{IsReading, reading_more, reading_end, no_field, added_more, added_headers, none_after, nothing_read, all_read}
 use Rattle.http_cache_compact.proofs.ValueLemmas.{value_is, rest_is}
 use Rattle.http_cache_compact.proofs.fields.headers_in.Goals as goal

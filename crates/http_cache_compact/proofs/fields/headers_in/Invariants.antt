@@ -1,6 +1,6 @@
--- What was read and added, and the field lines that are left.
+-- Some field lines were read and added, and the others are left.
 use Rattle.std.proofs.Common.{List}
-use Rattle.http_cache_stored.specs.Pairs.{Pair}
+use Rattle.http_cache_json.specs.Pairs.{Pair}
 use Rattle.http_cache_compact.proofs.FieldLemmas.{IsReading, HasAdded}
 use Rattle.http_cache_compact.proofs.fields.headers_in.Given as goal
 

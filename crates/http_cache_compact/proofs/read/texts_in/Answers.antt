@@ -1,4 +1,4 @@
--- Each text is where the one before it ends.
+-- Each text begins where the one before it ends.
 use Rattle.std.proofs.Common.{◌≡◌, rules, [], length, drop, refl}
 use Rattle.http_cache_compact.specs.Compact.{number_4}
 use Rattle.http_cache_compact.proofs.TextLemmas.{none_holds, same_cut, same_fields, no_method, no_target, no_request, no_response, no_end, all_texts}

@@ -1,4 +1,4 @@
--- What is written reads back, and begins with the version.
+-- The written form reads back, and begins with the version.
 use Rattle.std.proofs.lemmas.Result.{IfOk-weaker}
 use Rattle.http_cache_compact.proofs.ReadsBackLemmas.{three_ok, written_back, version_first}
 use Rattle.http_cache_compact.proofs.write.compact_of.Goals as goal

@@ -1,7 +1,6 @@
--- One more field line is written.
 use Rattle.std.proofs.Common.{◌++◌, ◌∷◌, [], map, sym, ap, ◌∙◌, append_assoc}
 use Rattle.std.specs.List.{flat_map}
-use Rattle.http_cache_stored.specs.Pairs.{Pair}
+use Rattle.http_cache_json.specs.Pairs.{Pair}
 use Rattle.http_cache_compact.specs.Written.{field_text}
 use Rattle.http_cache_compact.proofs.PairLemmas.{flat_push, all_push}
 use Rattle.http_cache_compact.proofs.write.push_fields.Invariants.{line}

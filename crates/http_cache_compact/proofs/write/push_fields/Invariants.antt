@@ -1,12 +1,11 @@
--- What was written, and the field lines that are left.
+-- Some field lines were written, and the others are left.
 use Rattle.std.proofs.Common.{◌≡◌, ◌++◌, ℕ, List, map}
 use Rattle.std.specs.List.{flat_map, AllByRecursion}
 use Rattle.http_header.specs.FieldValue.{FieldValue}
-use Rattle.http_cache_stored.specs.Pairs.{Pair}
+use Rattle.http_cache_json.specs.Pairs.{Pair}
 use Rattle.http_cache_compact.specs.Written.{field_text, fields_in, IsWritableField}
 use Rattle.http_cache_compact.proofs.write.push_fields.Given as goal
 
--- the field line of a name and a value
 abbrev pub line : List ℕ × FieldValue → Pair
 line p = (p.0, p.1.bytes)
 

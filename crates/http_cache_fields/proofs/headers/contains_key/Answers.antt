@@ -1,4 +1,4 @@
--- A look-up finds a value exactly where the headers hold the name.
+-- A look-up finds a value exactly if the headers have the name.
 use Rattle.std.proofs.Common.{◌∙◌}
 use Rattle.http_cache_fields.proofs.HeadersLemmas.{contains_key-headers_of}
 use Rattle.http_cache_fields.proofs.headers.contains_key.Goals as goal

@@ -1,4 +1,4 @@
--- The first value under a name is given where it is text, and a name that isn't there has none.
+-- The first value is returned if it is text; an absent name has none.
 use Rattle.std.proofs.Common.{Some, sym, ap, ◌∙◌}
 use Rattle.std.specs.Option.{option_copied, option_map, option_and_then}
 use Rattle.http_cache_fields.specs.Text.{text_of}

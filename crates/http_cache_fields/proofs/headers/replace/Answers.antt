@@ -1,4 +1,4 @@
--- A name that is there is never refused a value in place of its own.
+-- Replacing the values of a present name is never refused.
 use Rattle.std.proofs.Common.{ap, ◌∙◌}
 use Rattle.http_cache_fields.specs.Headers.{headers_of}
 use Rattle.http_cache_fields.proofs.HeadersLemmas.{headers_of-insert, ContainsKey-from_contains_key}
@@ -9,7 +9,6 @@ returns g c =
     ap headers_of c.in-Ok.ensures.ok
     ∙ headers_of-insert c.args.map.now (g.K.AsHeaderName.name c.args.name) c.args.value
 
--- a name that is there is not refused
 pub unreachable-requires : goal.unreachable-requires
 unreachable-requires g c =
     let no = c.in-Err.ensures.replaces

@@ -1,11 +1,10 @@
--- A name is left its last value; with as many values as names, each has its last alone already.
+-- A name keeps its last value. With as many values as names each has only one already.
 use Rattle.std.proofs.Common.{sym, ap, ◌∙◌}
 use Rattle.http_cache_fields.specs.Headers.{headers_of, set}
 use Rattle.http_cache_fields.proofs.LastLemmas.{retain_last-none, retain_last-some, retain_last-single}
 use Rattle.http_cache_fields.proofs.LastLemmas.{contains_key-from_last}
 use Rattle.http_cache_fields.proofs.headers.retain_last.Goals as goal
 
--- with as many values as names nothing changes
 pub returns-then-len-keys_len : goal.returns-then-len-keys_len
 returns-then-len-keys_len c =
     retain_last-single c.args.map.now c.args.name.now c.len.ensures.valid

@@ -1,4 +1,4 @@
--- Where one of two names has ended, their lengths decide, as in the order of lower case.
+-- If one of two names has ended, their lengths decide, as in the order of lower case.
 use Rattle.std.proofs.Common.{◌≡◌, ℕ, ◌<◌, List, [], ◌∷◌, length, refl, ◌∙◌, arith}
 use Rattle.std.specs.Ordering.{nat_cmp}
 use Rattle.std.specs.Cmp.Lexicographic.{slice_cmp}
@@ -8,7 +8,6 @@ use Rattle.http_cache_fields.proofs.names.compare.Goals as goal
 use Rattle.http_cache_fields.proofs.names.compare.Goals.{in_default-via-then-a-lt1}
 use Rattle.http_cache_fields.proofs.names.compare.Goals.{in_default-via-else-a-lt1+then-this-lt1}
 
--- where one text has ended, the lengths decide
 first_ended : (a b : List ℕ) → length a < 1
     → nat_cmp (length a) (length b) ≡ slice_cmp nat_cmp (lowercase a) (lowercase b)
 first_ended [] [] e = refl

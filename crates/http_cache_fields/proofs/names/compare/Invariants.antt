@@ -1,4 +1,4 @@
--- What is left of two names has the order of the whole names, and grows shorter.
+-- In the loop: the rests of two names have the order of the names, and get shorter.
 use Rattle.std.proofs.Common.{◌≡◌, length}
 use Rattle.std.specs.Ordering.{nat_cmp}
 use Rattle.std.specs.Cmp.Lexicographic.{slice_cmp}

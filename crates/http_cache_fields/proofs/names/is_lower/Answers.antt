@@ -1,4 +1,4 @@
--- The bit that capital letters lack stays, with one byte more, only if lower case changes none.
+-- After one more byte the bit is kept only if lower case doesn't change the byte.
 use Rattle.std.proofs.Common.{◌≡◌, ◌<◌, ◌+◌, ◌++◌, [], ◌∷◌, length, take}
 use Rattle.std.proofs.Common.{bit_and, slice_index_or, rules, sym, subst, ap, ◌∙◌}
 use Rattle.std.proofs.lemmas.List.{take_more}

@@ -1,4 +1,4 @@
--- While the bit that capital letters lack is kept, lower case changes none of the bytes so far.
+-- In the loop: if the bit is kept, lower case changes none of the bytes so far.
 use Rattle.std.proofs.Common.{take}
 use Rattle.http_cache_fields.proofs.CommonBitLemmas.{HasCommonBit}
 use Rattle.http_cache_fields.proofs.names.is_lower.Given as goal

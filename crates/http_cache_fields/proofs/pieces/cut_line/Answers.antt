@@ -1,4 +1,4 @@
--- A line has the piece before its first comma and those behind it, or is one piece.
+-- A line is the piece before its first comma and those after it, or one piece.
 use Rattle.std.proofs.Common.{Some, None, ap, sym, ◌∙◌, ◌∷◌, [], lit<}
 use Rattle.std.proofs.lemmas.Str.Pattern.{split_once_first}
 use Rattle.http_cache_fields.specs.Text.{trim}

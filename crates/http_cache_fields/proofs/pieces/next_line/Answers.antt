@@ -1,4 +1,4 @@
--- The next line is the first value that is text, and a value that is not is passed over.
+-- The next line is the first value that is text; other values are skipped.
 use Rattle.std.proofs.Common.{refl, true≢false, sym, ap, ◌∙◌, ◌∷◌}
 use Rattle.http_cache_fields.specs.Headers.{bytes_of}
 use Rattle.http_cache_fields.specs.Pieces.{text_lines}

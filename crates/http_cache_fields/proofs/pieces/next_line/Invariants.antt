@@ -1,4 +1,4 @@
--- The values that are left have the same lines of text as those at the start.
+-- In the loop: the values that are left have all the lines of text.
 use Rattle.std.proofs.Common.{◌≡◌}
 use Rattle.http_cache_fields.specs.Headers.{bytes_of}
 use Rattle.http_cache_fields.specs.Pieces.{text_lines}

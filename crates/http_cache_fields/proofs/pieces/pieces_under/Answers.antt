@@ -1,4 +1,4 @@
--- The pieces of what a map has under a name are those of its headers under that name.
+-- The pieces under a name of a map are those of its headers.
 use Rattle.std.proofs.Common.{ap, sym, ◌∙◌}
 use Rattle.http_cache_fields.specs.Headers.{bytes_of}
 use Rattle.http_cache_fields.specs.Pieces.{pieces_of_values}

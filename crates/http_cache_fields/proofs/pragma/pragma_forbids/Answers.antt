@@ -1,4 +1,4 @@
--- A first Pragma that is text asks for validation exactly where `no-cache` stands in it.
+-- The first Pragma, if it is text, asks for validation exactly if it contains `no-cache`.
 use Rattle.std.proofs.Common.{false, codes, option_map, unwrap_or, ap, ◌∙◌}
 use Rattle.http_cache_fields.specs.Text.{contains}
 use Rattle.http_cache_fields.proofs.ContainsLemmas.{contains-from_search}

@@ -1,4 +1,4 @@
--- Each piece is read as one directive more, if it has a name.
+-- Each piece is read as one more directive, if it has a name.
 use Rattle.std.proofs.Common.{ℕ, List, length, Option, sym, subst, ap, ◌∙◌}
 use Rattle.std.specs.Borrow.{Bor}
 use Rattle.std.specs.Option.{option_copied}
@@ -33,7 +33,6 @@ returns c =
     c.loop-piece.yielded_by _ _ c.in-None.is c.next.ensures.steps in
     ap (λ r. with_conflict r.conflict r.first) c.loop-piece.invariant.2 ∙ ap directives seen.0
 
--- a piece of the values makes a directive
 pub with-requires : goal.with-requires
 with-requires c =
     let all = pieces_of_values (bytes_of c.args.all) in

@@ -1,4 +1,4 @@
--- While pieces are read, what is read is what the named pieces so far say.
+-- In the loop: the directives so far are what the named pieces so far say.
 use Rattle.std.proofs.Common.{◌≡◌}
 use Rattle.http_cache_fields.specs.ReadMore.{read_of}
 use Rattle.http_cache_fields.proofs.ReadLemmas.{named}

@@ -1,4 +1,4 @@
--- A piece has the name, in any case, exactly where that is among the directives.
+-- A piece has the name, in any case, exactly if the directives have it.
 use Rattle.std.proofs.Common.{◌≡◌, true, codes, length, rules, tests, arith, ap, ◌∙◌, bytes_eq, nat_lt}
 use Rattle.std.specs.Char.{to_ascii_lowercase}
 use Rattle.std.proofs.lemmas.Bool.Decides.{nat_tests}

@@ -1,4 +1,4 @@
--- A text whose ends are neither byte stays.
+-- A text that neither begins nor ends with the two bytes isn't changed.
 use Rattle.std.proofs.Common.{◌≡◌, ℕ, List, ◌∙◌, sym, subst, arith}
 use Rattle.http_cache_fields.specs.Text.{is_either, trim_both}
 use Rattle.http_cache_fields.proofs.TextLemmas.{trim_both-ends}

@@ -1,4 +1,4 @@
--- A value with bytes needs no quotes exactly where each is an ASCII letter or digit.
+-- A value needs no quotes exactly if it has bytes, and each is an ASCII letter or digit.
 use Rattle.std.proofs.Common.{◌≡◌, true, length, nat_lt, ◌&&◌, sym, ap, ◌∙◌, arith, rules}
 use Rattle.std.specs.Char.{is_ascii_alphanumeric}
 use Rattle.std.specs.List.{list_all}

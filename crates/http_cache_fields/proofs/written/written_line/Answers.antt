@@ -1,4 +1,4 @@
--- The line of the directives is text, and it reads back as the same directives.
+-- The line is text, and it reads back as the same directives.
 use Rattle.std.proofs.Common.{◌≡◌, ◌++◌, ◌<◌, [], ◌∷◌, length, arith, sym, ap, ◌∙◌, take, string_bytes}
 use Rattle.std.specs.Option.{option_map, option_copied}
 use Rattle.std.proofs.lemmas.List.{append-nil}
@@ -31,7 +31,6 @@ loop-i-preserved c =
     (c.in_ok-push_value.ensures
     ∙ ap (λ l. l ++ written_rest (option_copied c.unwrap.result.1)) c.in_ok-push_str-2.ensures.bytes)
 
--- at the end the line is the whole of the directives
 pub returns-clause-reads_back : goal.returns-clause-reads_back
 returns-clause-reads_back c =
     let ds = c.args.control.now in

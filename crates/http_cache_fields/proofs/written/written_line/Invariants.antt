@@ -1,4 +1,4 @@
--- While directives are written, the line is that of the directives so far.
+-- In the loop: the line has the directives so far.
 use Rattle.std.proofs.Common.{◌≡◌, take, string_bytes}
 use Rattle.http_cache_fields.specs.Written.{written_line}
 use Rattle.http_cache_fields.proofs.written.written_line.Given as goal

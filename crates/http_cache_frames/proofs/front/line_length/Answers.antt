@@ -2,7 +2,7 @@ use Rattle.std.proofs.Common.{arith, ◌≤◌, ◌<◌, length, sym, subst}
 use Rattle.std.proofs.lemmas.List.{length-take-le, take_all}
 use Rattle.memchr.specs.Find.{IsFirstByte, is_byte}
 use Rattle.http_cache_frames.specs.Front.{longest_line}
-use Rattle.http_cache_frames.proofs.PlaceLemmas.{first-below}
+use Rattle.http_cache_frames.proofs.LineEndLemmas.{first-below}
 use Rattle.http_cache_frames.proofs.front.line_length.Goals as goal
 
 -- src/front.rt
@@ -17,8 +17,8 @@ returns-then-bytes-gt-LONGEST_LINE-clause-within c =
     first-below _ (λ count. count < length c.args.bytes.now) 0 _ _ c.memchr.ensures
     (λ count below. omega (arith, below, room, c.if-bytes-gt-LONGEST_LINE.true))
 
-pub returns-else-bytes-gt-LONGEST_LINE-clause-place : goal.returns-else-bytes-gt-LONGEST_LINE-clause-place
-returns-else-bytes-gt-LONGEST_LINE-clause-place c =
+pub returns-else-bytes-gt-LONGEST_LINE-clause-position : goal.returns-else-bytes-gt-LONGEST_LINE-clause-position
+returns-else-bytes-gt-LONGEST_LINE-clause-position c =
     subst (λ hay. IsFirstByte (is_byte 10) hay c.memchr-else-bytes-gt-LONGEST_LINE.result)
     (sym (take_all 4097 c.args.bytes.now (omega (arith, c.if-bytes-gt-LONGEST_LINE.false))))
     c.memchr-else-bytes-gt-LONGEST_LINE.ensures

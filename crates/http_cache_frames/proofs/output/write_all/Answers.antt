@@ -1,4 +1,4 @@
--- Each write takes a front of what is left; where one fails, a beginning was written.
+-- Each write takes a front of the rest; if one fails, a beginning was written.
 use Rattle.std.proofs.Common.{rules, arith, length-append, ◌≡◌, ℕ, ◌-◌, List, [], ◌++◌, Option, IfErr, length, take, drop}
 use Rattle.std.proofs.Common.{sym, ap, subst, refl, ◌∙◌, append_assoc, append-nil, take-append-drop}
 use Rattle.std.proofs.lemmas.List.{take_rest}
@@ -18,7 +18,6 @@ moves_front all done rest n e =
     ∙ sym (append_assoc done (take n rest) (drop n rest))
     ∙ ap (λ l. (done ++ take n rest) ++ l) (sym (take_rest rest n))
 
--- what was written is a beginning
 cut_after : (before after : Option (List ℕ)) (all done rest : List ℕ) → all ≡ done ++ rest
     → Appends before after done → IsCut before after all
 cut_after before after all done rest e went = record {
@@ -33,14 +32,14 @@ returns-in_err-count-clause-cut g c =
     let before = g.W.Write.contents c.args.to.now in
     let now = g.W.Write.contents c.loop.to in
     let after = g.W.Write.contents c.write_some.new.to in
-    let told : IfErr c.from_residual.result (λ ended. (ended ≡ NotWritten) × Appends now after []) = search rules in
+    let on_error : IfErr c.from_residual.result (λ ended. (ended ≡ NotWritten) × Appends now after []) = search rules in
     IfErr-weaker c.from_residual.result _ _
     (λ ended failed. (
       failed.0,
       cut_after before after c.args.bytes.now done c.loop.rest.now split
           (subst (Appends before after) (append-nil done) (Appends-trans before now after done [] appended failed.1)),
     ))
-    told
+    on_error
 
 pub loop-preserved : goal.loop-preserved
 loop-preserved g c =

@@ -1,4 +1,4 @@
--- What was written is a front of the bytes, and the rest is left.
+-- A front of the bytes was written, and the rest is left.
 use Rattle.std.proofs.Common.{◌≡◌, ℕ, List, ◌++◌}
 use Rattle.std.specs.Io.KnownBytes.{Appends}
 use Rattle.http_cache_frames.proofs.output.write_all.Given as goal

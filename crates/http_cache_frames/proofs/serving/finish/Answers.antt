@@ -1,4 +1,3 @@
--- What can't be written is cut.
 use Rattle.std.proofs.Common.{rules}
 use Rattle.http_cache_frames.proofs.TurnLemmas.{cut_at}
 use Rattle.http_cache_frames.proofs.serving.finish.Goals as goal

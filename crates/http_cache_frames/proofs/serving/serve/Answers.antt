@@ -1,4 +1,4 @@
--- The turns are served from the beginning, and at the end what is waiting is written.
+-- The loop serves frames from the beginning, and the waiting replies are written at the end.
 use Rattle.std.proofs.Common.{[], sym, subst, ◌∙◌}
 use Rattle.http_cache_frames.specs.Served.{HasTaken, HasWritten, AreServed}
 use Rattle.http_cache_frames.proofs.ServedLemmas.{nothing_taken, nothing_written}

@@ -1,4 +1,4 @@
--- One frame more has its reply, at each way on and at each end.
+-- One more frame has its reply, whether the loop continues or ends.
 use Rattle.std.proofs.Common.{[], ◌∷◌, ◌++◌, refl, sym, subst, append-nil}
 use Rattle.http_cache_frames.specs.Served.{HasWritten, TakesFrame, greeting}
 use Rattle.http_cache_frames.specs.declared.input.Next.TheVariants as next

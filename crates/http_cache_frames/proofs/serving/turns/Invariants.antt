@@ -1,4 +1,4 @@
--- So far each frame that was taken has its reply, and the greeting and the replies are written or waiting.
+-- Each taken frame has its reply, and the greeting and all replies are written or waiting.
 use Rattle.std.proofs.Common.{ℕ, List, [], ◌∷◌, Option}
 use Rattle.http_cache_frames.specs.Served.{AreFrameTexts, AreReplies, HasTaken, HasWritten, replies_text, greeting}
 use Rattle.http_cache_frames.specs.declared.frame.Frame.{Frame}

@@ -1,4 +1,3 @@
--- The value has the bytes of the date.
 use Rattle.std.proofs.Common.{ap, sym, subst}
 use Rattle.http_header.specs.FieldValue.{FieldValue}
 use Rattle.http_cache_rules.specs.Dates.{IsHttpDate}

@@ -1,4 +1,4 @@
--- There are as many as the look-up yields.
+-- The look-up yields each Host line.
 use Rattle.std.proofs.Common.{codes, length, ap, sym, ◌∙◌}
 use Rattle.std.specs.Borrow.{Bor}
 use Rattle.std.proofs.lemmas.Iterator.Consumers.{count_from_yields_List, YieldsList-from_first}

@@ -1,4 +1,4 @@
--- The first Host is the one that a look-up finds.
+-- The look-up finds the first Host.
 use Rattle.std.proofs.Common.{◌≡◌, ℕ, List, [], codes, Option, Some, None, IfOk, ap, sym, subst, ◌∙◌, rules}
 use Rattle.std.specs.Prelude.{unwrap_or, option_map}
 use Rattle.http_header.specs.FieldValue.{FieldValue}

@@ -1,4 +1,4 @@
--- A value is text where each of its bytes is.
+-- A value is text if each of its bytes is.
 use Rattle.std.proofs.Common.{ap, ◌∙◌}
 use Rattle.std.specs.Option.{option_copied}
 use Rattle.http_cache_fields.proofs.FieldLemmas.{text_of-from_to_str}

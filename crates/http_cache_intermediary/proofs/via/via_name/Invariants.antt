@@ -1,4 +1,4 @@
--- What is written so far is the name up to the index.
+-- The written text is the name up to the index.
 use Rattle.std.proofs.Common.{◌≡◌, map, take, string_bytes}
 use Rattle.http_cache_intermediary.specs.Via.{via_byte}
 use Rattle.http_cache_intermediary.proofs.via.via_name.Given as goal

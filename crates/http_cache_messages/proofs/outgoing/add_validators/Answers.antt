@@ -1,4 +1,4 @@
--- One condition is added after the other.
+-- The two conditions are added one after the other.
 use Rattle.std.proofs.Common.{codes, ◌∙◌}
 use Rattle.http_cache_fields.specs.Headers.{headers_of}
 use Rattle.http_cache_messages.specs.Outgoing.{set_if_some}

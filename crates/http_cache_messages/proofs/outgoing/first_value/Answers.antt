@@ -1,4 +1,4 @@
--- What `get` shows is the first value.
+-- `get` shows the first value.
 use Rattle.std.proofs.Common.{ap, sym, ◌∙◌, option_map}
 use Rattle.http_cache_fields.proofs.HeadersLemmas.{first-headers_of}
 use Rattle.http_cache_messages.proofs.OutgoingLemmas.{bytes-copied}

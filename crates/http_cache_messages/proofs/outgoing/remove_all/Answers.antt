@@ -1,4 +1,3 @@
--- Each name is taken away in its turn.
 use Rattle.std.proofs.Common.{ℕ, List, [], map, take, get_or, ap, sym, ◌∙◌, arith}
 use Rattle.std.specs.Borrow.{Bor}
 use Rattle.std.specs.FinMap as fin

@@ -1,4 +1,4 @@
--- While names are taken away, the headers are without those so far.
+-- The headers are without the earlier names.
 use Rattle.std.proofs.Common.{◌≡◌, map, take}
 use Rattle.http_cache_fields.specs.Headers.{headers_of}
 use Rattle.http_cache_rules.specs.Forwarding.{without_named}

@@ -1,4 +1,4 @@
--- What is passed on, without what is taken off, and with the stored validators.
+-- The request has the forwarded fields without the removed ones, and the stored validators.
 use Rattle.std.proofs.Common.{ap, sym, subst, ◌∙◌}
 use Rattle.http.specs.Request.{head_of}
 use Rattle.http_cache_fields.specs.Headers.{headers_of}

@@ -1,4 +1,4 @@
--- Each character is written as it is escaped.
+-- Each character is written escaped.
 use Rattle.std.proofs.Common.{sym, ◌∙◌, append_assoc, append-nil}
 use Rattle.std.proofs.lemmas.Str.{IsUtf8-past_char}
 use Rattle.http_cache_page.proofs.EscapeLemmas.{escaped-empty, escaped-step}

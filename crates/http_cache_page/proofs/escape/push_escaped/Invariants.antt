@@ -1,4 +1,4 @@
--- What is written and what is left are the whole text.
+-- In the loop: the written text and the text that is left make the whole.
 use Rattle.std.proofs.Common.{◌≡◌, ◌++◌, IsUtf8, string_bytes}
 use Rattle.std.specs.Str.Iter.{chars_rest}
 use Rattle.http_cache_page.specs.Escape.{escaped}

@@ -1,4 +1,4 @@
--- A page is between tags at its end, since each of its pieces is.
+-- A page ends between tags, since each of its pieces does.
 use Rattle.std.proofs.Common.{sym, subst, take}
 use Rattle.http_cache_page.specs.Tags.{is_between_tags}
 use Rattle.http_cache_page.proofs.TagLemmas.{page-between}

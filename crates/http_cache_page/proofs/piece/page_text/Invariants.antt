@@ -1,4 +1,4 @@
--- The pieces so far are written.
+-- In the loop: the pieces so far are written.
 use Rattle.std.proofs.Common.{◌≡◌, take, string_bytes}
 use Rattle.http_cache_page.specs.Page.{page_text}
 use Rattle.http_cache_page.proofs.piece.page_text.Given as goal

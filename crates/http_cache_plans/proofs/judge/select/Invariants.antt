@@ -1,4 +1,4 @@
--- What is selected so far is one of the stored responses.
+-- The selected response is one of the stored ones.
 use Rattle.http_cache_plans.specs.Judge.{IsSelectedOf}
 use Rattle.http_cache_plans.proofs.judge.select.Given as goal
 

@@ -1,10 +1,10 @@
--- The outcomes are those of the only run of the steps; a refusal stops at a step that has none.
+-- The outcomes are the only run of the steps. An error means that a step has no outcome.
 use Rattle.std.proofs.Common.{rules, ◌≡◌, ◌<◌, Err, length, map, take, arith}
 use Rattle.std.proofs.lemmas.List.{take_all}
 use Rattle.http_cache_fields.specs.declared.error.CacheError.TheVariants.{HeaderMapFull, DateNotPrintable, Malformed}
 use Rattle.http_cache_policy.specs.Steps.{step_seen}
 use Rattle.http_cache_policy.specs.RunStops.{RefusesStep, HasUndatedStep, LosesTarget}
-use Rattle.http_cache_stored.proofs.ZipLemmas.{up_to_next}
+use Rattle.http_cache_json.proofs.ZipLemmas.{up_to_next}
 use Rattle.http_cache_policy.proofs.RunLemmas.{run-unique}
 use Rattle.http_cache_policy.proofs.RenewalLemmas.{taken-more, taken-renewed}
 use Rattle.http_cache_policy.proofs.StopLemmas.{full-no_outcome, undated-no_outcome, stops_at}

@@ -1,4 +1,4 @@
--- The steps before the one at hand were taken, and led to the current policy.
+-- In the loop: the earlier steps were taken, and led to the current policy.
 use Rattle.std.proofs.Common.{map, take}
 use Rattle.http_cache_policy.specs.Steps.{step_seen}
 use Rattle.http_cache_policy.proofs.RenewalLemmas.{HasTaken}

@@ -1,4 +1,4 @@
--- A restart goes on with what reads back; it is malformed only where the printed target is none.
+-- A restart continues with what reads back. It is malformed only if the printed target isn't one.
 use Rattle.std.proofs.Common.{rules, ◌≡◌, Err, refl, sym, ◌∙◌, subst}
 use Rattle.serde_json.specs.Data.{Data}
 use Rattle.http_cache_fields.specs.declared.error.CacheError.TheVariants.{Malformed}

@@ -1,4 +1,4 @@
--- A restart that is malformed is a step that has no outcome.
+-- A malformed restart is a step without an outcome.
 use Rattle.http_cache_policy.proofs.run.take_step.Goals as goal
 
 pub returns-in-Restart-clause-stops : goal.returns-in-Restart-clause-stops

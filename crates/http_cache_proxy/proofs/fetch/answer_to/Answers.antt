@@ -1,4 +1,4 @@
--- What holds of the request as it is sent on holds of the request.
+-- What holds of the forwarded request holds of the received one.
 use Rattle.std.proofs.Common.{inr}
 use Rattle.std.proofs.lemmas.Result.{on_err_weaker}
 use Rattle.http_cache_proxy.proofs.CauseLemmas.{causes-forwarded, kept-forwarded}

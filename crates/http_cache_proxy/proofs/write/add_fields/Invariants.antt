@@ -1,4 +1,4 @@
--- What was added, and what is still to come of the map, are all that is to be written.
+-- The added fields and the rest of the map are all fields to write.
 use Rattle.std.proofs.Common.{◌≡◌, ◌++◌, map}
 use Rattle.http_server.specs.Response.{fields, fields_of}
 use Rattle.http_cache_proxy.specs.Write.{written_field, written_fields}

@@ -1,4 +1,4 @@
--- What is written so far is the string of the bytes up to the index, without the quote at its end.
+-- In the loop: the text is the string of the bytes so far, without its last quote.
 use Rattle.std.proofs.Common.{◌≡◌, ◌++◌, map, take, string_bytes}
 use Rattle.std.specs.List.{flat_map}
 use Rattle.http_cache_reasons.specs.StructuredField.{escaped, printable}

@@ -1,4 +1,4 @@
--- The row has the front of the url, if there is one.
+-- The row has the beginning of the url, if there is one.
 use Rattle.std.proofs.Common.{ap, ◌∙◌}
 use Rattle.std.specs.Prelude.{option_map, string_bytes}
 use Rattle.serde_json.specs.View.{view}

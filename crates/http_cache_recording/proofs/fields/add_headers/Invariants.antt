@@ -1,4 +1,4 @@
--- The headers have the values of those so far.
+-- In the loop: the headers have the values of the fields so far.
 use Rattle.std.proofs.Common.{◌≡◌, fold, take}
 use Rattle.serde_json.specs.View.{view}
 use Rattle.http_cache_fields.specs.Headers.{headers_of}

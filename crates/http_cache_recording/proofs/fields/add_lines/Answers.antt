@@ -1,4 +1,4 @@
--- A line is added at each turn, and each line of the text in the end.
+-- Each turn adds a line, so all lines of the text are added.
 use Rattle.std.proofs.Common.{Bor, List, ℕ, map, fold, sym, ap, ◌∙◌, lit<}
 use Rattle.std.proofs.lemmas.List.{map_push}
 use Rattle.std.proofs.lemmas.List.Sums.{fold_push}

@@ -1,4 +1,4 @@
--- The headers have the values of the lines so far.
+-- In the loop: the headers have the values of the lines so far.
 use Rattle.std.proofs.Common.{◌≡◌, map, fold}
 use Rattle.http_cache_fields.specs.Headers.{headers_of}
 use Rattle.http_cache_recording.specs.Fields.{with_line}

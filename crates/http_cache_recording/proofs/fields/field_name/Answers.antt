@@ -1,4 +1,4 @@
--- A text is a header name, or it isn't.
+-- A text is a field name, or it isn't.
 use Rattle.std.proofs.Common.{sym, ap, Err}
 use Rattle.http_header.proofs.TokenLemmas.{IsHeaderName-lowercase}
 use Rattle.http_cache_recording.specs.Fields.{field_name}

@@ -1,4 +1,4 @@
--- Each name has a value, so that a map with few values has few names.
+-- Each name has a value, so a map with few values has few names.
 use Rattle.std.proofs.Common.{ℕ, suc, ◌<◌, ◌≤◌, List, [], ◌∷◌, length, sym, ap, ◌∙◌, inl, inr, arith}
 use Rattle.std.specs.Prelude.{All, nat_lt}
 use Rattle.std.specs.FinMap as fin

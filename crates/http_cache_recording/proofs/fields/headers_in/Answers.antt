@@ -1,4 +1,4 @@
--- The values of a list are those that are seen of it.
+-- The values of a list are those of its view.
 use Rattle.std.proofs.Common.{◌≡◌, List, [], map, fold, sym, ap, ◌∙◌, Option, Some}
 use Rattle.std.specs.Prelude.{option_map, unwrap_or}
 use Rattle.std.specs.FinMap as fin
@@ -8,8 +8,8 @@ use Rattle.serde_json.specs.View.{view, items_view}
 use Rattle.serde_json.specs.Find.{as_array}
 use Rattle.serde_json.specs.declared.value.Value.{Value}
 use Rattle.http_cache_fields.specs.Headers.{headers_of}
-use Rattle.http_cache_stored.specs.Lists.{values_of}
-use Rattle.http_cache_stored.proofs.ZipLemmas.{values_of-items_of}
+use Rattle.http_cache_json.specs.Lists.{values_of}
+use Rattle.http_cache_json.proofs.ZipLemmas.{values_of-items_of}
 use Rattle.http_cache_recording.specs.Fields.{headers_in, with_header}
 use Rattle.http_cache_recording.proofs.fields.headers_in.Goals as goal
 

@@ -1,4 +1,4 @@
--- Each byte from the length on is a blank.
+-- In the loop: each byte from the length on is a blank.
 use Rattle.std.proofs.Common.{◌≡◌, ◌+◌, ◌≤◌, length, take}
 use Rattle.std.specs.List.{suffix_len}
 use Rattle.http_cache_recording.specs.Fields.{is_blank}

@@ -1,4 +1,4 @@
--- What a line holds is a value, or it isn't.
+-- The content of a line is a value, or it isn't.
 use Rattle.std.proofs.Common.{sym, ap, Err}
 use Rattle.http_cache_recording.specs.Fields.{value_of_line}
 use Rattle.http_cache_recording.proofs.FieldLemmas.{given_yes, given_no, is_value-Decides}

@@ -1,4 +1,4 @@
--- The text has what becomes of the unit, and then what follows the unit.
+-- The text is the unit mended, and then what follows the unit.
 use Rattle.std.proofs.Common.{◌≡◌, ◌++◌, take, drop, true, false, sym, ap, ◌∙◌}
 use Rattle.std.proofs.lemmas.List.{take-append-drop}
 use Rattle.http_cache_recording.specs.Mend.{is_lone}

@@ -1,4 +1,4 @@
--- No byte so far begins a zone.
+-- In the loop: no byte so far begins a zone.
 use Rattle.std.proofs.Common.{◌≡◌, take, false}
 use Rattle.std.specs.List.{list_any}
 use Rattle.http_cache_recording.specs.Moment.{is_zone_mark}

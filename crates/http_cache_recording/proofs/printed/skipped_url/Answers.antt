@@ -1,4 +1,4 @@
--- The front ends where it is cut.
+-- The text that is shown ends where it is cut.
 use Rattle.std.proofs.Common.{◌∙◌}
 use Rattle.std.proofs.lemmas.Slice.{between_from_start}
 use Rattle.http_cache_recording.proofs.printed.skipped_url.Goals as goal

@@ -1,4 +1,4 @@
--- The bytes so far leave open what is counted.
+-- In the loop: the nesting is that of the bytes so far.
 use Rattle.std.proofs.Common.{◌≡◌, take}
 use Rattle.http_cache_recording.specs.Recording.{nesting_of}
 use Rattle.http_cache_recording.proofs.recording.is_too_deep.Given as goal

@@ -4,7 +4,7 @@ use Rattle.std.specs.List.{AllZip}
 use Rattle.std.proofs.lemmas.List.{map_push}
 use Rattle.serde_json.specs.Data.{Data}
 use Rattle.serde_json.specs.View.{view}
-use Rattle.http_cache_stored.proofs.ZipLemmas.{zip_push, up_to_next}
+use Rattle.http_cache_json.proofs.ZipLemmas.{zip_push, up_to_next}
 use Rattle.http_cache_recording.specs.Entry.{RecordedSeen, recorded_seen}
 use Rattle.http_cache_recording.specs.Element.{IsRecorded}
 use Rattle.http_cache_recording.proofs.recording.recorded_all.Goals as goal

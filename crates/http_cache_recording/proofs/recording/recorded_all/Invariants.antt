@@ -1,4 +1,4 @@
--- The entries so far are those of the values before the one at hand.
+-- In the loop: the entries so far are the earlier values'.
 use Rattle.std.proofs.Common.{map, take}
 use Rattle.std.specs.List.{AllZip}
 use Rattle.serde_json.specs.View.{view}

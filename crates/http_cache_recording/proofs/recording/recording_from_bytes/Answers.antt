@@ -4,9 +4,9 @@ use Rattle.std.specs.List.{AllZip}
 use Rattle.serde_json.specs.Data.{Data}
 use Rattle.serde_json.specs.View.{view, items_view}
 use Rattle.serde_json.specs.declared.value.Value.{Value}
-use Rattle.http_cache_stored.specs.Lists.{values_of}
-use Rattle.http_cache_stored.proofs.SomeLemmas.{some_and}
-use Rattle.http_cache_stored.proofs.ZipLemmas.{values_of-items_of}
+use Rattle.http_cache_json.specs.Lists.{values_of}
+use Rattle.http_cache_json.proofs.SomeLemmas.{some_and}
+use Rattle.http_cache_json.proofs.ZipLemmas.{values_of-items_of}
 use Rattle.http_cache_recording.specs.declared.element.Reader.{Reader}
 use Rattle.http_cache_recording.specs.Entry.{recorded_seen}
 use Rattle.http_cache_recording.specs.Element.{IsRecorded}

@@ -1,4 +1,4 @@
--- What the reader of JSON refuses is no JSON.
+-- A text that the reader of JSON refuses is no JSON.
 use Rattle.std.proofs.Common.{◌≡◌, ℕ, List, length, sym, ap, ◌∙◌, subst, arith}
 use Rattle.std.specs.Str.{IsUtf8}
 use Rattle.std.proofs.lemmas.Bool.{both_ways}

@@ -1,4 +1,4 @@
--- The pieces of the name are looked through in turn.
+-- The loop looks at each piece of the name.
 use Rattle.std.proofs.Common.{rules, tests, true}
 use Rattle.std.proofs.lemmas.Iterator.Search.{any_from_yields_List}
 use Rattle.std.proofs.lemmas.Iterator.Splits.{YieldsList-from_slice_split}

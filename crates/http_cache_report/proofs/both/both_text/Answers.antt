@@ -1,4 +1,4 @@
--- The recording is walked by both caches, and their differences are written.
+-- Both caches walk over the recording, and their differences are written.
 use Rattle.std.proofs.Common.{◌∙◌, ap, subst, ℕ, List, map}
 use Rattle.std.proofs.lemmas.Result.{IfOk-weaker}
 use Rattle.http_cache_semantics.specs.Options.{Options}

@@ -1,4 +1,4 @@
--- Each url so far has its answer.
+-- Each earlier url has its answer.
 use Rattle.std.proofs.Common.{◌≡◌, map, take}
 use Rattle.http_cache_audit.specs.Row.{row_seen}
 use Rattle.http_cache_report.specs.Both.{differs}

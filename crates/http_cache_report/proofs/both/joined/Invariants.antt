@@ -1,4 +1,4 @@
--- The texts so far are joined.
+-- The earlier texts are joined.
 use Rattle.std.proofs.Common.{◌≡◌, [], map, fold, take, string_bytes}
 use Rattle.http_cache_report.specs.Words.{with_piece}
 use Rattle.http_cache_report.proofs.both.joined.Given as goal

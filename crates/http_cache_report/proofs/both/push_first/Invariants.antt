@@ -1,4 +1,4 @@
--- The lines of the keys so far are written.
+-- The lines of the earlier keys are written.
 use Rattle.std.proofs.Common.{◌≡◌, ◌++◌, map, take, string_bytes}
 use Rattle.std.specs.List.{flat_map}
 use Rattle.http_cache_recording.specs.Entry.{recorded_seen}

@@ -1,4 +1,3 @@
--- One request more has its copy.
 use Rattle.std.proofs.lemmas.Option.{slice_get-get_or}
 use Rattle.http_cache_recording.specs.Entry.{recorded_seen}
 use Rattle.http_cache_report.proofs.VisitLemmas.{made-next}

@@ -1,4 +1,4 @@
--- The requests so far have their copies.
+-- The earlier requests have their copies.
 use Rattle.std.proofs.Common.{map, take}
 use Rattle.std.specs.List.{AllZip}
 use Rattle.http_cache_recording.specs.Entry.{recorded_seen}

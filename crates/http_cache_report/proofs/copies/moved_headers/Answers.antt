@@ -1,4 +1,4 @@
--- The dates are moved in turn.
+-- Date is moved, then Expires.
 use Rattle.std.proofs.lemmas.Int.{to_z-of_z}
 use Rattle.http_cache_fields.specs.Headers.{headers_of}
 use Rattle.http_cache_report.proofs.copies.moved_headers.Goals as goal

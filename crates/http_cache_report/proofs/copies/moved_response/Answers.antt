@@ -1,4 +1,3 @@
--- The status is the same, and the dates are moved.
 use Rattle.std.proofs.Common.{refl}
 use Rattle.std.proofs.lemmas.Int.{to_z-of_z}
 use Rattle.http_cache_report.proofs.copies.moved_response.Goals as goal

@@ -1,4 +1,4 @@
--- What is known of the rows is read off what was made of them.
+-- The facts follow from what was made of the rows.
 use Rattle.std.proofs.Common.{◌∙◌, sym, ap, ℕ, List, length, map}
 use Rattle.std.proofs.lemmas.List.{length-map}
 use Rattle.http_cache_recording.specs.Entry.{recorded_seen}

@@ -1,4 +1,4 @@
--- What is repeated so far is listed.
+-- The earlier requests are listed.
 use Rattle.std.proofs.Common.{◌≡◌, map, take}
 use Rattle.http_cache_recording.specs.Entry.{recorded_seen}
 use Rattle.http_cache_report.specs.Remedy.{remedy_seen}

@@ -1,4 +1,4 @@
--- The urls so far have their lines.
+-- The earlier urls have their lines.
 use Rattle.std.proofs.Common.{◌≡◌, map, take}
 use Rattle.http_cache_recording.specs.Entry.{recorded_seen}
 use Rattle.http_cache_report.specs.Words.{style_seen}

@@ -1,4 +1,3 @@
--- The words are written, then the share.
 use Rattle.std.proofs.Common.{append_assoc}
 use Rattle.http_cache_report.proofs.first.push_first_head.Goals as goal
 

@@ -1,4 +1,4 @@
--- The lines are written, then what they save.
+-- The lines are written, then the saving.
 use Rattle.std.proofs.Common.{◌∙◌, ◌++◌, ap, append_assoc, List, ℕ, string_bytes}
 use Rattle.http_cache_report.specs.First.{saved_text}
 use Rattle.http_cache_report.proofs.first.push_line.Goals as goal

@@ -1,4 +1,3 @@
--- The lines of one url more are written.
 use Rattle.std.proofs.Common.{rules, refl, length}
 use Rattle.std.proofs.lemmas.Option.{slice_get_read}
 use Rattle.http_cache_audit.proofs.CountsLemmas.{written_next}

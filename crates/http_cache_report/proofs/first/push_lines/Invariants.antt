@@ -1,4 +1,4 @@
--- The lines of the urls so far are written.
+-- The lines of the earlier urls are written.
 use Rattle.std.proofs.Common.{◌≡◌, ◌++◌, map, take, string_bytes}
 use Rattle.std.specs.List.{flat_map}
 use Rattle.http_cache_report.specs.First.{line_text, line_seen}

@@ -1,4 +1,4 @@
--- The bytes so far are summed.
+-- The earlier bytes are summed.
 use Rattle.std.proofs.Common.{◌≡◌, fold, take}
 use Rattle.http_cache_report.specs.First.{more_bytes}
 use Rattle.http_cache_report.proofs.first.three_bytes.Given as goal

@@ -1,4 +1,3 @@
--- One head more is recorded.
 use Rattle.std.proofs.Common.{◌≡◌, ◌∙◌, sym, ap, subst, arith, List, ◌∷◌, [], ◌++◌, length, true}
 use Rattle.http_cache_recording.specs.Entry.{RecordedSeen}
 use Rattle.http_cache_report.specs.Heads.{front_of, is_heads, AreHeads, with_head}

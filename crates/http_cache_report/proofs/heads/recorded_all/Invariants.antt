@@ -1,4 +1,4 @@
--- The heads before what is left are recorded.
+-- The heads before the rest are recorded.
 use Rattle.std.proofs.Common.{◌≡◌, ◌≤◌, List, map, length}
 use Rattle.http_cache_recording.specs.Entry.{recorded_seen}
 use Rattle.http_cache_report.specs.declared.heads.Head.{Head}

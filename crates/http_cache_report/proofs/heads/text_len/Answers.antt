@@ -1,4 +1,4 @@
--- A line more is passed that isn't the last.
+-- One more line that isn't the last is passed.
 use Rattle.std.proofs.Common.{◌≡◌, ◌∙◌, sym, ap, arith, ℕ, ◌+◌, suc, drop, add-one}
 use Rattle.std.proofs.lemmas.List.{take_rest}
 use Rattle.http_cache_report.specs.Heads.{text_len, is_last}

@@ -1,4 +1,4 @@
--- The section is of both lines.
+-- The section has both lines.
 use Rattle.std.proofs.Common.{◌∙◌, ap, ℕ, List, ◌++◌, string_bytes}
 use Rattle.std.proofs.lemmas.Result.{IfOk-weaker}
 use Rattle.http_cache_report.specs.InOrder.{section_if}

@@ -1,4 +1,4 @@
--- The urls so far are joined.
+-- The earlier urls are joined.
 use Rattle.std.proofs.Common.{◌≡◌, [], map, fold, take, string_bytes}
 use Rattle.http_cache_recording.specs.Entry.{recorded_seen}
 use Rattle.http_cache_report.specs.Words.{style_seen}

@@ -1,4 +1,3 @@
--- Each visit is counted in turn.
 use Rattle.http_cache_audit.proofs.CountsLemmas.{also_then}
 use Rattle.http_cache_report.proofs.later.add_all_confirms.Goals as goal
 

@@ -1,4 +1,4 @@
--- What is counted is what the url says.
+-- The sums depend only on the url's text, its size and its guess.
 use Rattle.std.proofs.Common.{List, ℕ, Option, map, subst}
 use Rattle.http_cache_recording.specs.Entry.{recorded_seen}
 use Rattle.http_cache_audit.specs.Counts.{CountsAlso}

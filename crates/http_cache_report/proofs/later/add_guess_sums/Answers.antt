@@ -1,4 +1,3 @@
--- The url is counted, then its bytes, then each visit.
 use Rattle.http_cache_audit.proofs.CountsLemmas.{also_then}
 use Rattle.http_cache_report.proofs.later.add_guess_sums.Goals as goal
 

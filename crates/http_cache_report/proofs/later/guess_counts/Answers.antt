@@ -1,4 +1,3 @@
--- What is counted of one more.
 use Rattle.std.proofs.Common.{map}
 use Rattle.std.proofs.lemmas.Option.{slice_get-get_or}
 use Rattle.http_cache_recording.specs.Entry.{recorded_seen}

@@ -1,4 +1,4 @@
--- Each part of the line is what it says.
+-- The parts of the line are written one after another.
 use Rattle.std.proofs.Common.{◌≡◌, ◌∙◌, ap, ℕ, List, ◌++◌, codes, string_bytes}
 use Rattle.std.specs.Prelude.{decimal}
 use Rattle.std.proofs.lemmas.Result.{IfOk-weaker}

@@ -1,4 +1,4 @@
--- The least guess so far is known.
+-- The least guess of the earlier urls is known.
 use Rattle.std.proofs.Common.{◌≡◌, ◌^◌, ◌-◌, map, fold, take}
 use Rattle.http_cache_recording.specs.Entry.{recorded_seen}
 use Rattle.http_cache_report.specs.Later.{least_guess}

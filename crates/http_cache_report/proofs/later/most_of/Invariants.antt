@@ -1,4 +1,4 @@
--- The greatest guess so far is known.
+-- The greatest guess of the earlier urls is known.
 use Rattle.std.proofs.Common.{◌≡◌, map, fold, take}
 use Rattle.http_cache_recording.specs.Entry.{recorded_seen}
 use Rattle.http_cache_report.specs.Later.{most_guess}

@@ -1,4 +1,4 @@
--- The line says what is counted.
+-- The line has the counted sums.
 use Rattle.std.proofs.Common.{◌∙◌, ◌++◌, ◌^◌, ◌-◌, ap, ℕ, fold, map, string_bytes}
 use Rattle.http_cache_recording.specs.Entry.{recorded_seen}
 use Rattle.http_cache_report.specs.Later.{guess_text, least_guess}

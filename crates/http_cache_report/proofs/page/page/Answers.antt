@@ -1,4 +1,4 @@
--- The page is of what is known of the recording, and of pieces.
+-- The page consists of pieces, and reports the facts about the recording.
 use Rattle.http_cache_report.proofs.page.page.Goals as goal
 
 pub returns : goal.returns

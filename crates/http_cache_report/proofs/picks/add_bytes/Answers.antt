@@ -1,4 +1,3 @@
--- The bytes are counted for the url, then for its base.
 use Rattle.http_cache_audit.proofs.CountsLemmas.{also_then}
 use Rattle.http_cache_report.proofs.picks.add_bytes.Goals as goal
 

@@ -1,4 +1,4 @@
--- The picks of the keys so far are listed.
+-- The picks of the earlier keys are listed.
 use Rattle.std.proofs.Common.{◌≡◌, map, take}
 use Rattle.std.specs.List.{flat_map}
 use Rattle.http_cache_recording.specs.Entry.{recorded_seen}

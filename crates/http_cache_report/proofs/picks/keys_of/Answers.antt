@@ -1,4 +1,3 @@
--- The key of one url more is listed.
 use Rattle.std.proofs.Common.{arith, ◌≤◌, ◌∙◌, ap, length, map}
 use Rattle.std.specs.List.{flat_map, enumerate_from}
 use Rattle.std.proofs.lemmas.List.{take_all}

@@ -1,4 +1,4 @@
--- The keys of the urls so far are listed.
+-- The keys of the earlier urls are listed.
 use Rattle.std.proofs.Common.{◌≡◌, map, take}
 use Rattle.std.specs.List.{flat_map, enumerate_from}
 use Rattle.http_cache_recording.specs.Entry.{recorded_seen}

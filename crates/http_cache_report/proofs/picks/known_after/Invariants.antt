@@ -1,4 +1,4 @@
--- What is known of the rows so far is listed.
+-- The facts about the earlier rows are listed.
 use Rattle.std.proofs.Common.{◌≡◌, map, take}
 use Rattle.std.specs.List.{flat_map, enumerate_from}
 use Rattle.http_cache_audit.specs.Row.{row_seen}

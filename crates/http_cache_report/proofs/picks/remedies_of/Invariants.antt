@@ -1,4 +1,4 @@
--- What the picks so far are advised is listed.
+-- The advice for the earlier picks is listed.
 use Rattle.std.proofs.Common.{◌≡◌, map, take}
 use Rattle.http_cache_recording.specs.Entry.{recorded_seen}
 use Rattle.http_cache_report.specs.Remedy.{remedy_seen}

@@ -1,4 +1,4 @@
--- What changes so far, and the counts that are left.
+-- The changing bases of the earlier counts are listed, and the other counts are left.
 use Rattle.std.proofs.Common.{◌≡◌, ◌++◌, map}
 use Rattle.std.specs.List.{flat_map}
 use Rattle.http_cache_audit.specs.Counts.{total_in}

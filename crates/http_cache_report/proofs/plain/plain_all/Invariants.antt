@@ -1,4 +1,4 @@
--- What is made so far with what is left is all.
+-- What was made and what is left together are the whole recording.
 use Rattle.std.proofs.Common.{◌≡◌, ◌++◌, map}
 use Rattle.http_cache_recording.specs.Entry.{recorded_seen}
 use Rattle.http_cache_report.specs.Plain.{changing_seen, plain_recorded}

@@ -1,4 +1,3 @@
--- One line more is written.
 use Rattle.std.proofs.Common.{rules, refl, ◌∙◌, ap, ◌++◌, string_bytes, length}
 use Rattle.std.proofs.lemmas.Option.{slice_get_read}
 use Rattle.http_cache_audit.proofs.CountsLemmas.{written_next}

@@ -1,4 +1,4 @@
--- The lines so far are written.
+-- The earlier lines are written.
 use Rattle.std.proofs.Common.{◌≡◌, ◌++◌, map, take, string_bytes}
 use Rattle.std.specs.List.{flat_map}
 use Rattle.http_cache_report.specs.Plain.{changing_seen, query_line}

@@ -1,4 +1,3 @@
--- The base is counted, then its mark.
 use Rattle.http_cache_audit.proofs.CountsLemmas.{also_then}
 use Rattle.http_cache_report.proofs.queries.add_base.Goals as goal
 

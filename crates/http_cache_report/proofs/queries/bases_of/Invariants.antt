@@ -1,4 +1,4 @@
--- The urls so far are counted.
+-- The earlier urls are counted.
 use Rattle.std.proofs.Common.{map, take}
 use Rattle.std.specs.List.{flat_map}
 use Rattle.http_cache_recording.specs.Entry.{recorded_seen}

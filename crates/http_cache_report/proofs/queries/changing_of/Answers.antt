@@ -1,4 +1,3 @@
--- What is known of one row more is listed.
 use Rattle.std.proofs.Common.{rules, ◌∙◌, sym, ap, refl, ℕ, Bool, ◌∷◌, [], ◌++◌, List, map, take, length, add-one}
 use Rattle.std.proofs.lemmas.Option.{slice_get_read}
 use Rattle.http_cache_recording.specs.Entry.{recorded_seen}

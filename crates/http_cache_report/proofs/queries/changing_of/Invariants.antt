@@ -1,4 +1,4 @@
--- What is known of the rows so far is listed.
+-- Each earlier row has its answer.
 use Rattle.std.proofs.Common.{◌≡◌, map, take}
 use Rattle.http_cache_recording.specs.Entry.{recorded_seen}
 use Rattle.http_cache_audit.specs.Row.{row_seen}

@@ -1,4 +1,4 @@
--- The remedies are looked through in turn.
+-- The loop looks at each remedy.
 use Rattle.std.proofs.Common.{rules, tests, Bor, ◌∙◌, sym, ap, option_map}
 use Rattle.std.proofs.lemmas.Iterator.{YieldsList-from_slice}
 use Rattle.std.proofs.lemmas.Iterator.Search.{find_from_yields_List}

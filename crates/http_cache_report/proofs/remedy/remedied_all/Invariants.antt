@@ -1,4 +1,4 @@
--- What was remedied so far with what is left is all.
+-- What was remedied and what is left together are the whole recording.
 use Rattle.std.proofs.Common.{◌≡◌, ◌++◌, map}
 use Rattle.http_cache_recording.specs.Entry.{recorded_seen}
 use Rattle.http_cache_report.specs.Remedy.{remedy_seen, remedied}

@@ -1,4 +1,4 @@
--- The line is by the visits with what is advised.
+-- The line depends on the visits with what is advised.
 use Rattle.std.proofs.lemmas.Result.{IfOk-weaker}
 use Rattle.http_cache_report.proofs.responses.advised_text.Goals as goal
 

@@ -1,4 +1,4 @@
--- The text is of the rows of the walk.
+-- The text is about the rows of the walk.
 use Rattle.std.proofs.Common.{map}
 use Rattle.std.proofs.lemmas.Result.{IfOk-weaker}
 use Rattle.http_cache_audit.specs.Row.{row_seen}

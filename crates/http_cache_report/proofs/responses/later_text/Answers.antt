@@ -1,4 +1,4 @@
--- The text is of the visits, and of what to send by them.
+-- The text is about the visits, and about what to send because of them.
 use Rattle.std.proofs.Common.{string_bytes}
 use Rattle.http_cache_report.proofs.responses.later_text.Goals as goal
 

@@ -1,4 +1,4 @@
--- The lines of the faults so far are written.
+-- The lines of the earlier faults are written.
 use Rattle.std.proofs.Common.{◌≡◌, ◌++◌, map, take, string_bytes}
 use Rattle.http_cache_report.specs.Responses.{fault_lines}
 use Rattle.http_cache_report.proofs.responses.push_faults.Given as goal

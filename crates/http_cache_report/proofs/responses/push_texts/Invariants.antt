@@ -1,4 +1,4 @@
--- The texts so far are written.
+-- The earlier texts are written.
 use Rattle.std.proofs.Common.{◌≡◌, ◌++◌, ℕ, List, map, take, string_bytes}
 use Rattle.std.specs.List.{flat_map}
 use Rattle.http_cache_report.proofs.responses.push_texts.Given as goal

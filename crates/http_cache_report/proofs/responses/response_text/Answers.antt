@@ -1,4 +1,4 @@
--- The lines are of walks over the response alone.
+-- The lines are about walks over only this response.
 use Rattle.std.proofs.Common.{string_bytes}
 use Rattle.std.proofs.lemmas.Result.{IfOk-weaker}
 use Rattle.http_cache_report.proofs.responses.response_text.Goals as goal

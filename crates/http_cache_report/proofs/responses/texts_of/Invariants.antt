@@ -1,4 +1,4 @@
--- The texts so far are those of what was taken out.
+-- Each response that was taken out has its text.
 use Rattle.std.proofs.Common.{◌≡◌, ◌++◌, List, map, string_bytes}
 use Rattle.std.specs.List.{AllZip}
 use Rattle.http_cache_semantics.specs.Options.{options_of}

@@ -1,4 +1,4 @@
--- The visits are those of what comes of the advice.
+-- The visits are made after the advice is followed.
 use Rattle.std.proofs.Common.{refl}
 use Rattle.http_cache_report.proofs.responses.visits_with.Goals as goal
 

@@ -1,4 +1,4 @@
--- What was read is the front.
+-- The front of what was left was read.
 use Rattle.std.proofs.Common.{ap, ◌+◌}
 use Rattle.http_cache_report.specs.Output.{longest_recording}
 use Rattle.http_cache_report.proofs.ReadLemmas.{read-front}

@@ -1,4 +1,4 @@
--- What was written, and the counts that are left.
+-- The lines of the earlier counts are written, and the other counts are left.
 use Rattle.std.proofs.Common.{◌≡◌, ◌++◌, map, string_bytes}
 use Rattle.std.specs.List.{flat_map}
 use Rattle.http_cache_audit.specs.Report.{count_seen}

@@ -1,4 +1,4 @@
--- The report is of what is known of the recording, and of its sections.
+-- The report has the facts about the recording, and its sections.
 use Rattle.std.proofs.Common.{string_bytes}
 use Rattle.http_cache_report.proofs.screen.screen.Goals as goal
 

@@ -1,4 +1,4 @@
--- Each section is of what was made before.
+-- Each section is made from the facts, the visits and the picks before it.
 use Rattle.std.proofs.lemmas.Result.{IfOk-weaker}
 use Rattle.http_cache_report.proofs.screen.sections.Goals as goal
 

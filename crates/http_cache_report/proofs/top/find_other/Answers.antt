@@ -1,4 +1,4 @@
--- The loads are looked through in turn.
+-- The loop looks at each load.
 use Rattle.std.proofs.Common.{rules, tests, map}
 use Rattle.std.proofs.lemmas.Iterator.{YieldsList-from_slice}
 use Rattle.std.proofs.lemmas.Iterator.Search.{find_from_yields_List}

@@ -1,4 +1,3 @@
--- One load more is counted.
 use Rattle.std.proofs.Common.{map}
 use Rattle.std.proofs.lemmas.Option.{slice_get-get_or}
 use Rattle.http_cache_audit.specs.Row.{row_seen}

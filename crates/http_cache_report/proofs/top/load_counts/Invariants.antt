@@ -1,4 +1,4 @@
--- The loads so far are counted.
+-- The earlier loads are counted.
 use Rattle.std.proofs.Common.{map, take}
 use Rattle.std.specs.List.{flat_map}
 use Rattle.http_cache_audit.specs.Row.{row_seen}

@@ -1,4 +1,4 @@
--- The page of one row more is counted, and the row listed if it is the first of its page.
+-- The page of one more row is counted; the row is listed if it is the first of its page.
 use Rattle.std.proofs.Common.{rules, arith, refl, ◌≡◌, ◌≤◌, ◌∙◌, sym, ap, ℕ, Bool, cond, [], ◌∷◌, ◌++◌, List, length, map, take, Some, option_map, slice_get}
 use Rattle.std.specs.List.{flat_map, enumerate_from}
 use Rattle.std.proofs.lemmas.List.{length-map, take_all, take-map}

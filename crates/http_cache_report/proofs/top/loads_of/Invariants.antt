@@ -1,4 +1,4 @@
--- The pages of the rows so far are counted, and the first row of each is listed.
+-- The pages of the earlier rows are counted, and the first row of each is listed.
 use Rattle.std.proofs.Common.{◌≡◌, map, take}
 use Rattle.std.specs.List.{flat_map, enumerate_from}
 use Rattle.http_cache_audit.specs.Row.{row_seen}

@@ -1,4 +1,3 @@
--- The entry is counted, then its bytes.
 use Rattle.http_cache_audit.proofs.CountsLemmas.{also_then}
 use Rattle.http_cache_report.proofs.urls.add_apart.Goals as goal
 

@@ -1,4 +1,3 @@
--- What was sent is counted, then hits, then no-cache.
 use Rattle.http_cache_audit.proofs.CountsLemmas.{also_then}
 use Rattle.http_cache_report.proofs.urls.add_asked.Goals as goal
 

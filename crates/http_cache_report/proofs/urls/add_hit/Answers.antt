@@ -1,4 +1,3 @@
--- What is repeated is counted, then hits, then what they saved.
 use Rattle.http_cache_audit.proofs.CountsLemmas.{also_then}
 use Rattle.http_cache_report.proofs.urls.add_hit.Goals as goal
 

@@ -1,4 +1,3 @@
--- The request is counted, then whether it says no-cache.
 use Rattle.http_cache_audit.proofs.CountsLemmas.{also_then}
 use Rattle.http_cache_report.proofs.urls.add_no_cache.Goals as goal
 

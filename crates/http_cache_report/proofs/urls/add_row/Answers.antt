@@ -1,4 +1,3 @@
--- The load is counted, then the kind.
 use Rattle.http_cache_audit.proofs.CountsLemmas.{also_then}
 use Rattle.http_cache_report.proofs.urls.add_row.Goals as goal
 

@@ -1,4 +1,3 @@
--- What was sent is counted for the load, then for the url.
 use Rattle.http_cache_audit.proofs.CountsLemmas.{also_then}
 use Rattle.http_cache_report.proofs.urls.add_sent.Goals as goal
 

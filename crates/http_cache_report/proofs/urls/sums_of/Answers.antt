@@ -1,4 +1,3 @@
--- What is summed of one row more is counted.
 use Rattle.std.proofs.Common.{rules, arith, refl, ◌≡◌, ◌≤◌, ◌∙◌, ap, subst, length, map, Some, option_map, slice_get}
 use Rattle.std.specs.List.{flat_map, enumerate_from}
 use Rattle.std.proofs.lemmas.List.{length-map, take_all}

@@ -1,4 +1,4 @@
--- What is summed of the rows so far is counted.
+-- The sums of the earlier rows are counted.
 use Rattle.std.proofs.Common.{map, take}
 use Rattle.std.specs.List.{flat_map, enumerate_from}
 use Rattle.http_cache_audit.specs.Row.{row_seen}

@@ -1,4 +1,3 @@
--- What is known of one url more is listed.
 use Rattle.std.proofs.Common.{◌∙◌, ap, map, length}
 use Rattle.std.specs.List.{flat_map}
 use Rattle.std.proofs.lemmas.List.{take_all}

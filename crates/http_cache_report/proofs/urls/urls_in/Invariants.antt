@@ -1,4 +1,4 @@
--- What is known of the urls so far is listed.
+-- The facts about the earlier urls are listed.
 use Rattle.std.proofs.Common.{◌≡◌, map, take, length}
 use Rattle.std.specs.List.{flat_map}
 use Rattle.http_cache_audit.specs.Row.{row_seen}

@@ -1,4 +1,3 @@
--- The amount is counted for the url, then for the visit.
 use Rattle.http_cache_audit.proofs.CountsLemmas.{also_then}
 use Rattle.http_cache_report.proofs.visit.add_amount.Goals as goal
 

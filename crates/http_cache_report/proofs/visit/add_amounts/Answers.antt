@@ -1,4 +1,3 @@
--- The amounts are counted in turn.
 use Rattle.http_cache_audit.proofs.CountsLemmas.{also_then}
 use Rattle.http_cache_report.proofs.visit.add_amounts.Goals as goal
 

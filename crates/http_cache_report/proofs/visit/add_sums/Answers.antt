@@ -1,4 +1,3 @@
--- The amounts are counted, then whether all is sent again.
 use Rattle.http_cache_audit.proofs.CountsLemmas.{also_then}
 use Rattle.http_cache_report.proofs.visit.add_sums.Goals as goal
 

@@ -1,4 +1,3 @@
--- One row more is counted.
 use Rattle.std.proofs.Common.{rules, refl, length, map}
 use Rattle.std.proofs.lemmas.Option.{slice_get_read}
 use Rattle.http_cache_recording.specs.Entry.{recorded_seen}

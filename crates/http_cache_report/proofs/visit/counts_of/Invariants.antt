@@ -1,4 +1,4 @@
--- The rows so far are counted.
+-- The earlier rows are counted.
 use Rattle.std.proofs.Common.{map, take}
 use Rattle.std.specs.List.{flat_map}
 use Rattle.http_cache_recording.specs.Entry.{recorded_seen}

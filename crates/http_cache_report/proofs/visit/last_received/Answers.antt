@@ -1,4 +1,3 @@
--- One response more is compared.
 use Rattle.std.proofs.Common.{rules, refl, length, option_map}
 use Rattle.std.proofs.lemmas.Option.{slice_get_read}
 use Rattle.http_cache_recording.specs.Entry.{recorded_seen}

@@ -1,4 +1,4 @@
--- The last response so far is known.
+-- The latest time of the earlier responses is known.
 use Rattle.std.proofs.Common.{◌≡◌, map, take, option_map}
 use Rattle.http_cache_recording.specs.Entry.{recorded_seen}
 use Rattle.http_cache_report.specs.Visit.{last_received}

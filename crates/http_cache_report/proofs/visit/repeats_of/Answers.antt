@@ -1,4 +1,4 @@
--- One row more is listed, if its request is made once more.
+-- One more row is listed, if its request is repeated.
 use Rattle.std.proofs.Common.{rules, arith, refl, ◌≡◌, ◌≤◌, ◌∙◌, sym, ap, ◌++◌, List, length, map, take, Some, option_map, slice_get}
 use Rattle.std.specs.List.{flat_map, enumerate_from}
 use Rattle.std.specs.Option.{option_to_list}

@@ -1,4 +1,4 @@
--- The requests so far are listed.
+-- The earlier requests are listed.
 use Rattle.std.proofs.Common.{◌≡◌, length, map, take}
 use Rattle.std.specs.List.{flat_map, enumerate_from}
 use Rattle.http_cache_audit.specs.Row.{row_seen}

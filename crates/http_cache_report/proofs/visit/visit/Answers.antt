@@ -1,4 +1,4 @@
--- The copies follow the recording, and what was counted is of them.
+-- The copies follow the recording, and only they are counted.
 use Rattle.std.proofs.Common.{rules, ◌≡◌, ◌∙◌, sym, ap, ◌++◌, length, map}
 use Rattle.std.specs.List.{AllZip}
 use Rattle.std.proofs.lemmas.Int.{to_z-of_z}

@@ -1,4 +1,3 @@
--- The text begins with the front, or doesn't.
 use Rattle.http_cache_report.proofs.ReportLemmas.{stripped-some, stripped-none}
 use Rattle.http_cache_report.proofs.words.stripped.Goals as goal
 

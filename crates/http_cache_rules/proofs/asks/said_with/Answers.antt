@@ -1,4 +1,4 @@
--- What is said under a name stays, and else the first piece of that name says it.
+-- A known value stays; otherwise the first piece of the name decides.
 use Rattle.std.proofs.Common.{rules, Some, sym, ap, ◌∙◌, bytes_eq}
 use Rattle.std.specs.Option.{option_map}
 use Rattle.http_header.specs.Token.{lowercase}

@@ -1,4 +1,4 @@
--- While no tag is the one that is looked for, it is among those of the line where it is among those left.
+-- In the loop: the tag is in the line exactly if it is in the rest of it.
 use Rattle.std.proofs.Common.{◌≡◌, length, bytes_eq}
 use denote.Text.{Utf8}
 use denote.Shadow.{shadow}

@@ -1,4 +1,4 @@
--- A line is looked at once, and the first that names the stored response decides.
+-- The first line that names the stored response decides.
 use Rattle.std.proofs.Common.{◌||◌, codes, option_copied, sym, ap, ◌∙◌}
 use Rattle.std.specs.List.{list_any}
 use Rattle.http_cache_fields.specs.Headers.{bytes_of}

@@ -1,4 +1,4 @@
--- While no line names the stored response, one of all does where one of those left does.
+-- In the loop: some line names the stored response exactly if one of the rest does.
 use Rattle.std.proofs.Common.{◌≡◌, option_copied}
 use Rattle.std.specs.List.{list_any}
 use Rattle.http_cache_fields.specs.Headers.{bytes_of}

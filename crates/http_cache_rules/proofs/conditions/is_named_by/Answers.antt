@@ -1,4 +1,4 @@
--- A value is a line where it is text.
+-- Only a value that is text is a line.
 use Rattle.std.proofs.Common.{refl, true≢false, option_copied, sym, ap, ◌∙◌}
 use Rattle.http_cache_fields.proofs.FieldLemmas.{is_visible_text-yes, is_visible_text-no}
 use Rattle.http_cache_rules.specs.Conditions.{names_stored}

@@ -1,4 +1,4 @@
--- A date counts where it is the only value.
+-- A date counts only if it is the only value.
 use Rattle.std.proofs.Common.{◌∷◌, codes, option_copied, sym, ap, ◌∙◌}
 use Rattle.std.specs.Option.{option_and_then}
 use Rattle.http_cache_fields.specs.Text.{text_of}

@@ -1,4 +1,4 @@
--- The date that is printed, up to its zone, with GMT behind it.
+-- The printed date, up to its zone, followed by GMT.
 use Rattle.std.proofs.Common.{true, ℕ, List, ◌++◌, codes, ap, ◌∙◌}
 use Rattle.jiff_fmt.specs.Rfc2822.{date_and_time_text}
 use Rattle.http_cache_rules.proofs.DateTextLemmas.{in_zone}

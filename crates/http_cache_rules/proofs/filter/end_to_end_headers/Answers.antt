@@ -1,4 +1,4 @@
--- A sweep over all names leaves those that don't speak of one connection alone, each with its last value.
+-- The sweep keeps the names that aren't connection-specific, each with its last value.
 use Rattle.std.proofs.Common.{◌≡◌, ◌∷◌, ℕ, List, sym, subst, ◌∙◌}
 use Rattle.http_header.specs.FieldValue.{FieldValue}
 use Rattle.http_header.specs.HeaderMap.{Entries, keys}

@@ -1,4 +1,4 @@
--- Each name is taken away in its turn.
+-- Each name is removed in turn.
 use Rattle.std.proofs.Common.{ℕ, List, [], map, take, get_or, ap, sym, ◌∙◌, arith}
 use Rattle.std.specs.Borrow.{Bor}
 use Rattle.std.specs.FinMap as fin

@@ -1,4 +1,4 @@
--- While names are taken away, the headers are without those so far.
+-- In the loop: the headers are without the names so far.
 use Rattle.std.proofs.Common.{◌≡◌, map, take}
 use Rattle.http_cache_fields.specs.Headers.{headers_of}
 use Rattle.http_cache_rules.specs.Forwarding.{without_named}

@@ -1,4 +1,4 @@
--- The lines of a name are put on one where each is text; an absent name stays absent.
+-- The lines of a name are joined if each is text; an absent name stays absent.
 use Rattle.std.proofs.Common.{◌≡◌, ◌∙◌, ℕ, Bool, true, false, not, ◌||◌, List, [], ◌∷◌, Some, None, is_some, slice_get}
 use Rattle.std.proofs.Common.{Option, option_map, Global, string_bytes, if◌then◌else◌, codes, bytes_eq, refl, sym, ap, subst}
 use Rattle.std.specs.List.{list_all}
@@ -13,7 +13,6 @@ use Rattle.http_cache_rules.proofs.SweepLemmas.{absent-from_holds, changes-absen
 use Rattle.http_cache_rules.proofs.joined.join_lines.Goals.{then-eq-via-then-eq, then-eq-via-else-eq+then-not-contains_key}
 use Rattle.http_cache_rules.proofs.joined.join_lines.Goals as goal
 
--- what the line on which all stand says of them
 none_means : (all : Bool) (text : List ℕ) (o : Option (List ℕ)) → o ≡ None
     → o ≡ (if all then Some text else None) → all ≡ false
 none_means true text o none is = let no : None ≡ Some text = sym none ∙ is in cc
@@ -57,8 +56,8 @@ pub value_of-requires : goal.value_of-requires
 value_of-requires c =
     let lines = bytes_of c.get_all.result in
     let some = ap (option_map (string_bytes {Z = Global})) c.in-Some.is in
-    let told = some_means (list_all is_text lines) (joined_text lines) _ _ some c.in_ok-line.ensures in
-    subst IsFieldValue (sym (ap (λ v. v.items) c.into_bytes.ensures.value ∙ told.1)) (joined_text-is_value lines told.0)
+    let of_text = some_means (list_all is_text lines) (joined_text lines) _ _ some c.in_ok-line.ensures in
+    subst IsFieldValue (sym (ap (λ v. v.items) c.into_bytes.ensures.value ∙ of_text.1)) (joined_text-is_value lines of_text.0)
 
 pub returns : goal.returns
 returns c =
@@ -67,17 +66,17 @@ returns c =
     let valid = c.reveal_header_map.ensures in
     let lines = bytes_of c.get_all.result in
     let some = ap (option_map (string_bytes {Z = Global})) c.in-Some.is in
-    let told = some_means (list_all is_text lines) (joined_text lines) _ _ some c.in_ok-line.ensures in
+    let of_text = some_means (list_all is_text lines) (joined_text lines) _ _ some c.in_ok-line.ensures in
     let cookie = ap (λ (n : List ℕ). bytes_eq n (codes "set-cookie")) (sym c.as_str.ensures.value)
     ∙ sym c.eq.ensures ∙ c.if-eq.false in
     let there = sym c.contains_key.ensures ∙ c.if-not-contains_key.false in
     let joined : joined_values name lines ≡ joined_text lines ∷ [] =
     joined_values-joined name lines (sym c.is_singleton.ensures ∙ c.if-is_singleton.false)
-    (ap (λ b. b || not (list_all is_text lines)) cookie ∙ ap not told.0)
+    (ap (λ b. b || not (list_all is_text lines)) cookie ∙ ap not of_text.0)
     (ap (λ vs. is_some (slice_get (bytes_of vs) 0)) c.get_all.ensures.value
     ∙ ap (λ vs. is_some (slice_get vs 0)) (sym (values-headers_of m name)) ∙ there) in
     changes-one m name (joined_text lines) (headers_of c.replace.new.map) valid
     (ap (λ vs. joined_values name (bytes_of vs)) (sym c.get_all.ensures.value) ∙ joined)
     (c.replace.ensures
     ∙ ap (λ v. set (headers_of m) name v.bytes) c.in_ok-value_of.ensures
-    ∙ ap (set (headers_of m) name) (ap (λ v. v.items) c.into_bytes.ensures.value ∙ told.1))
+    ∙ ap (set (headers_of m) name) (ap (λ v. v.items) c.into_bytes.ensures.value ∙ of_text.1))

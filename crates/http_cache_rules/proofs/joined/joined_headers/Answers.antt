@@ -1,4 +1,4 @@
--- A sweep over all names puts the lines of each on one; with as many values as names, each has one already.
+-- The sweep joins the lines of each name. With as many values as names each has one line already.
 use Rattle.std.proofs.Common.{◌≡◌, ◌∷◌, ℕ, List, sym, subst, ap, ◌∙◌}
 use Rattle.http_header.specs.FieldValue.{FieldValue}
 use Rattle.http_header.specs.HeaderMap.{Entries, keys}

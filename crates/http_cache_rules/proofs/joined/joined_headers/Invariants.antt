@@ -1,4 +1,4 @@
--- While lines are joined name by name, each is done already, or is still to come and untouched.
+-- In the loop: each name is done, or still in the list and untouched.
 use Rattle.std.proofs.Common.{List, ℕ}
 use Rattle.http_cache_fields.specs.Headers.{headers_of}
 use Rattle.http_cache_rules.proofs.JoinedLemmas.{joins}

@@ -1,4 +1,4 @@
--- A line that isn't text ends the loop; without one the whole line is written.
+-- The loop ends at a line that isn't text; without one, the whole line is written.
 use Rattle.std.proofs.Common.{◌≡◌, ◌∙◌, ℕ, false, ◌&&◌, List, [], ◌++◌, codes, string_bytes, if◌then◌else◌}
 use Rattle.std.proofs.Common.{true≢false, Some, None, refl, sym, ap, append-nil}
 use lib.Utf8.{encode}

@@ -1,4 +1,4 @@
--- While lines are joined, what was written and what is left make the whole line.
+-- In the loop: the written text and the lines that are left make the whole line.
 use Rattle.std.proofs.Common.{◌≡◌, ◌++◌, string_bytes}
 use denote.Text.{Utf8}
 use denote.Shadow.{shadow}

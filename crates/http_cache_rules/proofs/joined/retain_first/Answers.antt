@@ -1,4 +1,4 @@
--- A singleton is left its first line, and an absent name stays absent.
+-- A singleton keeps its first line, and an absent name stays absent.
 use Rattle.std.proofs.Common.{◌≡◌, ◌∙◌, Some, is_some, slice_get, option_map, sym, ap}
 use Rattle.std.specs.Option.{option_copied}
 use Rattle.http_header.specs.HeaderMap.{get_all}

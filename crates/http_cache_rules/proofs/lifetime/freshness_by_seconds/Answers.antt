@@ -1,4 +1,4 @@
--- Of the directives that count seconds the first that the cache heeds decides.
+-- The first directive of seconds that the cache heeds decides.
 use Rattle.std.proofs.Common.{◌≡◌, codes, Option, None, option_map, if◌then◌else◌, sym, ap, ◌∙◌}
 use Rattle.std.specs.Option.{option_or}
 use Rattle.http_cache_fields.specs.Directives.{value_under}

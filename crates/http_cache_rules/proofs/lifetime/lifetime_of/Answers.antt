@@ -1,4 +1,4 @@
--- The lifetime and its source are those of the first row that applies.
+-- The lifetime and its source are the first applying row's.
 use Rattle.std.proofs.Common.{option_map, sym, ap, ◌∙◌}
 use Rattle.std.proofs.lemmas.Result.{IfOk-weaker}
 use Rattle.http_cache_rules.specs.Exchange.{exchange_in}

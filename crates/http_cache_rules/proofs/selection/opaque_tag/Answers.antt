@@ -1,4 +1,4 @@
--- A tag is opaque once no mark of weakness is in front, and losing a mark changes nothing.
+-- A tag without a mark of weakness is opaque, and removing a mark doesn't change the opaque tag.
 use Rattle.std.proofs.Common.{ap, ◌∙◌}
 use Rattle.http_cache_rules.specs.Selection.{opaque_tag}
 use Rattle.http_cache_rules.proofs.TagLemmas.{opaque_tag-next, opaque_tag-end}

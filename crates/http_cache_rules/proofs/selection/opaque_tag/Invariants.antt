@@ -1,4 +1,4 @@
--- What is left of a tag has the opaque tag of the whole, and grows shorter.
+-- In the loop: the rest of the tag has the opaque tag of the whole, and gets shorter.
 use Rattle.std.proofs.Common.{◌≡◌, length}
 use Rattle.http_cache_rules.specs.Selection.{opaque_tag}
 use Rattle.http_cache_rules.proofs.selection.opaque_tag.Given as goal

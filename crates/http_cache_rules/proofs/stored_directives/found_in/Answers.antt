@@ -1,25 +1,25 @@
--- Each directive is found at its place, with what a conflict and a Pragma add.
+-- Each directive is found at its index, after a conflict or a Pragma adds one.
 use Rattle.std.proofs.Common.{◌≡◌, ℕ, Bool, true, false, ◌||◌, List, None, codes, refl, sym, ap, ◌∙◌}
 use Rattle.std.proofs.Common.{filter, is_some, nat_lt, bytes_eq, slice_index_or}
 use Rattle.http_cache_fields.specs.Directives.{has, has_name, first_directives, has_conflict}
 use Rattle.http_cache_rules.specs.DeltaSeconds.{said_by_value}
-use Rattle.http_cache_rules.specs.Told.{place_of}
+use Rattle.http_cache_rules.specs.KnownDirectives.{index_of}
 use Rattle.http_cache_rules.proofs.StoredDirectivesLemmas.{found-other, found-no_cache, found-must_revalidate}
-use Rattle.http_cache_rules.proofs.ToldLemmas.{is_some-copied}
+use Rattle.http_cache_rules.proofs.KnownDirectivesLemmas.{is_some-copied}
 use Rattle.http_cache_rules.proofs.stored_directives.found_in.Goals as goal
 use Rattle.http_cache_rules.proofs.stored_directives.found_in.Goals.{then-no_cache, else-no_cache, then-conflict, else-conflict}
 
 pub returns : goal.returns
-returns c = λ pieces told.
+returns c = λ pieces known.
     let ps = filter has_name pieces in
     let ds = first_directives ps in
     let asked = c.args.asked in
     let said = c.args.no_cache in
     let conflict = has_conflict ps in
-    let clash = told.clash in
+    let clash = known.clash in
     let left = found-other said conflict ds in
-    let there = λ (n : List ℕ) (inside : nat_lt (place_of n) 11 ≡ true).
-    is_some-copied (slice_index_or asked (place_of n) None) ∙ ap is_some (told.under n inside) in
+    let there = λ (n : List ℕ) (inside : nat_lt (index_of n) 11 ≡ true).
+    is_some-copied (slice_index_or asked (index_of n) None) ∙ ap is_some (known.under n inside) in
     let no_cache : c.if-no_cache.result ≡ (said || has ds (codes "no-cache")) =
     elim c.if-no_cache.branch [
       | then-no_cache w ↦ w.result-is ∙ w.if-no_cache.true
@@ -34,10 +34,10 @@ returns c = λ pieces told.
       | else-conflict w ↦ w.result-is ∙ w.is_some-else-conflict.ensures ∙ there (codes "must-revalidate") refl
           ∙ ap (λ (b : Bool). b || has ds (codes "must-revalidate")) (sym w.if-conflict.false ∙ clash)
     ] in
-    let has_left = λ (n : List ℕ) (inside : nat_lt (place_of n) 11 ≡ true) (e : bytes_eq n (codes "no-cache") ≡ false)
+    let has_left = λ (n : List ℕ) (inside : nat_lt (index_of n) 11 ≡ true) (e : bytes_eq n (codes "no-cache") ≡ false)
     (f : bytes_eq n (codes "must-revalidate") ≡ false). there n inside ∙ ap is_some (sym (left n e f)) in
-    let said_left = λ (n : List ℕ) (inside : nat_lt (place_of n) 11 ≡ true) (e : bytes_eq n (codes "no-cache") ≡ false)
-    (f : bytes_eq n (codes "must-revalidate") ≡ false). ap said_by_value (told.under n inside ∙ sym (left n e f)) in
+    let said_left = λ (n : List ℕ) (inside : nat_lt (index_of n) 11 ≡ true) (e : bytes_eq n (codes "no-cache") ≡ false)
+    (f : bytes_eq n (codes "must-revalidate") ≡ false). ap said_by_value (known.under n inside ∙ sym (left n e f)) in
     λ i. record {
       no_store = (c.is_some.ensures ∙ has_left (codes "no-store") refl refl refl) i;
       no_cache = (no_cache ∙ sym (found-no_cache said conflict ds)) i;

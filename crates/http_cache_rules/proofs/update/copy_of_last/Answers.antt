@@ -1,4 +1,4 @@
--- A sweep over all names leaves each its last value; with as many values as names, each has it alone already.
+-- The sweep keeps each name's last value. With as many values as names each has one already.
 use Rattle.std.proofs.Common.{◌≡◌, ◌∷◌, ℕ, List, sym, subst, ap, ◌∙◌}
 use Rattle.http_header.specs.FieldValue.{FieldValue}
 use Rattle.http_header.specs.HeaderMap.{Entries, keys}

@@ -1,4 +1,4 @@
--- Stored values go under a name that isn't there, one after another.
+-- The stored values are added to an absent name, one after another.
 use Rattle.std.proofs.Common.{◌≡◌, ◌∙◌, ℕ, List, [], ◌∷◌, ◌++◌, unwrap_or, IsErrOf, rules, refl, sym, ap, append_assoc, append-nil}
 use Rattle.std.specs.FinMap as fin
 use Rattle.http_header.specs.HeaderMap.{get_all}

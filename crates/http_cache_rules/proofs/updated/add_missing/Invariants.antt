@@ -1,4 +1,4 @@
--- While stored values are added, those that were and those that are left are all, and other names are untouched.
+-- In the loop: the added values and those left are all, and other names are untouched.
 use Rattle.std.proofs.Common.{◌≡◌, ◌++◌, ℕ, List, false, bytes_eq}
 use Rattle.std.specs.FinMap as fin
 use Rattle.http_header.specs.HeaderMap.{get_all}

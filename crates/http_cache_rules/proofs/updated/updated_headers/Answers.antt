@@ -1,4 +1,4 @@
--- A sweep over the stored names adds each that is missing.
+-- The sweep adds each stored name that is missing.
 use Rattle.std.proofs.Common.{IsErrOf, rules, ◌≡◌, ℕ, List, sym, subst, ◌∙◌}
 use Rattle.http_header.specs.HeaderMap.{keys}
 use Rattle.http_cache_fields.specs.Headers.{Headers, headers_of}

@@ -1,4 +1,5 @@
--- The policies are the only chain; each ages like the first and, if that is explicit, expires so.
+-- The policies are the only chain. Each ages like the first and, if its lifetime is explicit,
+-- expires like it.
 use Rattle.std.proofs.Common.{rules, ◌≡◌, ◌+◌, ◌<◌, [], ◌∷◌, drop, length, Err, refl, sym, subst, ◌∙◌, arith}
 use Rattle.http_cache_fields.specs.declared.error.CacheError.TheVariants.{HeaderMapFull, DateNotPrintable}
 use Rattle.http_cache_rules.specs.Options.{options_of}
@@ -77,8 +78,6 @@ loop-moment-preserved g c =
     c.len-last.result (c.len-last.ensures ∙ c.loop-moment.policies.ok.0) c.index.result.now c.index.ensures
     c.in-Some.next handed.0 handed.1 c.in_ok-next.ensures.room c.in_ok-next.ensures.dated)
 
--- ---- the last cache has no fresh answer
-
 pub returns-in_default-clause-policies : goal.returns-in_default-clause-policies
 returns-in_default-clause-policies g c =
     let request = g.Req.RequestLike.seen c.args.req.now in
@@ -134,8 +133,6 @@ unfolding kept_exchange
 returns-in_default-clause-lifetimes g c =
     each-expires _ _ _ c.loop-moment.policies.items (returns-in_default-clause-policies g c)
     (kept-settled _)
-
--- ---- no moment is left
 
 pub returns-clause-policies : goal.returns-clause-policies
 returns-clause-policies g c =

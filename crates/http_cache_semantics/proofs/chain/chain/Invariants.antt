@@ -1,4 +1,4 @@
--- The policies so far begin the chain, and the last one meets the moments that are left.
+-- In the loop: the policies so far begin the chain, and the last one answers at the times left.
 use Rattle.std.proofs.Common.{drop}
 use Rattle.http_cache_rules.specs.Options.{options_of}
 use Rattle.http_cache_semantics.specs.Chain.{first_kept, nanoseconds}

@@ -1,4 +1,4 @@
--- The next cache keeps what a fresh answer hands it; where an answer comes, none was refused.
+-- The next cache keeps the fresh answer that it receives.
 use Rattle.std.proofs.Common.{◌≡◌, ℕ, ℤ, sym, ap, ◌∙◌}
 use Rattle.http_cache_fields.specs.Headers.{Headers, headers_of}
 use Rattle.http_cache_rules.specs.Options.{Options, options_of}
@@ -11,7 +11,6 @@ use Rattle.http_cache_semantics.specs.Chain.{IsHandedOn, IsFor}
 use Rattle.http_cache_semantics.proofs.AnswerLemmas.{answer-room, answer-dated}
 use Rattle.http_cache_semantics.proofs.chain.hand_on.Goals as goal
 
--- what is made of fresh headers for the same request is what the next cache keeps
 handed-made : (request : RequestSeen) (options : Options) (e : Exchange) → IsFor request options e
     → (now : ℤ) (h : Headers) → IsFreshHeaders e now h
     → (status : ℕ) → status ≡ e.status → (next : Exchange)

@@ -1,4 +1,4 @@
--- Joined lines have the pieces, the first lines of singletons and the directives that they had.
+-- Joining keeps the pieces, the first lines of singletons and the directives.
 use Rattle.std.proofs.Common.{ap, ◌∙◌}
 use Rattle.http_cache_fields.specs.Headers.{Headers, headers_of, first}
 use Rattle.http_cache_fields.specs.Pieces.{pieces_under}

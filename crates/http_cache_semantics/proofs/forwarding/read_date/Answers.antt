@@ -1,4 +1,4 @@
--- A value that is text is read as a date; another is none.
+-- Only a value that is text is read as a date.
 use Rattle.std.proofs.Common.{◌≡◌, ◌∙◌, Some, None, option_map, option_and_then, refl, sym, ap, cond}
 use Rattle.http_cache_fields.specs.Text.{text_of}
 use Rattle.http_cache_rules.specs.Dates.{when, second_start}

@@ -1,4 +1,4 @@
--- What is removed from the file and counted as used leaves what is stored as it is.
+-- Removing lost rows and counting uses changes nothing of what is stored.
 use Rattle.http_cache_store.proofs.LoadLemmas.{both_ok, adds_then_kept}
 use Rattle.http_cache_store.proofs.load.load.Goals as goal
 

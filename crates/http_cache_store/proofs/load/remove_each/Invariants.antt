@@ -1,4 +1,4 @@
--- The disk was clean before if it still is.
+-- If the disk is still clean, it was clean before.
 use Rattle.sqlite.specs.State.{HasCleanDisk}
 use Rattle.sqlite.specs.Held.{state}
 use Rattle.http_cache_store.proofs.load.remove_each.Given as goal

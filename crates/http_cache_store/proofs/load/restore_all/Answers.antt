@@ -1,4 +1,4 @@
--- Each turn adds the response of one row more, which the query has given.
+-- Each turn adds the response of one more row that the query has yielded.
 use Rattle.std.proofs.Common.{[], ◌∷◌, ◌++◌, refl, ◌∙◌, arith, rules, inl}
 use Rattle.sqlite.specs.State.{HasCleanDisk}
 use Rattle.sqlite.specs.Held.{state}

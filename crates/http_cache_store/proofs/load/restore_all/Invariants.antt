@@ -1,4 +1,4 @@
--- What is stored is of the rows that the query has given so far.
+-- Each stored response is from a row that the query has yielded.
 use Rattle.std.proofs.Common.{◌≡◌, List}
 use Rattle.sqlite.specs.Order.{Row}
 use Rattle.sqlite.specs.State.{HasCleanDisk}

@@ -1,4 +1,4 @@
--- What was restored was read of the row.
+-- The restored response was read from the row.
 use Rattle.std.proofs.Common.{SFits, w64, rules}
 use Rattle.std.proofs.Math.Facts.{to_z-of_z}
 use Rattle.http_cache_storage.specs.Target.{text_of}

@@ -1,4 +1,4 @@
--- Nothing has changed in memory, and the disk was clean before if it still is.
+-- Nothing has changed in memory, and if the disk is still clean, it was clean before.
 use Rattle.std.proofs.Common.{◌≡◌}
 use Rattle.sqlite.specs.State.{HasCleanDisk}
 use Rattle.sqlite.specs.Held.{state}

@@ -1,4 +1,4 @@
--- A row whose text is of no policy can't be read.
+-- A row without a readable policy is unreadable.
 use Rattle.std.proofs.Common.{◌≡◌, subst, rules}
 use Rattle.http_cache_store.specs.Text.{IsReadAs}
 use Rattle.http_cache_store.proofs.row.found_in.Goals as goal

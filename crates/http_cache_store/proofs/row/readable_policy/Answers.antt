@@ -1,4 +1,4 @@
--- The policy is that of the exchange of the text, and a text that is refused as malformed is of none.
+-- The policy is of the text's exchange, and a text that is refused as malformed has none.
 use Rattle.std.proofs.Common.{Err, ap, ◌∙◌}
 use Rattle.http_cache_store.proofs.row.readable_policy.Goals as goal
 

@@ -1,4 +1,4 @@
--- A request that is made up from the text is that of its one cut.
+-- A request that is made up from the text depends only on its cut.
 use Rattle.std.proofs.Common.{◌≡◌, ◌<◌, length, codes, None, arith}
 use Rattle.std.proofs.lemmas.Bool.Decides.{nat_tests}
 use Rattle.std.proofs.lemmas.Result.{IfOk-weaker}

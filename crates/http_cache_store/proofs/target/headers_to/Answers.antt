@@ -1,4 +1,4 @@
--- The headers have the one field Host.
+-- The headers have only the field Host.
 use Rattle.http_cache_store.proofs.TargetLemmas.{has_host}
 use Rattle.http_cache_store.proofs.target.headers_to.Goals as goal
 

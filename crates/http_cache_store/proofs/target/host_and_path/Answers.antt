@@ -1,4 +1,4 @@
--- The path is what is left after the host.
+-- The path follows the host.
 use Rattle.std.proofs.Common.{◌==◌, ℕ, List, length, drop, refl, ap, ◌∙◌, Bor}
 use Rattle.std.specs.List.{position_or_len}
 use Rattle.http_cache_store.proofs.TargetLemmas.{host_found, stripped}

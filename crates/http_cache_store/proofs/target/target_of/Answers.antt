@@ -1,4 +1,4 @@
--- The target of the request that is made up from the text is another one, or there is no such request.
+-- The made-up request has another target, or there is no such request.
 use Rattle.std.proofs.Common.{◌≡◌, ap, sym, ◌∙◌}
 use Rattle.std.proofs.lemmas.Slice.Eq.{bytes_eq-Decides}
 use Rattle.http_cache_storage.specs.Target.{text_of}

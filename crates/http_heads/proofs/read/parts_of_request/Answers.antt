@@ -1,4 +1,4 @@
--- What is read of the spans is the request of the head, and an error has its cause in the head.
+-- The spans make the request of the head, and an error has its cause in the head.
 use Rattle.std.proofs.Common.{◌⊎◌, ℕ, List, [], subst}
 use Rattle.std.specs.Prelude.{Any}
 use Rattle.http1_typed.specs.Parts.{IsRequestParts, RequestError, TargetError}

@@ -1,4 +1,4 @@
--- What is read of the spans is the response of the head, and an error has its cause in the head.
+-- The spans make the response of the head, and an error has its cause in the head.
 use Rattle.std.proofs.Common.{◌⊎◌, ℕ, List, [], subst}
 use Rattle.std.specs.Prelude.{Any}
 use Rattle.http1_typed.specs.Parts.{IsResponseParts, ResponseError}

@@ -1,4 +1,4 @@
--- What was read of a line that is too long, and what is skipped behind it, is one line.
+-- The bytes read of a line that is too long, and those skipped after them, are one line.
 use Rattle.std.proofs.Common.{rules}
 use Rattle.cache_replay.proofs.LineLemmas.{passed_over}
 use Rattle.cache_replay.proofs.reader.LineReader.next_line.Goals as goal

@@ -1,4 +1,4 @@
--- The sum is put under the label.
+-- The sum is stored under the label.
 use Rattle.std.proofs.Common.{◌≡◌, ◌∙◌, ◌+◌, ◌-◌, ◌^◌, ap, min, List, ℕ}
 use Rattle.http_cache_audit.specs.Counts.{label_of, total_in}
 use Rattle.http_cache_audit.proofs.CountsLemmas.{also_one}

@@ -1,4 +1,4 @@
--- The bytes are counted, then what a hit saved.
+-- The bytes are counted, and then what a hit saved.
 use Rattle.http_cache_audit.specs.Counts.{byte_additions}
 use Rattle.http_cache_audit.proofs.CountsLemmas.{also_then}
 use Rattle.http_cache_audit.proofs.counts.Counts.add_bytes.Goals as goal

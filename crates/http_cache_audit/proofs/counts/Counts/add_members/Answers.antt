@@ -1,4 +1,4 @@
--- One member more is counted.
+-- One more member is counted.
 use Rattle.std.proofs.Common.{rules, refl, length}
 use Rattle.std.proofs.lemmas.Option.{slice_get_read}
 use Rattle.http_cache_audit.specs.Members.{member_seen}

@@ -1,4 +1,4 @@
--- The members so far are counted.
+-- In the loop: the members so far are counted.
 use Rattle.std.proofs.Common.{map, take}
 use Rattle.std.specs.List.{flat_map}
 use Rattle.http_cache_audit.specs.Members.{member_seen}

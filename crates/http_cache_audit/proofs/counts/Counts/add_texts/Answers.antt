@@ -1,4 +1,4 @@
--- One text more is counted.
+-- One more text is counted.
 use Rattle.std.proofs.Common.{rules, refl, length, string_bytes}
 use Rattle.std.proofs.lemmas.Option.{slice_get_read}
 use Rattle.http_cache_audit.specs.Counts.{word_additions}

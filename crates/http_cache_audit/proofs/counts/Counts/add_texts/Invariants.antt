@@ -1,4 +1,4 @@
--- The texts so far are counted.
+-- In the loop: the texts so far are counted.
 use Rattle.std.proofs.Common.{map, take, string_bytes}
 use Rattle.std.specs.List.{flat_map}
 use Rattle.http_cache_audit.specs.Counts.{CountsAlso, word_additions}

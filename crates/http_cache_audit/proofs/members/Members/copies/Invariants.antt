@@ -1,4 +1,4 @@
--- The texts so far are copied.
+-- In the loop: the texts so far are copied.
 use Rattle.std.proofs.Common.{◌≡◌, take, map, string_bytes}
 use Rattle.http_cache_audit.proofs.members.Members.copies.Given as goal
 

@@ -1,4 +1,4 @@
--- A source is put under its target and its host; what is no source leaves all as it is.
+-- A source is added under its target and its host; any other entry changes nothing.
 use Rattle.std.proofs.Common.{◌∙◌, sym, Bor}
 use Rattle.http_cache_recording.specs.declared.entry.Entry.{Entry}
 use Rattle.http_cache_recording.specs.Entry.{entry_seen}

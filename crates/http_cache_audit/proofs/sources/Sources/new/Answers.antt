@@ -1,4 +1,4 @@
--- Nothing is in an empty map.
+-- An empty map has no source.
 use Rattle.std.proofs.Common.{refl}
 use Rattle.http_cache_audit.proofs.sources.Sources.new.Goals as goal
 

@@ -1,7 +1,7 @@
--- The names so far are those that differ of the pieces so far.
+-- In the loop: the names so far are those of the pieces so far that differ.
 use Rattle.std.proofs.Common.{◌≡◌, map, filter, string_bytes}
 use Rattle.http_header.specs.Token.{lowercase}
-use Rattle.http_cache_audit.specs.Assume.{asked_seen}
+use Rattle.http_cache_audit.specs.Assume.{assumed_seen}
 use Rattle.http_cache_audit.specs.Stored.{stored_seen, differs}
 use Rattle.http_cache_audit.proofs.stored.Stored.differing.Given as goal
 
@@ -10,5 +10,5 @@ invariant-loop-name l =
     (goal.iterator-loop-name).can_next l.name-iterator
     × (goal.iterator-loop-name).is_finite l.name-iterator
     × (map string_bytes l.names.items
-    ≡ map lowercase (filter (differs (stored_seen l.self).exchange.request_headers (asked_seen l.asked).headers)
+    ≡ map lowercase (filter (differs (stored_seen l.self).exchange.request_headers (assumed_seen l.asked).headers)
     (map (λ y. y.now) l.yielded)))

@@ -1,4 +1,4 @@
--- The list is taken out, and put back if it is kept.
+-- The list is removed, and put back if it is kept.
 use Rattle.std.proofs.Common.{rules, ◌≡◌, ◌∙◌, ap, ℕ, List, cond, None, bytes_eq, ◌||◌, ◌&&◌, is_some, Some, map}
 use Rattle.http_cache_audit.specs.Order.{sent_seen}
 use Rattle.http_cache_audit.specs.Sources.{sources_seen, is_asked}

@@ -1,4 +1,4 @@
--- What is left under a key is of the one kind or of the other.
+-- The entry is one for the store, or not, and leaves the shelves accordingly.
 use Rattle.std.proofs.Common.{◌∙◌, sym}
 use Rattle.std.proofs.lemmas.Result.{on_ok_weaker}
 use Rattle.http_cache_audit.specs.Order.{sent_seen}

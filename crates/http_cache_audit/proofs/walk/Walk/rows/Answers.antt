@@ -1,4 +1,4 @@
--- One entry more leaves what it leaves, and its row is put last.
+-- One more entry changes the shelves, and its row is added last.
 use Rattle.std.proofs.Common.{rules, ◌≡◌, ◌∙◌, sym, ap, refl, ℕ, ◌+◌, add-one, List, [], ◌∷◌, ◌++◌, map, take, drop, length}
 use Rattle.std.proofs.Common.{Some, option_map, slice_get}
 use Rattle.std.proofs.lemmas.Option.{slice_get-map, slice_get_read}

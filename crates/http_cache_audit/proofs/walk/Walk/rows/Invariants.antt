@@ -1,4 +1,5 @@
--- Under each key is what the entries so far have left, and the rows so far with those of what is left are all.
+-- In the loop: the shelves are as the entries so far left them, and the rows so far and those left
+-- are all.
 use Rattle.std.proofs.Common.{◌≡◌, ◌++◌, [], map, take, drop}
 use Rattle.http_cache_audit.specs.Order.{sent_seen}
 use Rattle.http_cache_audit.specs.Sources.{sources_seen, HoldsSources}

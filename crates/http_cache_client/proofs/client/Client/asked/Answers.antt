@@ -1,4 +1,4 @@
--- What the look-up shows is what is stored, and nothing has changed by it.
+-- The look-up shows what is stored, and changes nothing.
 use Rattle.std.proofs.Common.{◌≡◌, ℕ, List, true, Option, Some, IfOk, IfSome, rules, sym, subst, inl}
 use Rattle.http.specs.Request.{head_of}
 use Rattle.http_cache_fields.specs.Headers.{headers_of}
@@ -9,7 +9,7 @@ use Rattle.http.specs.declared.response.Response.{Response}
 use Rattle.http_cache_client.specs.Ask.{HasStoredStatus, IsAnswered}
 use Rattle.http_cache_plans.specs.Reply.{IsReplyOf}
 use Rattle.http_cache_plans.specs.declared.reply.Reply.{Reply}
-use Rattle.http_cache_client.proofs.VerdictLemmas.{stored_status, IsVerdictIn-found}
+use Rattle.http_cache_client.proofs.ContactLemmas.{stored_status, IsContactIn-found}
 use Rattle.http_cache_client.proofs.client.Client.asked.Goals as goal
 
 pub returns-in-Some-2-clause-answered : goal.returns-in-Some-2-clause-answered
@@ -36,7 +36,7 @@ returns-2-clause-answered g c =
     let found = c.found.result.now in
     let is_read : c.in_ok-read.field-0 ≡ true = search rules in
     let shows = c.found.ensures (c.in_ok-read.ensures.read is_read) in
-    let of = c.in_ok-verdict.ensures.answered found c.select-selected.ensures in
+    let of = c.in_ok-contact.ensures.answered found c.select-selected.ensures in
     let Answered : StoredByTarget → Type 0 = λ stored. IfOk c.not_fresh-3.result (IsAnswered stored request) in
     subst Answered c.in_ok-read.ensures.kept.stored (c.not_fresh-3.ensures.answered
-    (IsVerdictIn-found found (g.S.Shelf.stored c.read.new.self.shelf) text c.in_ok-verdict.verdict shows of))
+    (IsContactIn-found found (g.S.Shelf.stored c.read.new.self.shelf) text c.in_ok-contact.contact shows of))

@@ -1,4 +1,4 @@
--- As many are stored as the look-up showed.
+-- The look-up shows as many responses as are stored.
 use Rattle.std.proofs.Common.{length, sym, ap, ◌∙◌}
 use Rattle.std.proofs.lemmas.Slice.Zip.{AllZip-long}
 use Rattle.http_cache_storage.specs.Shelf.{IsShownAs, StoredByTarget}

@@ -1,4 +1,3 @@
--- The responses of one more target are counted.
 use Rattle.std.proofs.Common.{arith}
 use Rattle.http_cache_storage.specs.Target.{text_of}
 use Rattle.http_cache_client.proofs.CountLemmas.{counted, kept_twice}

@@ -1,4 +1,4 @@
--- Nothing is changed, and the responses of the targets before the one at hand are counted.
+-- Nothing has changed, and the responses of all earlier targets are counted.
 use Rattle.std.proofs.Common.{◌≡◌, map, take}
 use Rattle.http_cache_storage.specs.Shelf.{KeepsAll}
 use Rattle.http_cache_storage.specs.Target.{text_of}

@@ -1,4 +1,4 @@
--- A 304 is for the request's own condition, or is what was received for the request.
+-- A 304 answers the request's own condition, or is the origin's response to it.
 use Rattle.std.proofs.Common.{sym, ◌∙◌, inl, inr}
 use Rattle.http_cache_client.proofs.client.Client.forward.Goals as goal
 

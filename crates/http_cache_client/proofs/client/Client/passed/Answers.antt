@@ -1,4 +1,4 @@
--- What an unsafe request invalidates is removed whole.
+-- An unsafe request removes all stored responses of each target that it invalidates.
 use Rattle.std.proofs.Common.{subst, sym}
 use Rattle.http_cache_plans.specs.Plan.{IsChangeOf}
 use Rattle.http_cache_client.specs.Receive.{own_text}

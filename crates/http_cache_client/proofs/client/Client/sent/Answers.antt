@@ -1,4 +1,4 @@
--- While a stale response could be used, its validation is waited for.
+-- `sent` waits for the validation of a stale response.
 use Rattle.std.proofs.Common.{inr}
 use Rattle.http_cache_client.proofs.client.Client.sent.Goals as goal
 

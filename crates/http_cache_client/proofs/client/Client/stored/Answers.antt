@@ -1,4 +1,4 @@
--- Nothing has changed before the change that is made.
+-- Planning changes nothing before the plan's change is made.
 use Rattle.std.proofs.Common.{subst}
 use Rattle.http_cache_storage.specs.Shelf.{StoredByTarget, KeepsOthers}
 use Rattle.http_cache_storage.specs.Target.{text_of}

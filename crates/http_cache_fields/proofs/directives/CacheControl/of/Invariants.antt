@@ -1,4 +1,4 @@
--- While directives are copied, the copies show what the borrowed ones so far do.
+-- In the loop: the copies are the borrowed directives so far.
 use Rattle.std.proofs.Common.{◌≡◌, map, take}
 use Rattle.http_cache_fields.specs.Shown.{sent_entry, shown_entries}
 use Rattle.http_cache_fields.proofs.directives.CacheControl.of.Given as goal

@@ -1,4 +1,4 @@
--- A directive is found among the first 16, or else by the map of those behind them.
+-- A directive is found among the first 16, or else by the map.
 use Rattle.std.proofs.Common.{Some, None, map, drop, rules, tests, sym, ap, ◌∙◌}
 use Rattle.std.specs.Option.{option_map, option_copied, option_or}
 use Rattle.std.proofs.lemmas.Iterator.{YieldsList-from_slice, YieldsList-from_take}
@@ -23,7 +23,6 @@ returns-in-Some c =
     found ∙ value_among_first 16 ds n _ (sym found)
     ∙ ap (λ es. value_under es n) c.self.view_is
 
--- a name that isn't among the first is found by the map
 pub returns-in-None : goal.returns-in-None
 returns-in-None c =
     let es = c.self.inside.list.items in

@@ -1,4 +1,4 @@
--- A directive of a new name goes last, and stands in the map too where 16 are before it.
+-- A directive of a new name is added last, and to the map too if 16 precede it.
 use Rattle.std.proofs.Common.{◌≡◌, ◌≤◌, ◌<◌, List, [], ◌∷◌, ◌++◌, map, length, None, arith, sym, subst, ap, ◌∙◌}
 use Rattle.std.specs.Option.{option_copied}
 use Rattle.std.proofs.lemmas.List.{map-append, length-map}

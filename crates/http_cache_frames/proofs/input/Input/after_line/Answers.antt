@@ -1,4 +1,4 @@
--- What is passed over has the lengths of the head and of the body.
+-- The skipped bytes have the lengths of the head and of the body.
 use Rattle.std.proofs.Common.{arith, ◌++◌, refl, length-append}
 use Rattle.http_cache_frames.proofs.ServedLemmas.{take_twice}
 use Rattle.http_cache_frames.proofs.input.Input.after_line.Goals as goal

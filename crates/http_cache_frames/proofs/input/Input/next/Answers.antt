@@ -1,9 +1,9 @@
--- The line that is ahead is taken, and what follows it.
+-- The line ahead and what follows it are taken.
 use Rattle.std.proofs.Common.{arith, ◌≡◌, ◌∙◌, ap, subst, drop}
 use Rattle.std.proofs.lemmas.Result.{IfOk-weaker}
 use Rattle.http_cache_frames.specs.Front.{IsLine}
 use Rattle.http_cache_frames.specs.Served.{IsAhead, TakesContent}
-use Rattle.http_cache_frames.proofs.PlaceLemmas.{line_there}
+use Rattle.http_cache_frames.proofs.LineEndLemmas.{line_there}
 use Rattle.http_cache_frames.proofs.ServedLemmas.{frame_taken}
 use Rattle.http_cache_frames.proofs.input.Input.next.Goals as goal
 

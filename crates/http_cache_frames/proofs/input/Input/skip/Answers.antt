@@ -1,4 +1,4 @@
--- What is ahead is taken, and more is read, until as many bytes were taken.
+-- The bytes ahead are taken and more is read, until enough were taken.
 use Rattle.std.proofs.Common.{arith, ◌++◌, take, drop, sym, subst, length-append, take-append-drop}
 use Rattle.std.proofs.lemmas.List.{length-take-le}
 use Rattle.http_cache_frames.specs.Served.{Takes}

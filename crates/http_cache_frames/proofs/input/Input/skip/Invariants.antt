@@ -1,4 +1,4 @@
--- Nothing is put, and what is left to pass over is what hasn't been taken.
+-- Nothing is put, and the bytes that weren't taken are left to skip.
 use Rattle.std.proofs.Common.{◌≡◌, ℕ, ◌+◌, List, length}
 use Rattle.http_cache_frames.specs.Served.{PutsNothing, Takes}
 use Rattle.http_cache_frames.proofs.input.Input.skip.Given as goal

@@ -1,4 +1,4 @@
--- All that was waiting is written, or a beginning of it.
+-- All waiting replies are written, or a beginning of them.
 use Rattle.std.proofs.Common.{rules, ◌≡◌, sym, subst, IfErr}
 use Rattle.std.proofs.lemmas.Result.{IfErr-weaker}
 use Rattle.std.specs.Io.KnownBytes.{Appends}
@@ -12,9 +12,9 @@ returns-in_err-write_all-clause-cut g c =
     let held = g.W.Write.contents c.args.self.now.to in
     let after = g.W.Write.contents c.write_all.new.to in
     let waiting = c.args.self.now.waiting.items in
-    let told : IfErr c.from_residual.result (λ ended. (ended ≡ NotWritten) × IsCut held after waiting) = search rules in
+    let on_error : IfErr c.from_residual.result (λ ended. (ended ≡ NotWritten) × IsCut held after waiting) = search rules in
     IfErr-weaker c.from_residual.result _ _
-    (λ ended failed. (failed.0, λ base text before. cut_out base held after waiting text before failed.1)) told
+    (λ ended failed. (failed.0, λ base text before. cut_out base held after waiting text before failed.1)) on_error
 
 pub returns-clause-ok : goal.returns-clause-ok
 returns-clause-ok g c =

@@ -1,4 +1,4 @@
--- A reply is waiting whole, or is written after what was waiting.
+-- A whole reply is waiting, or is written after those that were waiting.
 use Rattle.std.proofs.Common.{rules, ◌≡◌, [], ◌++◌, IfErr, ap, sym, subst, ◌∙◌}
 use Rattle.std.proofs.lemmas.Result.{IfErr-weaker, on_ok_weaker}
 use Rattle.std.specs.Io.KnownBytes.{Appends}
@@ -14,12 +14,12 @@ returns-in_err-flush-clause-ended g c =
     let after = g.W.Write.contents c.flush.new.self.to in
     let waiting = c.args.self.now.waiting.items in
     let reply = reply_text c.args.reply.now in
-    let told : IfErr c.from_residual-in_err-flush.result (λ ended. (ended ≡ NotWritten) × Cuts held waiting after) =
+    let on_error : IfErr c.from_residual-in_err-flush.result (λ ended. (ended ≡ NotWritten) × Cuts held waiting after) =
     search rules in
     IfErr-weaker c.from_residual-in_err-flush.result _ _
     (λ ended failed. failed_by ended held waiting after c.flush.new.self.waiting.items reply failed.0
     (λ base text before. cut_longer base after text reply (failed.1 base text before)))
-    told
+    on_error
 
 pub returns-clause-ok : goal.returns-clause-ok
 returns-clause-ok g c =

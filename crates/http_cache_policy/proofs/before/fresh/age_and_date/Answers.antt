@@ -1,4 +1,4 @@
--- The digits of the age make a value, and so does the date behind them.
+-- The digits of the age make a value, and so does the date after them.
 use Rattle.std.proofs.Common.{◌≡◌, ℕ, List, [], ◌∷◌, decimal, IsTrue, rules, arith, sym, subst}
 use Rattle.std.proofs.Math.Seq.{take-append_seam, drop-append_seam}
 use Rattle.std.proofs.lemmas.Bool.Decides.{nat_tests}

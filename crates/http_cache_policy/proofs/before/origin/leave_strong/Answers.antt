@@ -1,4 +1,4 @@
--- The strong tags make a header value, and where some are left, If-None-Match is there for them.
+-- The strong tags make a field value. If any are left, If-None-Match is present for them.
 use Rattle.std.proofs.Common.{◌≢◌, ℕ, Bool, List, [], not, filter, codes, is_some}
 use Rattle.std.proofs.Common.{slice_get, unwrap_or, string_bytes, refl, subst, ap, ◌∙◌}
 use Rattle.std.specs.FinMap as fin
@@ -18,7 +18,6 @@ replace_line-requires-clause-value c =
     (string_bytes c.in_ok-tags.tags)
     (c.in_ok-tags.ensures ∙ ap (λ ps. join (filter is_strong ps)) c.pieces_under.ensures)
 
--- the name was there, and is still there without the date
 pub replace_line-requires-clause-there : goal.replace_line-requires-clause-there
 replace_line-requires-clause-there c =
     let h = headers_of c.args.headers.now in

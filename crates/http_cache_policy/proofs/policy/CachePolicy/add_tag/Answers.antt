@@ -1,4 +1,4 @@
--- The tags that are asked for and the stored one behind them make a header value.
+-- The requested tags, followed by the stored one, make a field value.
 use Rattle.std.proofs.Common.{[], ◌∷◌, ◌++◌, codes, ap, ◌∙◌}
 use Rattle.http_cache_fields.specs.Headers.{headers_of, first, values}
 use Rattle.http_cache_fields.specs.Pieces.{join}

@@ -1,4 +1,5 @@
--- After a 304 the stored status and body headers stay, no name is new; one age and date go out.
+-- After a 304 the stored status and the body's fields stay, and no name is new. One Age and one
+-- Date are sent.
 use Rattle.std.proofs.Common.{◌≡◌, Bool, true, List, ℕ, ℤ, Result, Ok, Err, IfOk, length, sym, ap, subst, ◌∙◌}
 use Rattle.std.proofs.lemmas.Result.{IfOk-weaker}
 use Rattle.http_cache_fields.specs.Headers.{headers_of, values, IsAbsent}

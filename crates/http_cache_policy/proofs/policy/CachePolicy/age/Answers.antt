@@ -1,4 +1,4 @@
--- The age at a moment is the received Age and the time since then, and no earlier age is greater.
+-- The age is the received Age and the time since, and no earlier age is greater.
 use Rattle.std.proofs.Common.{◌≡◌, arith}
 use Rattle.std.specs.Duration.{as_nanos}
 use Rattle.http_cache_policy.specs.Age.{age_at, received_age}

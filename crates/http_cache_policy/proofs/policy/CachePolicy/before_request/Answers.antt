@@ -1,12 +1,11 @@
--- An answer is fresh by one bound: if so, then at each earlier moment too, else at no later one.
+-- One bound decides whether an answer is fresh: then it was fresh earlier too, otherwise it never
+-- is later.
 use Rattle.std.proofs.Common.{rules, sym, ◌∙◌}
 use Rattle.http_cache_policy.specs.Verdict.{is_fresh_for}
 use Rattle.http_cache_policy.proofs.BoundLemmas.{is_fresh_for-by_bound, is_fresh_for-earlier}
 use Rattle.http_cache_policy.proofs.BoundLemmas.{is_fresh_for-later, is_fresh_for-storable}
 use Rattle.http_cache_policy.proofs.FreshLemmas.{one_age_and_date}
 use Rattle.http_cache_policy.proofs.policy.CachePolicy.before_request.Goals as goal
-
--- ---- the fresh answer
 
 pub returns-then-satisfies_without_revalidation-clause-one_age_and_date
     : goal.returns-then-satisfies_without_revalidation-clause-one_age_and_date
@@ -43,8 +42,6 @@ returns-then-satisfies_without_revalidation-clause-answer g c = record {
   matches = search rules;
   fresh = c.in_ok-cached_response.ensures.fresh;
 }
-
--- ---- the stale answer
 
 pub returns-clause-verdict : goal.returns-clause-verdict
 unfolding is_fresh_for

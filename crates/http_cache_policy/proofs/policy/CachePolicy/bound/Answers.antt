@@ -1,4 +1,4 @@
--- The bound on the age is the least of those by the lifetime, by max-age and by min-fresh.
+-- The bound is the least of the bounds by the lifetime, by max-age and by min-fresh.
 use Rattle.std.proofs.Common.{◌∙◌}
 use Rattle.http_cache_rules.specs.Asks.{asked_directives}
 use Rattle.http_cache_policy.specs.Bound.{lesser, bound}

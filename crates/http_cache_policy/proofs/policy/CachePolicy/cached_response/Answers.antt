@@ -1,4 +1,4 @@
--- A fresh answer has the stored status, and its headers have the age and the date of the moment.
+-- A fresh answer has the stored status, and Age and Date at the time.
 use Rattle.std.proofs.Common.{◌≡◌, ◌/◌, ◌∷◌, [], ℕ, List, false, Option, is_some, decimal, codes, refl, sym, ap}
 use Rattle.std.proofs.Common.{subst, ◌∙◌, inl, inr, rules, IsErrOf, IfSome, true≢false}
 use Rattle.std.specs.FinMap as fin

@@ -1,4 +1,4 @@
--- The reason is that of the table at the age of the moment, and so are its laws.
+-- The reason is the table's at the age, so the table's laws hold of it.
 use Rattle.std.proofs.Common.{◌≡◌, false, is_none, option_map, ap, ◌∙◌}
 use Rattle.std.specs.Option.{option_map_or}
 use Rattle.http_cache_reasons.specs.Reason.{reason_seen, is_mismatch}
@@ -8,17 +8,17 @@ use Rattle.http_cache_policy.proofs.policy.CachePolicy.explain.Given as given
 use Rattle.http_cache_policy.proofs.policy.CachePolicy.explain.Goals as goal
 
 module _ (g : given.Over) (c : goal.After-freshness g) where
-  told : option_map reason_seen c.reason.result
+  reported : option_map reason_seen c.reason.result
       ≡ reason c.args.self.now (g.Req.RequestLike.seen c.args.req.now) c.args.now.nanosecond
-  told = c.reason.ensures c.args.now.nanosecond (c.as_nanos.ensures ∙ c.age-age.ensures.value)
+  reported = c.reason.ensures c.args.now.nanosecond (c.as_nanos.ensures ∙ c.age-age.ensures.value)
 
 pub returns-clause-hit : goal.returns-clause-hit
 returns-clause-hit g c =
     none-mapped reason_seen c.reason.result
-    ∙ ap is_none (told g c)
+    ∙ ap is_none (reported g c)
     ∙ reason-hit c.args.self.now (g.Req.RequestLike.seen c.args.req.now) c.args.now.nanosecond
 
 pub returns-clause-mismatch : goal.returns-clause-mismatch
 returns-clause-mismatch g c =
-    ap (λ o. option_map_or is_mismatch o false) (told g c)
+    ap (λ o. option_map_or is_mismatch o false) (reported g c)
     ∙ reason-mismatch c.args.self.now (g.Req.RequestLike.seen c.args.req.now) c.args.now.nanosecond

@@ -1,4 +1,4 @@
--- The verdict at a moment is that of one bound on the age, and true only of what may be stored.
+-- The verdict is one bound on the age, and true only of what may be stored.
 use Rattle.std.proofs.Common.{rules, sym, ◌∙◌}
 use Rattle.http_cache_policy.specs.Verdict.{is_fresh_for}
 use Rattle.http_cache_policy.proofs.BoundLemmas.{is_fresh_for-by_bound, is_fresh_for-storable}

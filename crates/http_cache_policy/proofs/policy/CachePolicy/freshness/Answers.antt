@@ -1,4 +1,4 @@
--- What is left of the lifetime is the lifetime less the age.
+-- The remaining lifetime is the lifetime less the age.
 use Rattle.std.proofs.Common.{◌-◌, sym, ap, ◌∙◌}
 use Rattle.http_cache_rules.specs.Lifetimes.{lifetime}
 use Rattle.http_cache_policy.specs.Age.{age_at, time_to_live_at}

@@ -1,4 +1,4 @@
--- What is kept of parts is kept whole, so they and what is found in them make a policy.
+-- Keeping the parts again changes nothing, so they and their findings make a policy.
 use Rattle.std.proofs.Common.{◌≡◌, sym, ap, ◌∙◌}
 use Rattle.http_cache_fields.specs.Headers.{Headers, headers_of}
 use Rattle.http_cache_rules.specs.Exchange.{Exchange, exchange_in}

@@ -1,8 +1,8 @@
--- A value that is read is of an exchange, and the policy is what is kept of that one.
+-- A value that can be read has an exchange, and the policy is what is kept of it.
 use Rattle.std.proofs.Common.{ap, ◌∙◌}
 use Rattle.serde_json.specs.View.{view}
 use Rattle.http_cache_rules.specs.Exchange.{exchange_in}
-use Rattle.http_cache_stored.proofs.StoredLemmas.{IsStored-unique}
+use Rattle.http_cache_json.proofs.StoredLemmas.{IsStored-unique}
 use Rattle.http_cache_policy.specs.Kept.{kept_exchange}
 use Rattle.http_cache_policy.proofs.policy.CachePolicy.from_value.Goals as goal
 

@@ -1,4 +1,4 @@
--- Where no date is to be told, none is among the headers that are handed on.
+-- If no Date is to be sent, none is among the headers that are sent on.
 use Rattle.std.proofs.Common.{◌≡◌, ◌≤◌, List, [], ℕ, length, codes, Option, unwrap_or, ap, sym, subst, ◌∙◌, arith}
 use Rattle.std.specs.FinMap as fin
 use Rattle.std.proofs.lemmas.Result.{IfOk-weaker}

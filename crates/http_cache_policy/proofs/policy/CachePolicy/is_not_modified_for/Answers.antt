@@ -1,4 +1,4 @@
--- Only a request with a condition is answered so.
+-- Only a request with a condition is answered with a 304.
 use Rattle.std.proofs.Common.{◌≡◌, true, subst, sym, ◌∙◌}
 use Rattle.http_cache_rules.specs.Conditions.{is_conditional}
 use Rattle.http_cache_rules.proofs.ConditionLemmas.{stored-conditional}

@@ -1,4 +1,4 @@
--- Where the target, Host and the method are the stored ones, the first name of Vary that differs is told.
+-- If the target, Host and the method match, the reason is the first name of Vary that differs.
 use Rattle.std.proofs.Common.{◌≡◌, true, codes, bytes_eq, None, option_map, option_copied, rules, sym, ap, ◌∙◌}
 use Rattle.std.specs.List.{find}
 use Rattle.http_cache_fields.specs.Headers.{first}

@@ -1,4 +1,4 @@
--- Where cargo cult is ignored, a policy stores the response's directives without it.
+-- If cargo cult is ignored, a policy stores the response's directives without it.
 use Rattle.std.proofs.Common.{◌≡◌, ap, ◌∙◌, rules}
 use Rattle.std.proofs.lemmas.Result.{IfOk-weaker}
 use Rattle.http_cache_fields.specs.Headers.{headers_of}

@@ -1,8 +1,8 @@
--- The reason is that of the first group of rows that tells one.
+-- The reason is the first group of rows' that has one.
 use Rattle.std.proofs.Common.{◌≡◌, Some, None, option_map, rules, sym, ap, ◌∙◌}
 use Rattle.http_cache_fields.specs.Directives.{cache_control}
 use Rattle.http_cache_rules.specs.FirstRow.{first_said}
-use Rattle.http_cache_rules.specs.Asks.{asks_of, asked_directives, asked_of}
+use Rattle.http_cache_rules.specs.Asks.{asks_of, asked_directives, requested_by}
 use Rattle.http_cache_reasons.specs.Reason.{is_stale, reason_seen}
 use Rattle.http_cache_policy.specs.Explain.{asked_rows, stale_rows}
 use Rattle.http_cache_policy.proofs.ExplainLemmas.{reason-of_mismatch, reason-of_asked, reason-of_stale}
@@ -17,7 +17,7 @@ pub returns-in-Some-unmet : goal.returns-in-Some-unmet
 returns-in-Some-unmet g c = λ now aged.
     let e = c.args.self.now in
     let unmet =
-    c.unmet.ensures c.asked_by-asked.ensures
+    c.unmet.ensures c.directives_of_request-asked.ensures
     ∙ (λ i. first_said (asked_rows e (asks_of (c.headers-headers.ensures i)) (aged i))) in
     reason-of_asked e (g.Req.RequestLike.seen c.args.req.now) now (reason_seen c.in-Some-unmet.reason)
     (sym (ap (option_map reason_seen) c.in_default.is) ∙ c.mismatch.ensures)
@@ -29,9 +29,9 @@ returns-in_err-why g c = λ now aged.
     let request = g.Req.RequestLike.seen c.args.req.now in
     let none : c.from_residual.result ≡ None = search rules in
     let unmet =
-    c.unmet.ensures c.asked_by-asked.ensures
+    c.unmet.ensures c.directives_of_request-asked.ensures
     ∙ (λ i. first_said (asked_rows e (asks_of (c.headers-headers.ensures i)) (aged i))) in
-    let asked = c.asked_by-asked.ensures ∙ ap (λ h. asked_of (cache_control h)) c.headers-headers.ensures in
+    let asked = c.directives_of_request-asked.ensures ∙ ap (λ h. requested_by (cache_control h)) c.headers-headers.ensures in
     let ds = asked_directives (asks_of request.headers) in
     let stale = c.why_stale.ensures ds asked ∙ ap (λ age. first_said (stale_rows e ds age)) aged in
     ap (option_map reason_seen) none
@@ -45,9 +45,9 @@ returns g c = λ now aged.
     let e = c.args.self.now in
     let request = g.Req.RequestLike.seen c.args.req.now in
     let unmet =
-    c.unmet.ensures c.asked_by-asked.ensures
+    c.unmet.ensures c.directives_of_request-asked.ensures
     ∙ (λ i. first_said (asked_rows e (asks_of (c.headers-headers.ensures i)) (aged i))) in
-    let asked = c.asked_by-asked.ensures ∙ ap (λ h. asked_of (cache_control h)) c.headers-headers.ensures in
+    let asked = c.directives_of_request-asked.ensures ∙ ap (λ h. requested_by (cache_control h)) c.headers-headers.ensures in
     let ds = asked_directives (asks_of request.headers) in
     let stale = c.why_stale.ensures ds asked ∙ ap (λ age. first_said (stale_rows e ds age)) aged in
     reason-of_stale e request now (Some (is_stale c.in_ok-why.why))

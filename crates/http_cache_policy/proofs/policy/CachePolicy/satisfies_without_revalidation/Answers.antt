@@ -1,4 +1,4 @@
--- A request takes the response where it asks for no validation and the age is below the bound.
+-- A request accepts the response if it asks for no validation and the age is below the bound.
 use Rattle.std.proofs.Common.{◌≡◌, true, not, ◌&&◌, rules, sym, ap, ◌∙◌}
 use Rattle.http_cache_fields.specs.Headers.{headers_of}
 use Rattle.http_cache_rules.specs.Asks.{asks_of, asked_directives, has_no_cache}
@@ -20,6 +20,6 @@ returns-then-not-pragma_forbids c = λ now aged.
     ] in
     let taken : true ≡ not (has_no_cache asks) = sym (ap not c.if-not-pragma_forbids.true) ∙ ap not forbids in
     c.is_below.ensures
-    ∙ (λ i. is_below (c.bound.ensures asks c.asked_by-asked.ensures i) ((c.as_nanos.ensures ∙ aged) i))
+    ∙ (λ i. is_below (c.bound.ensures asks c.directives_of_request-asked.ensures i) ((c.as_nanos.ensures ∙ aged) i))
     ∙ sym (meets-below e asks age)
     ∙ ap (λ b. b && meets e (asked_directives asks) age) taken

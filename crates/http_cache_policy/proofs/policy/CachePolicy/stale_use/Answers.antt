@@ -1,7 +1,7 @@
--- Both uses are what their conditions say, and what follows of that.
+-- Both uses are what their conditions say, with the consequences.
 use Rattle.std.proofs.Common.{◌≡◌, sym, ap, ◌∙◌}
 use Rattle.http_cache_fields.specs.Directives.{cache_control}
-use Rattle.http_cache_rules.specs.Asks.{asks_of, asked_of, asked_directives, has_no_cache}
+use Rattle.http_cache_rules.specs.Asks.{asks_of, requested_by, asked_directives, has_no_cache}
 use Rattle.http_cache_policy.specs.Age.{age_at}
 use Rattle.http_cache_policy.specs.Bound.{bound, is_below}
 use Rattle.http_cache_policy.specs.StaleUse.{lets_while_revalidate, lets_if_error}
@@ -21,8 +21,8 @@ returns-then-asks_validation-clause-value g c =
     let e = c.args.self.now in
     let request = g.Req.RequestLike.seen c.args.req.now in
     let asks = asks_of request.headers in
-    let asked = c.asked_by-asked.ensures ∙ ap (λ h. asked_of (cache_control h)) c.headers-headers.ensures in
-    let anew = c.asks_validation.ensures c.asked_by-asked.ensures ∙ ap (λ h. has_no_cache (asks_of h)) c.headers-headers.ensures in
+    let asked = c.directives_of_request-asked.ensures ∙ ap (λ h. requested_by (cache_control h)) c.headers-headers.ensures in
+    let anew = c.asks_validation.ensures c.directives_of_request-asked.ensures ∙ ap (λ h. has_no_cache (asks_of h)) c.headers-headers.ensures in
     elim c.then-asks_validation.branch [
       | then-asks_validation-via-then-asks_validation w ↦
           neither-asked e request c.args.now.nanosecond (sym anew ∙ w.if-asks_validation.true)
@@ -38,10 +38,10 @@ returns-clause-value g c =
     let e = c.args.self.now in
     let request = g.Req.RequestLike.seen c.args.req.now in
     let asks = asks_of request.headers in
-    let asked = c.asked_by-asked.ensures ∙ ap (λ h. asked_of (cache_control h)) c.headers-headers.ensures in
+    let asked = c.directives_of_request-asked.ensures ∙ ap (λ h. requested_by (cache_control h)) c.headers-headers.ensures in
     let ds = asked_directives asks in
     let aged : c.as_nanos-age.result ≡ age_at e c.args.now.nanosecond = c.as_nanos-age.ensures ∙ c.age.ensures.value in
-    let anew = c.asks_validation.ensures c.asked_by-asked.ensures ∙ ap (λ h. has_no_cache (asks_of h)) c.headers-headers.ensures in
+    let anew = c.asks_validation.ensures c.directives_of_request-asked.ensures ∙ ap (λ h. has_no_cache (asks_of h)) c.headers-headers.ensures in
     let below : c.is_below.result ≡ is_below (bound e asks) (age_at e c.args.now.nanosecond) =
     c.is_below.ensures ∙ (λ i. is_below (c.bound.ensures asks asked i) (aged i)) in
     used-by_seconds e request c.args.now.nanosecond (sym c.is_open_to_stale.ensures ∙ c.if-not-is_open_to_stale.false)

@@ -1,4 +1,4 @@
--- The answer lets the response be stored exactly where it may be.
+-- The result allows to store the response exactly if it may be stored.
 use Rattle.std.proofs.Common.{◌≡◌, rules, ap, ◌∙◌}
 use Rattle.http_cache_rules.specs.Storability.{storability, is_allowed}
 use Rattle.http_cache_rules.proofs.StorabilityLemmas.{storability-storable}

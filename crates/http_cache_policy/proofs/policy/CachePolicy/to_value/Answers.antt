@@ -1,11 +1,11 @@
--- What is written reads back as the stored exchange, with the target that the printed one spells.
+-- The value reads back as the stored exchange, with the target that the printed one denotes.
 use Rattle.std.proofs.Common.{◌↔◌, ◌≤◌, sym, subst}
 use Rattle.serde_json.specs.Data.{Data, depth}
 use Rattle.serde_json.specs.View.{view}
-use Rattle.http_cache_stored.specs.Stored.{IsStored}
-use Rattle.http_cache_stored.specs.ReadBack.{IsWrittenFor, IsReadBack}
-use Rattle.http_cache_stored.proofs.DepthLemmas.{stored-flat}
-use Rattle.http_cache_stored.proofs.StoredBackLemmas.{stored-reads_back}
+use Rattle.http_cache_json.specs.Stored.{IsStored}
+use Rattle.http_cache_json.specs.ReadBack.{IsWrittenFor, IsReadBack}
+use Rattle.http_cache_json.proofs.DepthLemmas.{stored-flat}
+use Rattle.http_cache_json.proofs.StoredBackLemmas.{stored-reads_back}
 use Rattle.http_cache_policy.proofs.ReadLemmas.{kept-restored}
 use Rattle.http_cache_policy.proofs.policy.CachePolicy.to_value.Goals as goal
 

@@ -1,4 +1,4 @@
--- A request has the values of Vary where no name is `*` and each name has the same first value.
+-- A request matches Vary if no name is `*` and each name has the stored first value.
 use Rattle.std.proofs.Common.{codes, rules, tests, sym, ap, ◌∙◌}
 use Rattle.std.proofs.lemmas.Iterator.Consumers.{YieldsList-from_first}
 use Rattle.std.proofs.lemmas.Iterator.Search.{all_from_yields_List}

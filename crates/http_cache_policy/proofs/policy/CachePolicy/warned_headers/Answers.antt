@@ -1,4 +1,4 @@
--- The stored headers get the warning 113 where the age and a guessed lifetime exceed a day.
+-- The stored headers get the warning 113 if the age and a heuristic lifetime exceed a day.
 use Rattle.std.proofs.Common.{◌≡◌, ◌≤◌, ℕ, List, ◌++◌, ◌∷◌, [], length, codes, true, unwrap_or, ap, refl, sym, subst}
 use Rattle.std.proofs.Common.{◌∙◌, inr, rules, IsErrOf, if◌then◌else◌}
 use Rattle.std.specs.FinMap as fin

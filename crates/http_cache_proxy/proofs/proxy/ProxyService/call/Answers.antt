@@ -1,4 +1,4 @@
--- What is written is by the outcome of the request, at the time that the clock showed.
+-- The outcome of the request, at the time that the clock showed, is written.
 use Rattle.std.specs.Prelude.{option_map}
 use Rattle.jiff.specs.declared.timestamp.Timestamp.{Timestamp}
 use Rattle.http_cache_proxy.proofs.CauseLemmas.{answered-by, refused-by, none-of}

@@ -1,4 +1,4 @@
--- What is written is an item with its parameters.
+-- The text is an item with its parameters.
 use Rattle.std.proofs.Common.{◌≡◌, string_bytes, rules, sym, subst}
 use Rattle.http_cache_reasons.specs.StructuredField.{IsItem}
 use Rattle.http_cache_reasons.specs.Member.{member_seen, member_text}

@@ -1,4 +1,4 @@
--- A row that holds adds its words, after a separator; another adds nothing.
+-- A row that holds adds its words, after a separator; any other adds nothing.
 use Rattle.std.proofs.Common.{rules, ◌≡◌, ℕ, ◌+◌, Bool, true, false, List, [], ◌∷◌, ◌++◌, map, take}
 use Rattle.std.proofs.Common.{codes, get_or, if◌then◌else◌, append-nil, refl, sym, ap, ◌∙◌}
 use denote.Bor.{Bor}

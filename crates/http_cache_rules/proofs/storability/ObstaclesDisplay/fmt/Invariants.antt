@@ -1,4 +1,4 @@
--- What is written so far lists the rows up to the index.
+-- In the loop: the written text lists the rows up to the index.
 use Rattle.std.proofs.Common.{◌≡◌, ℕ, Bool, List, [], map, take}
 use Rattle.std.specs.Fmt.{HasWritten, IsPlainFormatter}
 use denote.Bor.{Bor}
@@ -8,7 +8,6 @@ use Rattle.http_cache_rules.specs.DisplayText.{listed}
 use Rattle.http_cache_rules.proofs.DisplayTextLemmas.{separator_after}
 use Rattle.http_cache_rules.proofs.storability.ObstaclesDisplay.fmt.Given as goal
 
--- a row as it is listed
 abbrev pub row_seen : Bool × Bor (List ℕ) → Bool × List ℕ
 row_seen row = (row.0, row.1.now)
 

@@ -1,4 +1,4 @@
--- A policy that is put in front changes no choice for a request that it doesn't match.
+-- A new first policy changes no choice for a request that it doesn't match.
 use Rattle.std.proofs.Common.{rules, ◌≡◌, ◌∷◌, sym, subst}
 use Rattle.http_cache_semantics.specs.Variants.{IsPassedOver}
 use Rattle.http_cache_semantics.proofs.VariantsLemmas.{passed_over}

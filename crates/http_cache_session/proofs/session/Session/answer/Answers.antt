@@ -1,8 +1,8 @@
--- A reply that refuses nothing ends the request whose outcome the frame hands over.
+-- A reply that refuses nothing ends the request whose outcome the frame reports.
 use Rattle.serde_json.specs.View.{view}
 use Rattle.http_cache_wire.proofs.HandedLemmas.{handed}
 use Rattle.http_cache_session.proofs.session.Session.answer.Goals as goal
 
 pub returns-after-matches-clause-over : goal.returns-after-matches-clause-over
 returns-after-matches-clause-over g c = λ refuses token over.
-    c.in-Ok.ensures.over token (handed (view c.args.frame.line) c.in-Some.asked token c.in-Some.ensures over)
+    c.in-Ok.ensures.over token (handed (view c.args.frame.line) c.in-Some.operation token c.in-Some.ensures over)

@@ -1,4 +1,4 @@
--- The order of use doesn't change what is stored.
+-- Using a target changes only the order of use.
 use Rattle.std.proofs.Common.{string_capacity}
 use Rattle.http_cache_shelf.specs.Memory.{stored_under}
 use Rattle.http_cache_shelf.proofs.FitLemmas.{fit-equal}

@@ -1,4 +1,4 @@
--- What is left has ids and texts that were stored.
+-- The responses that are left were stored before, so their ids and texts keep their bounds.
 use Rattle.std.proofs.Common.{string_capacity, map}
 use Rattle.http_cache_storage.specs.Target.{text_of}
 use Rattle.http_cache_shelf.specs.Memory.{stored_under}

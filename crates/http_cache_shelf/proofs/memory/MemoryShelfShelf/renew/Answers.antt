@@ -1,4 +1,4 @@
--- What is left has ids and texts that were stored, and is within the limits.
+-- The ids and texts that are left were stored before, and the limits hold.
 use Rattle.std.proofs.Common.{string_capacity, subst}
 use Rattle.http_cache_shelf.specs.Size.{IsSmall}
 use Rattle.http_cache_shelf.specs.Memory.{stored_under}

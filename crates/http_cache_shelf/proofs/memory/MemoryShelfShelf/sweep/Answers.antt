@@ -1,4 +1,4 @@
--- What is left has ids and texts that were stored.
+-- The responses that are left were stored before, so their ids and texts keep their bounds.
 use Rattle.std.proofs.Common.{◌≡◌, arith, ap}
 use Rattle.http_cache_shelf.specs.declared.memory.size.Amount.{Amount}
 use Rattle.http_cache_shelf.specs.Memory.{stored_under, all_stored}

@@ -1,4 +1,4 @@
--- One less in each turn, of two or more.
+-- Each turn evicts one of two or more entries.
 use Rattle.std.proofs.Common.{arith}
 use Rattle.http_cache_shelf.proofs.BoundsLemmas.{front-all, front-more}
 use Rattle.http_cache_shelf.proofs.HeldLemmas.{less-same, less-less}

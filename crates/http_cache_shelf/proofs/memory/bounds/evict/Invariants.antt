@@ -1,4 +1,4 @@
--- The first entries are left, and what is held is their amount.
+-- The first entries are left, and `held` is their amount.
 use Rattle.std.proofs.Common.{length}
 use Rattle.http_cache_shelf.specs.Memory.{IsFront, IsHeld}
 use Rattle.http_cache_shelf.specs.Size.{IsAtMost}

@@ -1,4 +1,4 @@
--- What is removed is the last entry.
+-- The last entry is removed.
 use Rattle.std.proofs.Common.{◌≡◌, ◌-◌, Some, None, length, take, ap, sym, ◌∙◌}
 use Rattle.lru.specs.LruCache.{lru_cache, last_entry}
 use Rattle.http_cache_shelf.specs.Size.{replaced}

@@ -1,4 +1,4 @@
--- The first text is shortened, then texts are evicted, and then the first text if nothing is left of it.
+-- The first text is shortened, other texts are evicted, and an empty first text is removed.
 use Rattle.std.proofs.Common.{◌≡◌, arith, List, length, ap, inl, inr}
 use Rattle.http_cache_storage.specs.Shelf.{StoredSeen}
 use Rattle.http_cache_shelf.specs.Memory.{stored_under, all_seen}

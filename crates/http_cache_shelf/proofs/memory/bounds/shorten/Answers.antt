@@ -1,4 +1,4 @@
--- What is written through the look-up is what is left of the first text.
+-- The list written through the look-up is what is left of the first text.
 use Rattle.std.proofs.Common.{◌≡◌, Some, None, ap, sym, ◌∙◌}
 use Rattle.std.specs.Map.{lookup}
 use Rattle.std.specs.Option.{option_copied_mut}

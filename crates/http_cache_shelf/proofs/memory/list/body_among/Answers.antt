@@ -1,4 +1,4 @@
--- The first response of the id is the first one that is found.
+-- The loop stops at the first response that has the id.
 use Rattle.std.proofs.Common.{Some, nat_eq, ap, sym, ◌∙◌, option_map, option_copied}
 use Rattle.http_cache_storage.specs.Shelf.{StoredSeen}
 use Rattle.http_cache_shelf.specs.Memory.{seen_of}

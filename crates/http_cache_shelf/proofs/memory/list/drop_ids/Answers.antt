@@ -1,4 +1,3 @@
--- What is retained has none of the ids.
 use Rattle.std.proofs.Common.{rules, not, nat_eq}
 use Rattle.std.specs.List.{list_any}
 use Rattle.std.proofs.lemmas.Fn.{filter_same}

@@ -1,4 +1,4 @@
--- One less in each turn, of more than are to stay.
+-- Each turn drops one of more than `stay` responses.
 use Rattle.std.proofs.Common.{arith}
 use Rattle.http_cache_shelf.proofs.ListLemmas.{left-all, left-more}
 use Rattle.http_cache_shelf.proofs.memory.list.drop_until.Goals as goal

@@ -1,4 +1,4 @@
--- The newest are left, at least as many as are to stay.
+-- The newest are left, at least `stay` of them.
 use Rattle.std.proofs.Common.{length}
 use Rattle.http_cache_shelf.specs.Memory.{AreLeft}
 use Rattle.http_cache_shelf.proofs.memory.list.drop_until.Given as goal

@@ -1,4 +1,3 @@
--- What is retained can be used again.
 use Rattle.std.proofs.Common.{rules}
 use Rattle.std.proofs.lemmas.Fn.{filter_same}
 use Rattle.http_cache_messages.specs.Worth.{can_be_used_again}

@@ -1,4 +1,3 @@
--- What is written at the index is the response with the new policy.
 use Rattle.std.proofs.Common.{ap, set}
 use Rattle.http_cache_storage.specs.declared.shelf.StoredResponse.{StoredResponse}
 use Rattle.http_cache_shelf.proofs.ListLemmas.{renewed-there}

@@ -1,4 +1,4 @@
--- The first key is the text, so its list is what is stored under the text.
+-- The first key is the text, so its list is stored under the text.
 use Rattle.std.proofs.Common.{◌≡◌, rules, true, Some, sym, subst, slice_get}
 use Rattle.http_cache_storage.specs.Shelf.{ShowsAll}
 use Rattle.http_cache_shelf.specs.Memory.{is_text}

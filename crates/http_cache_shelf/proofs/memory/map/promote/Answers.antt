@@ -1,4 +1,4 @@
--- The order of use doesn't change what is stored.
+-- Promoting a text changes only the order of use.
 use Rattle.http_cache_shelf.proofs.MapLemmas.{stored_under-promoted, is_last_used-promoted}
 use Rattle.http_cache_shelf.specs.Memory.{is_text}
 use Rattle.http_cache_shelf.proofs.HeldLemmas.{held-promoted}

@@ -1,4 +1,4 @@
--- What is written through the look-up is on top, or is as it was.
+-- The list written through the look-up is on top, or unchanged.
 use Rattle.std.proofs.Common.{◌≡◌, ◌∷◌, [], Some, ap, sym, ◌∙◌, Option}
 use Rattle.std.specs.Map.{lookup, set_value}
 use Rattle.std.specs.Option.{option_copied_mut, option_map_or}

@@ -1,4 +1,4 @@
--- What is written through the look-up is what is left of the list.
+-- The list written through the look-up is what is left of the old one.
 use Rattle.std.proofs.Common.{◌≡◌, Some, not, nat_eq, ap, sym, ◌∙◌}
 use Rattle.std.specs.List.{list_any}
 use Rattle.std.specs.Map.{lookup}

@@ -1,4 +1,4 @@
--- No text is a key twice, and what is removed is what was found.
+-- All keys are different, so the removed entry is the one that was found.
 use Rattle.std.proofs.Common.{◌≡◌, Some, None, ap, sym, ◌∙◌}
 use Rattle.std.specs.Map.{lookup, remove_entry}
 use Rattle.lru.specs.LruCache.{lru_cache}

@@ -1,4 +1,3 @@
--- One text more in each turn.
 use Rattle.std.proofs.Common.{◌≡◌, rules, arith, List, ℕ, [], ◌∷◌, ◌++◌, map, take, get_or, ap, sym, subst, ◌∙◌}
 use Rattle.std.proofs.lemmas.List.{map_more}
 use Rattle.http_cache_storage.specs.Shelf.{RemovesThese}

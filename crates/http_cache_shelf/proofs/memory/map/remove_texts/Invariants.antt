@@ -1,4 +1,4 @@
--- Nothing is stored under the texts so far.
+-- Nothing is stored under the earlier texts.
 use Rattle.std.proofs.Common.{map, take}
 use Rattle.http_cache_storage.specs.Shelf.{RemovesThese}
 use Rattle.http_cache_storage.specs.Target.{text_of}

@@ -1,4 +1,4 @@
--- What is written through the look-up is the renewed list, and the text is then the first.
+-- The list written through the look-up is the renewed one, and the text becomes the first.
 use Rattle.std.proofs.Common.{◌≡◌, [], Option, Some, ap, sym, ◌∙◌}
 use Rattle.std.specs.Map.{lookup}
 use Rattle.std.specs.Option.{option_copied_mut, option_map_or}

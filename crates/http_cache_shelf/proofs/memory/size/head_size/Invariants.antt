@@ -1,4 +1,4 @@
--- What is counted and what is left make the whole.
+-- The counted lines and the rest make the whole.
 use Rattle.std.proofs.Common.{◌≡◌, ◌<◌, ◌+◌, ◌-◌, ◌^◌, min}
 use Rattle.std.specs.List.{sum_by}
 use Rattle.http_cache_fields.specs.Headers.{headers_of}

@@ -1,4 +1,3 @@
--- The bytes of the head and of the body.
 use Rattle.std.proofs.Common.{◌≡◌, arith, ◌-◌, ◌^◌, min, ap, ◌∙◌}
 use Rattle.http_cache_shelf.specs.Size.{headers_size, response_size}
 use Rattle.http_cache_shelf.proofs.memory.size.response_size.Goals as goal

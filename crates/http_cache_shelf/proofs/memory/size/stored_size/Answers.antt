@@ -1,4 +1,4 @@
--- A response without a body in memory has none.
+-- A response without a body in memory counts no body bytes.
 use Rattle.std.proofs.Common.{◌≡◌, arith, ◌-◌, ◌^◌, min, ap, ◌∙◌}
 use Rattle.http_cache_shelf.specs.Size.{headers_size, response_size}
 use Rattle.http_cache_shelf.proofs.memory.size.stored_size.Goals as goal

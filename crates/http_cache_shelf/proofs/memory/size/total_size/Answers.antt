@@ -1,4 +1,4 @@
--- One response more in each turn.
+-- Each turn adds one response.
 use Rattle.std.proofs.Common.{◌≡◌, ◌+◌, arith, map, take, get_or, ap, ◌∙◌}
 use Rattle.std.specs.List.{sum_by}
 use Rattle.std.proofs.lemmas.List.{map_more}

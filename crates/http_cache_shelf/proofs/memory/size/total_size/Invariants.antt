@@ -1,4 +1,4 @@
--- The sum of the first responses, of at most u64.MAX bytes each.
+-- The first responses are summed, each of at most u64.MAX bytes.
 use Rattle.std.proofs.Common.{◌≡◌, ◌≤◌, ◌*◌, ◌-◌, ◌^◌, map, take}
 use Rattle.std.specs.List.{sum_by}
 use Rattle.http_cache_shelf.specs.Size.{size_of}

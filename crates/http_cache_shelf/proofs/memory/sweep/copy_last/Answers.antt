@@ -1,4 +1,3 @@
--- What is copied is the last text.
 use Rattle.std.proofs.Common.{◌≡◌, rules, Some, ◌∙◌}
 use Rattle.lru.specs.LruCache.{last_entry}
 use Rattle.http_cache_shelf.proofs.SweepLemmas.{last-text}

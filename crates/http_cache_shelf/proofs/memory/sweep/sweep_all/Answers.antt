@@ -1,4 +1,4 @@
--- One entry more is swept in each turn.
+-- Each turn sweeps one more entry.
 use Rattle.std.proofs.Common.{◌≡◌, ◌-◌, ◌+◌, arith, length, string_capacity}
 use Rattle.http_cache_shelf.proofs.HeldLemmas.{less-same, less-less}
 use Rattle.http_cache_shelf.proofs.SweepLemmas.{sweep-start, sweep-step, sweep-end, within-turned}

@@ -1,4 +1,3 @@
--- The last entry is swept, and removed if nothing of it is left.
 use Rattle.http_cache_shelf.proofs.SweepLemmas.{turned-or-removed}
 use Rattle.http_cache_shelf.proofs.memory.sweep.sweep_last.Goals as goal
 

@@ -1,4 +1,4 @@
--- What is popped is the first entry, of which nothing is left.
+-- The popped entry is the first one, and its list is empty.
 use Rattle.http_cache_shelf.proofs.SweepLemmas.{dropped}
 use Rattle.http_cache_shelf.proofs.HeldLemmas.{held-first}
 use Rattle.http_cache_shelf.proofs.memory.sweep.tidy_first.Goals as goal

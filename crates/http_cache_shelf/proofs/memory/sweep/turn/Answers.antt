@@ -1,4 +1,4 @@
--- What is written through the look-up is the last entry, swept, and it is then the first.
+-- The list written through the look-up is the swept last entry, which becomes the first.
 use Rattle.std.proofs.Common.{◌≡◌, Some, None, ap, sym, ◌∙◌}
 use Rattle.std.specs.Map.{lookup}
 use Rattle.std.specs.Option.{option_copied_mut}

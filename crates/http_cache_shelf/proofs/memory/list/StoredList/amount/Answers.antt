@@ -1,4 +1,4 @@
--- Each response is one, and has at most u64.MAX bytes.
+-- Each response counts one, and has at most u64.MAX bytes.
 use Rattle.std.proofs.Common.{◌≡◌, arith, rules, map, length, ap, ◌∙◌}
 use Rattle.std.specs.List.{sum_by}
 use Rattle.http_cache_shelf.specs.Size.{size_of}

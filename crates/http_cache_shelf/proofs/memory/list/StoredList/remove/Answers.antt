@@ -1,4 +1,4 @@
--- What contracts see of what is left is left of what they saw.
+-- Removing commutes with what contracts see.
 use Rattle.std.proofs.Common.{not, nat_eq, map, ap, sym, ◌∙◌}
 use Rattle.std.specs.List.{list_any}
 use Rattle.http_cache_storage.specs.Shelf.{StoredSeen}

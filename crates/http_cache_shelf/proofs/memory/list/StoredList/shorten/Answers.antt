@@ -1,4 +1,4 @@
--- What contracts see of what is left is left of what they saw.
+-- Dropping the oldest commutes with what contracts see.
 use Rattle.http_cache_shelf.proofs.ListLemmas.{left-seen}
 use Rattle.http_cache_shelf.proofs.memory.list.StoredList.shorten.Goals as goal
 

@@ -1,4 +1,4 @@
--- What contracts see of what is left is left of what they saw.
+-- Sweeping commutes with what contracts see.
 use Rattle.std.proofs.Common.{map, ap, sym, ◌∙◌}
 use Rattle.http_cache_messages.specs.Worth.{can_be_used_again}
 use Rattle.http_cache_storage.specs.Shelf.{StoredSeen}

@@ -1,4 +1,4 @@
--- What is held is within the limits.
+-- The held amount is within the limits.
 use Rattle.std.proofs.Common.{arith}
 use Rattle.http_cache_shelf.proofs.memory.state.MemoryShelf.amount.Goals as goal
 

@@ -1,4 +1,4 @@
--- What is held is the amount of all that is stored.
+-- `held` is the amount of all that is stored.
 use Rattle.std.proofs.Common.{◌≡◌, ◌==◌, arith, length, ap, ◌∙◌, refl}
 use Rattle.std.proofs.lemmas.Bool.Decides.{nat_tests}
 use Rattle.std.specs.Map.{lookup}

@@ -1,4 +1,4 @@
--- What is held is the amount of all that is stored, and is within the limits.
+-- `held` is the amount of all that is stored, and is within the limits.
 use Rattle.std.proofs.Common.{arith, ap, ◌∙◌}
 use Rattle.http_cache_shelf.specs.declared.memory.size.Amount.{Amount}
 use Rattle.http_cache_shelf.specs.Memory.{all_stored}

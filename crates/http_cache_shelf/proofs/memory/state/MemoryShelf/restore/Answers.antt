@@ -1,4 +1,4 @@
--- A response is stored as by `put`, with none superseded.
+-- `restore` stores a response as `put` does, and supersedes none.
 use Rattle.std.proofs.Common.{List, subst}
 use Rattle.http_cache_storage.specs.Shelf.{StoredSeen, IsPutFirst}
 use Rattle.http_cache_storage.specs.Target.{text_of}

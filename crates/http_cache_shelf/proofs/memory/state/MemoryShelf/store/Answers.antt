@@ -1,4 +1,4 @@
--- The new response is put first, is left there, and all is within the limits.
+-- The new response is put first and stays, and the limits hold.
 use Rattle.std.proofs.Common.{◌≤◌, ◌+◌, ◌∷◌, arith, length, string_capacity, ap, inl, refl, subst, sym}
 use Rattle.http_cache_storage.specs.Shelf.{StoredSeen, StoredByTarget, without}
 use Rattle.http_cache_storage.specs.Target.{text_of}

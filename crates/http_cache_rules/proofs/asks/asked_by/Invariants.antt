@@ -1,9 +1,0 @@
--- While pieces are read, what is asked is what the pieces so far ask.
-use Rattle.std.proofs.Common.{◌≡◌, map}
-use Rattle.http_cache_rules.specs.Asks.{asked_by_pieces}
-use Rattle.http_cache_rules.proofs.asks.asked_by.Given as goal
-
-abbrev pub invariant-loop-piece : goal.invariant-loop-piece
-invariant-loop-piece l =
-    (goal.iterator-loop-piece).can_next l.piece-iterator × (goal.iterator-loop-piece).is_finite l.piece-iterator
-    × (l.asked ≡ asked_by_pieces (map (λ y. y.now) l.yielded))
