@@ -1,4 +1,4 @@
-"""Asks twice for a page: python3 cached_requests.py http://127.0.0.1:8000/"""
+"""Requests a page twice: python3 cached_requests.py http://127.0.0.1:8000/"""
 import sys
 
 import requests
