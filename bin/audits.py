@@ -2,10 +2,13 @@
 
     audits.py LEAST WORD..    (LEAST: the fewest entries; WORD..: the command of cacheaudit; bin/bench --scaling calls it)
 
-A row a recording: its entries and bytes, the millions of instructions of a run, where valgrind is installed, and by how much
-they have grown since half as many entries, the least processor time of three runs, the greatest memory of a run, and how many
-bytes of memory that is for each byte of the recording. The last rows are a page that a browser exported
-(tests/recordings/site.har), so often one after the other, in its indented and in a compact form.
+It prints a table row for each recording. The cells are:
+- the entries and bytes of the recording;
+- the millions of instructions of a run, if valgrind is installed, and how many times the count for half as many entries it is;
+- the least processor time of three runs;
+- the greatest memory of a run, and that memory divided by the bytes of the recording.
+
+The last rows repeat a page that a browser exported (tests/recordings/site.har), in its indented and in a compact form.
 """
 import copy
 import json
@@ -32,7 +35,7 @@ ENCODING = {"name": "Accept-Encoding", "value": "gzip"}
 
 
 def entry(number, url, request, response, status=200, more=None):
-    """An entry of a hundredth of a second after the one before."""
+    """Returns the entry with a number. Entries are a hundredth of a second apart."""
     return {
         "startedDateTime": (START + timedelta(milliseconds=10 * number)).isoformat(),
         "time": 1,
@@ -58,7 +61,7 @@ def variant(number):
 
 
 def unselected(number):
-    """A 304 for a variant that isn't stored."""
+    """Returns an entry with a 304 for a variant that isn't stored."""
     request = [{"name": "X", "value": str(number)}, {"name": "If-None-Match", "value": '"none"'}]
     return entry(number, "http://example.org/", request, [{"name": "ETag", "value": '"none"'}], 304)
 
@@ -98,7 +101,7 @@ KINDS = [
 
 
 def pages(times):
-    """A recording of a page, so often one after the other, half a minute apart."""
+    """Returns a recording that repeats the loads of a page, half a minute apart."""
     page = json.loads(PAGE.read_text())
     entries = page["log"]["entries"]
     page["log"]["entries"] = []
@@ -111,17 +114,17 @@ def pages(times):
 
 
 def run(path):
-    """The processor time of a run in seconds, and its greatest memory in bytes."""
+    """Returns the processor time of a run in seconds, and its greatest memory in bytes."""
     with open(path, "rb") as recording:
         ran = subprocess.Popen(COMMAND, stdin=recording, stdout=subprocess.DEVNULL)
         _, status, used = os.wait4(ran.pid, 0)
     if status != 0:
-        sys.exit(f"audits.py: {' '.join(COMMAND)}: status {status}")
+        sys.exit(f"audits.py: {' '.join(COMMAND)} ended with status {status}")
     return used.ru_utime + used.ru_stime, used.ru_maxrss * 1024
 
 
 def instructions(path, size):
-    """The instructions of a run, if they are counted."""
+    """Returns the instructions of a run, or None for a large recording or without valgrind."""
     if size > MOST_COUNTED or shutil.which("valgrind") is None:
         return None
     with open(path, "rb") as recording:
@@ -130,13 +133,13 @@ def instructions(path, size):
 
 
 def write(path, make):
-    """Writes a recording from a process of its own, since a run counts at least the memory of the process that begins it."""
+    """Writes a recording in a child process, since a run counts at least the memory of the process that starts it."""
     pid = os.fork()
     if pid == 0:
         path.write_text(make())
         os._exit(0)
     if os.waitpid(pid, 0)[1] != 0:
-        sys.exit("audits.py: no recording was written")
+        sys.exit(f"audits.py: {path} can't be written; its errors are above")
 
 
 def row(name, size, make, before):

@@ -1,7 +1,7 @@
 """Prints what each call of the library in out/c costs on two scenes, for bin/bench --library.
 
-From C: instructions (by valgrind's callgrind), requests for memory, and the most bytes held, with compact and with JSON
-stored forms. From Python: microseconds, beside those of CacheControl where python3-cachecontrol is there."""
+From C it prints instructions (by valgrind's callgrind), requests for memory, and the most bytes held, with compact and with
+JSON stored forms. From Python it prints microseconds, also for CacheControl if python3-cachecontrol is installed."""
 import json
 import os
 import re
@@ -21,7 +21,7 @@ COUNT = 20
 def run(*command, **how):
     done = subprocess.run([str(word) for word in command], capture_output=True, text=True, **how)
     if done.returncode != 0:
-        sys.exit(f"bin/bench: {command[0]} ended with {done.returncode}: {done.stderr[-1000:]}")
+        sys.exit(f"bin/bench: {command[0]} ended with status {done.returncode}: {done.stderr[-1000:]}")
     return done.stdout
 
 
@@ -49,7 +49,7 @@ def compiled(folder):
 
 
 def instructions(program, folder, kind):
-    """The instructions of each call in turn: callgrind writes a file whenever `measured` returns."""
+    """Returns the instructions of each call in turn: callgrind writes a file whenever `measured` returns."""
     out = folder / f"counts{kind}"
     counted = ["--toggle-collect=measured", "--dump-after=measured", f"--callgrind-out-file={out}"]
     run("valgrind", "--tool=callgrind", *counted, program, folder, kind, COUNT)
@@ -64,8 +64,8 @@ def from_c(program, folder):
         counts = instructions(program, folder, kind) if shutil.which("valgrind") else []
         for i, line in enumerate(run(program, folder, kind, COUNT).splitlines()):
             name, requests, most = line.split("|")
-            told = f"{counts[i]:>8}" if i < len(counts) else "       -"
-            costs.setdefault(name, []).append(f"{told} {requests:>4} {most:>7}")
+            counted = f"{counts[i]:>8}" if i < len(counts) else "       -"
+            costs.setdefault(name, []).append(f"{counted} {requests:>4} {most:>7}")
     print(f"  {'':26}" + "".join(f"{form + ' forms':>23}" for form in FORMS))
     for name, both in costs.items():
         print(f"  {name:26}" + "".join(f"{it:>23}" for it in both))
@@ -80,7 +80,7 @@ def from_python(scene):
 
 def main():
     if not (LIBRARY / "libhttp_cache_semantics.a").exists():
-        sys.exit("bin/bench: there is no library in out/c; bin/library builds it")
+        sys.exit("bin/bench: no library in out/c; bin/library builds it")
     for scene in sorted((HERE / "scenes").glob("*.json")):
         with tempfile.TemporaryDirectory() as folder:
             write_messages(json.loads(scene.read_text()), Path(folder))

@@ -1,10 +1,10 @@
-"""Prints how many hits a second cacheserve answers on one processor, and the instructions of a hit, where valgrind is installed.
+"""Prints how many hits a second cacheserve answers on one processor, and the instructions of a hit if valgrind is installed.
 
     bench_process.py WORD..    (WORD..: the command of cacheserve; bin/bench --process calls it)
 
-A hit is a page of 1 kB with eight fields, asked for with five, all frames at once through a pipe. A row for a process as a proxy
-(--proxy) and for one user (--private): the least and the greatest of five runs of 40,000 hits, by the time that the process
-used of a processor.
+A hit is a page of 1 kB with eight fields, and its request has five. All frames are written at once to a pipe. It prints a row
+for a proxy (--proxy) and one for a private cache (--private): the least and the greatest of five runs of 40,000 hits. The
+speed is by the processor time of the process.
 """
 import json
 import os
@@ -58,7 +58,7 @@ def frames(hits):
 
 
 def seconds(kind, hits):
-    """How long a run uses a processor. Each request has to be answered by a hit."""
+    """Returns the processor time of a run in seconds. Exits unless each request is answered by a hit."""
     process = subprocess.Popen([*COMMAND, kind], stdin=subprocess.PIPE, stdout=subprocess.PIPE)
     out = []
     reader = threading.Thread(target=lambda: out.append(process.stdout.read()))
@@ -73,7 +73,7 @@ def seconds(kind, hits):
 
 
 def instructions(kind):
-    """The instructions of a hit, as a cell of the table."""
+    """Returns the instructions of a hit, as a cell of the table."""
     if shutil.which("valgrind") is None:
         return "-"
     collected = []

@@ -2,9 +2,10 @@
 
     bench_proxies.py PROGRAM    (PROGRAM: a cacheserve; bin/bench --proxies calls it)
 
-Each has the same origin server and stores 200 pages of 1 kB, which are fresh for an hour; then `wrk -t1 -c50` asks for them,
-three rounds in turn. A row for each that is installed: hits a second by the clock, microseconds of a processor for a hit, of all
-its processes, both of the best round, and how many times those of nginx that is.
+Each proxy has the same origin server and stores 200 pages of 1 kB, which are fresh for an hour. Then `wrk -t1 -c50` requests
+them in three rounds. It prints a row for each proxy that is installed, from its best round. The cells are the hits a second by
+the clock, and the processor time of a hit in microseconds, of all processes of the proxy. The last cell is that time divided by
+the time of nginx.
 """
 import asyncio
 import contextlib
@@ -82,7 +83,7 @@ def started(command, folder, port, configuration, origin_port):
 
 
 def used(pid):
-    """The seconds of a processor that a process and all that it has started have used."""
+    """Returns the processor time of a process and of all its descendants in seconds."""
     total, parents = 0.0, {}
     for path in Path("/proc").glob("[0-9]*/stat"):
         with contextlib.suppress(OSError):
@@ -99,7 +100,7 @@ def used(pid):
 
 
 def round_of(pid, port, script):
-    """Hits a second and microseconds of a processor for a hit, in one round."""
+    """Returns the hits a second and the processor time of a hit in microseconds, in one round."""
     before = used(pid)
     command = ["wrk", "-t1", "-c50", f"-d{SECONDS}", "-s", script, f"http://127.0.0.1:{port}"]
     out = subprocess.run(command, capture_output=True, text=True, check=True).stdout
@@ -111,7 +112,7 @@ def round_of(pid, port, script):
 
 def main():
     if not shutil.which("wrk"):
-        sys.exit("bench_proxies.py: no wrk; apt-get install wrk squid nginx")
+        sys.exit("bench_proxies.py: wrk isn't installed; apt-get install wrk squid nginx")
     origin_port = free_port()
     threading.Thread(target=lambda: asyncio.run(serve_origin(origin_port)), daemon=True).start()
     with contextlib.ExitStack() as stack:

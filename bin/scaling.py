@@ -1,9 +1,9 @@
-"""Prints how the time of each call grows with what it is given.
+"""Prints how the time of each call grows with its arguments.
 
     scaling.py WORD..    (WORD..: the command of bench_calls; bin/bench --scaling calls it)
 
-A line a size: of each call the nanoseconds, the least of seven runs, and behind them by how much the time for one more
-header, directive, piece or byte has grown since the size before: 1.00 is in proportion.
+It prints a line for each size, with the nanoseconds of each call, the least of seven runs. The number after them is the time
+for one header, directive, piece or byte, divided by that time at the size before: 1.00 is in proportion.
 """
 import json
 import subprocess
@@ -19,10 +19,10 @@ def message(headers):
     return {"uri": "/a", "method": "GET", "headers": headers}
 
 
-def script(told=(), everywhere=(), asked=(), lifetime="max-age=10"):
-    """A stored page that is asked for while it is fresh, and once it is stale, and then validated."""
-    request = message([["Accept", "text/html"], *everywhere, *asked])
-    stored = [["Cache-Control", lifetime], ["ETag", '"a"'], *told, *everywhere]
+def script(of_response=(), everywhere=(), of_request=(), lifetime="max-age=10"):
+    """Returns a script of a stored page that is requested while it is fresh, and once it is stale, and then validated."""
+    request = message([["Accept", "text/html"], *everywhere, *of_request])
+    stored = [["Cache-Control", lifetime], ["ETag", '"a"'], *of_response, *everywhere]
     return {
         "options": {"shared": True, "cache_heuristic": [1, 10], "immutable_min_time_to_live": [86400, 0],
                     "ignore_cargo_cult": False},
@@ -45,16 +45,16 @@ def headers(size):
     return script(everywhere=[[f"x-{i}", "1"] for i in range(size)])
 
 
-def told(size):
+def response_directives(size):
     return script(lifetime="max-age=10, " + directives(size))
 
 
-def asked(size):
-    return script(asked=[["Cache-Control", directives(size)]])
+def request_directives(size):
+    return script(of_request=[["Cache-Control", directives(size)]])
 
 
 def vary(size):
-    return script(told=[["Vary", ", ".join(f"X-{i}" for i in range(size))]])
+    return script(of_response=[["Vary", ", ".join(f"X-{i}" for i in range(size))]])
 
 
 def value(size):
@@ -63,15 +63,15 @@ def value(size):
 
 KINDS = [
     ("headers of each message", headers, SIZES),
-    ("directives of the response", told, SIZES),
-    ("directives of each request", asked, SIZES),
+    ("directives of the response", response_directives, SIZES),
+    ("directives of each request", request_directives, SIZES),
     ("pieces of Vary", vary, SIZES),
     ("bytes of a value", value, [1000, 10000, 100000, 1000000]),
 ]
 
 
 def lines_of(text, count):
-    """What bench_calls prints: a name and a mean a line."""
+    """Returns the lines that bench_calls prints, each as a name and a mean."""
     ran = subprocess.run([*COMMAND, str(count)], input=text, stdout=subprocess.PIPE)
     if ran.returncode != 0:
         sys.exit(ran.returncode)
@@ -85,7 +85,7 @@ def calls(text, count):
 
 
 def least(text, size):
-    """The least means of seven runs, of as many calls as take a tenth of a second, and few where each is large."""
+    """Returns the least means of seven runs. A run makes as many calls as take a tenth of a second, and few of large ones."""
     most = 9 if size >= 10000 else 99 if size >= 1000 else 100000
     count = max(3, min(most, 100_000_000 // max(1, sum(calls(text, 3)))))
     return [min(means) for means in zip(*(calls(text, count) for _ in range(7)))]

@@ -1,11 +1,13 @@
-"""Prints how a hit, memory and opening grow with the responses that are stored, of 1 kB each.
+"""Prints how a hit, memory and opening grow with the number of stored responses, of 1 kB each.
 
     shelves.py WORD..    (WORD..: the command of test_shelves; bin/bench --scaling calls it)
 
-A row a number of responses: over a shelf in memory the instructions of a hit with the making of its request, where
-valgrind is installed, the microseconds of a hit, the least of three runs of 20,000 hits, by how much they have grown since
-the row before, and the greatest memory of a run; over a store the microseconds and memory, with the size of its file and
-how long it takes to fill it and to open it.
+It prints a row for each number of responses. The cells on a shelf in memory are:
+- the instructions of a hit and of making its request, if valgrind is installed;
+- the microseconds of a hit, the least of three runs of 20,000 hits, and how many times the row before's time it is;
+- the greatest memory of a run.
+
+The cells on a store are the microseconds and the memory, the size of its file, and the times to fill and to open it.
 """
 import os
 import re
@@ -25,18 +27,18 @@ VALGRIND = ["valgrind", "--tool=callgrind", "--callgrind-out-file=/dev/null", "-
 
 
 def run(*words):
-    """The numbers that test_shelves prints, by name, and the greatest memory of the run in bytes."""
+    """Returns the numbers that test_shelves prints, by name, and the greatest memory of the run in bytes."""
     ran = subprocess.Popen([*COMMAND, *words], stdout=subprocess.PIPE, text=True)
     text = ran.stdout.read()
     _, status, used = os.wait4(ran.pid, 0)
     if status != 0:
-        sys.exit(f"shelves.py: test_shelves {' '.join(words)}: status {status}")
+        sys.exit(f"shelves.py: test_shelves {' '.join(words)} ended with status {status}")
     numbers = {name: int(number) for name, number in re.findall(r"(\w+) (\d+)", text)}
     return numbers, used.ru_maxrss * 1024
 
 
 def least(*words):
-    """The run with the fastest hits, of which each has to be one."""
+    """Returns the run with the fastest hits. Exits unless each request of each run is a hit."""
     runs = [run(*words) for _ in range(RUNS)]
     for numbers, _ in runs:
         if numbers["answered"] != int(HITS):
@@ -45,13 +47,13 @@ def least(*words):
 
 
 def collected(size, hits):
-    """The instructions of a whole run over a shelf in memory."""
+    """Returns the instructions of a whole run over a shelf in memory."""
     ran = subprocess.run([*VALGRIND, *COMMAND, "memory", str(size), str(hits)], capture_output=True, text=True, check=True)
     return int(re.findall(r"Collected : (\d+)", ran.stderr)[-1])
 
 
 def instructions(size):
-    """The instructions of a hit with the making of its request, as a cell of the table."""
+    """Returns the instructions of a hit and of making its request, as a cell of the table."""
     if size > MOST_COUNTED or shutil.which("valgrind") is None:
         return "-"
     return str((collected(size, 2 * COUNTED) - collected(size, COUNTED)) // COUNTED)

@@ -1,22 +1,23 @@
-/* When a stored HTTP response may be used again (RFC 7234, RFC 9111, RFC 5861, RFC 9211).
+/* Decides when a stored HTTP response may be used again (RFC 7234, RFC 9111, RFC 5861, RFC 9211).
 
    A message is its head, as HTTP/1.1 sends it: the request or status line, the field lines, and the
    empty line, with nothing after it (RFC 9112). Lines end in CRLF, or in LF only. A policy is its
    stored form: bytes that hcs_new and hcs_after write, to be kept beside the body. Its first byte
    is 1 in the compact form, and anything else is JSON. Each call reads both.
 
-   Each sentence on a call is proved of it; the word in parentheses is the name of the clause that
-   says so, in the contract of the function of that name in crates/http_cache_c/src.
+   Each sentence on a call is proved. The word in parentheses is the name of the proved clause in
+   the contract of the function, in crates/http_cache_c/src.
 
-   Results. 0 and above: the call did what it is for. Below 0: one of enum hcs_error. After an error
-   no buffer is written (kept), but *needed, *form_needed and *index are.
-   Buffers. A call writes its bytes to the front of the caller's buffer, and nothing after them.
-   *needed is how many bytes they are, also where the buffer is too small. It is 0 after any other error.
-   Pointers. Each has the length after it. A pointer of length 0 may be null, every other may not.
-   What is written may not overlap what is read, or another thing that is written.
+   Results. 0 or more: the call succeeded. Below 0: an enum hcs_error. After an error no buffer is
+   written (kept), but *needed, *form_needed and *index are.
+   Buffers. A call writes its bytes to the start of the caller's buffer, and nothing after them.
+   *needed is the number of these bytes, even if the buffer is too small. It is 0 after other
+   errors.
+   Pointers. The length of each buffer follows its pointer. A pointer may be null only if its length
+   is 0. What is written may not overlap what is read, nor other things that are written.
    Memory. A call allocates by malloc and frees all of it before it returns. Nothing has to be freed.
-   Threads. A call keeps nothing, so any number of them may run at once.
-   Not from a signal handler, nor in the child of a fork of a process with several threads. */
+   Threads. A call has no state, so any number of calls may run at once. Don't call from a signal
+   handler, nor in the child of a fork of a process with several threads. */
 #ifndef HTTP_CACHE_SEMANTICS_H
 #define HTTP_CACHE_SEMANTICS_H
 
@@ -27,7 +28,7 @@
 extern "C" {
 #endif
 
-/* Why a call did nothing. */
+/* The errors of a call. */
 enum hcs_error {
   HCS_NO_MEMORY = -1,     /* out of memory */
   HCS_MALFORMED = -2,     /* a stored form or a head can't be read */
@@ -41,7 +42,7 @@ enum hcs_error {
 enum hcs_verdict {
   HCS_FRESH = 0,     /* it sends the stored body, under the head that was written */
   HCS_VALIDATE = 1,  /* it sends the request that was written, and passes the response to hcs_after */
-  HCS_FORWARD = 2    /* it forwards the client's request, for which nothing is stored */
+  HCS_FORWARD = 2    /* it forwards the client's request: no stored response is for it */
 };
 
 /* What is stored after a response: the result of hcs_after. */
@@ -51,7 +52,7 @@ enum hcs_next {
   HCS_NOT_STORABLE = 2   /* nothing: the received response may not be stored */
 };
 
-/* What lets a response be stored: the result of hcs_storability. */
+/* What allows a response to be stored: the result of hcs_storability. */
 enum hcs_permission {
   HCS_FORBIDDEN = 0,
   HCS_BY_EXPIRES = 1,
@@ -61,7 +62,7 @@ enum hcs_permission {
   HCS_BY_STATUS = 5
 };
 
-/* What forbids to store a response: the bits of *obstacles. */
+/* What forbids storing a response: the bits of *obstacles. */
 enum hcs_obstacle {
   HCS_REQUEST_NO_STORE = 1,
   HCS_METHOD = 2,
@@ -101,14 +102,14 @@ enum hcs_form {
   HCS_JSON = 1
 };
 
-/* How a cache behaves. hcs_defaults writes all of it. */
+/* The options of a cache. hcs_defaults writes all members. */
 struct hcs_cache {
-  uint64_t secret;                 /* random bits, chosen once a process, against */
-  uint64_t more_secret;            /* header names that collide */
-  uint64_t immutable_seconds;      /* least lifetime of a response that says `immutable` */
+  uint64_t secret;                 /* random bits, chosen once per process, so that no sender */
+  uint64_t more_secret;            /* can choose field names whose hashes collide */
+  uint64_t immutable_seconds;      /* least lifetime of a response with `immutable` */
   uint32_t immutable_nanoseconds;  /* and its nanoseconds, below 1,000,000,000 */
-  uint32_t heuristic_numerator;    /* fraction of the time since Last-Modified */
-  uint32_t heuristic_denominator;  /* for which a response stays fresh; not 0 */
+  uint32_t heuristic_numerator;    /* the fraction of the time since Last-Modified for which */
+  uint32_t heuristic_denominator;  /* a response without a lifetime stays fresh; not 0 */
   uint8_t shared;                  /* not 0 for a shared cache */
   uint8_t ignore_cargo_cult;       /* not 0 if cargo-cult directives are ignored */
   uint8_t form;                    /* an enum hcs_form */
@@ -129,14 +130,14 @@ struct hcs_duration {
 /* Returns the version: a byte each for major, minor and patch. */
 uint32_t hcs_version(void);
 
-/* Writes how a cache behaves by default.
-   cache has the default options: of a shared cache, with a tenth of the time since Last-Modified, 24 hours
-   for `immutable`, and no directive ignored (options).
+/* Writes the default options.
+   cache has the options of a shared cache: a tenth of the time since Last-Modified, 24 hours for
+   `immutable`, and no directive ignored (options).
    They are in range (valid).
    The secrets are 0 (secret), and form is HCS_COMPACT (form). */
 void hcs_defaults(struct hcs_cache *cache);
 
-/* Makes the policy of a response to a request, which was received at `received`.
+/* Makes the policy of a response to a request. The response was received at `received`.
    1 if the response may be stored, else 0; out has the stored form of the policy of the request and
    the response under the options of cache (stored).
    HCS_MALFORMED only if request is no head of a request, or response no head of a response (malformed).
@@ -150,8 +151,8 @@ int32_t hcs_new(const struct hcs_cache *cache, const uint8_t *request, size_t re
                 uint8_t *out, size_t out_len, size_t *needed);
 
 /* Returns what a cache with the stored response does with a request at `now` (RFC 7234, section 4).
-   An enum hcs_verdict; out has the head that it sends: of the response for the client if it is
-   HCS_FRESH, else of the request that validates what is stored (answer).
+   An enum hcs_verdict; out has the head of the response for the client if it is HCS_FRESH, else
+   the head of the request that validates what is stored (answer).
    HCS_MALFORMED only if stored is no stored form, or request no head of a request (malformed).
    HCS_FULL only if a header map can't hold the fields of the request, or of what is sent (full).
    HCS_UNDATED only if the response is fresh and its Date would be before 1900 (undated).
@@ -162,11 +163,11 @@ int32_t hcs_before(const struct hcs_cache *cache, const uint8_t *stored, size_t 
                    const uint8_t *request, size_t request_len, const struct hcs_time *now,
                    uint8_t *out, size_t out_len, size_t *needed);
 
-/* Chooses among several stored responses for a request at `now`: the first that is fresh, else the first
-   that is a response to the request, which has to be validated (RFC 7234, sections 4 and 4.1). forms has
-   the stored forms one after another, and lengths the length of each, of which there are `count`.
-   An enum hcs_verdict; *index is the index of the chosen one from 0, and out has the head as that of
-   hcs_before, or with HCS_FORWARD *index is count, and *needed 0 (choice).
+/* Chooses among several stored responses for a request at `now`: the first fresh response to it,
+   else the first response to it, which has to be validated (RFC 7234, sections 4 and 4.1).
+   forms has `count` stored forms one after another, and lengths has the length of each.
+   An enum hcs_verdict; *index is the index of the chosen form from 0, and out has the head that
+   hcs_before writes for it. With HCS_FORWARD *index is count, and *needed is 0 (choice).
    HCS_MALFORMED only if the lengths don't add up to forms_len, one of the forms is no stored form, or
    request is no head of a request (malformed).
    HCS_FULL only if a header map can't hold the fields of the request, or of what is sent (full).
@@ -179,7 +180,7 @@ int32_t hcs_choose(const struct hcs_cache *cache, const uint8_t *forms, size_t f
                    const struct hcs_time *now, size_t *index, uint8_t *out, size_t out_len,
                    size_t *needed);
 
-/* Returns what is stored after the origin server has responded at `now` to a request that matched
+/* Returns what is stored after the response to a validating request, which was received at `now`
    (RFC 7234, section 4.3.4).
    An enum hcs_next; form has the stored form of the next policy, and out the head for the client (next).
    HCS_MALFORMED only if stored is no stored form, or one of the heads can't be read (malformed).
@@ -193,8 +194,8 @@ int32_t hcs_after(const struct hcs_cache *cache, const uint8_t *stored, size_t s
                   const struct hcs_time *now, uint8_t *form, size_t form_len, size_t *form_needed,
                   uint8_t *out, size_t out_len, size_t *needed);
 
-/* Says why the stored response is used for a request at `now` or not (RFC 9211, section 2).
-   0; out has the member of Cache-Status for a cache of the name (member).
+/* Writes why the stored response answers a request at `now` or doesn't (RFC 9211, section 2).
+   0; out has the member of Cache-Status for a cache with the name (member).
    HCS_MALFORMED only if stored is no stored form, or request no head of a request (malformed).
    HCS_FULL only if a header map can't hold the fields of the request (full).
    HCS_UNDATED is never returned (never_undated).
@@ -205,21 +206,22 @@ int32_t hcs_explain(const struct hcs_cache *cache, const uint8_t *stored, size_t
                     const uint8_t *request, size_t request_len, const struct hcs_time *now,
                     const uint8_t *name, size_t name_len, uint8_t *out, size_t out_len, size_t *needed);
 
-/* Says what lets the stored response be stored, or what forbids it (RFC 7234, section 3).
+/* Returns what allows the response to be stored, or writes what forbids it (RFC 7234, section 3).
    An enum hcs_permission (value); *obstacles has the bits of enum hcs_obstacle that apply (obstacles).
    HCS_MALFORMED only if stored is no stored form (malformed).
    No other error but HCS_NO_MEMORY is returned (others).
    After an error *obstacles is as it was (kept). */
 int32_t hcs_storability(const uint8_t *stored, size_t stored_len, uint32_t *obstacles);
 
-/* Says how long the stored response stays fresh from when it was made (RFC 7234, section 4.2.1).
+/* Writes the freshness lifetime of the stored response, and returns what decides it (RFC 7234,
+   section 4.2.1).
    An enum hcs_source; *lifetime has the freshness lifetime (value).
    HCS_MALFORMED only if stored is no stored form (malformed).
    No other error but HCS_NO_MEMORY is returned (others).
    After an error *lifetime is as it was (kept). */
 int32_t hcs_freshness(const uint8_t *stored, size_t stored_len, struct hcs_duration *lifetime);
 
-/* Says how long the stored response has been in caches at `now` (RFC 7234, section 4.2.3).
+/* Writes the current age of the stored response at `now` (RFC 7234, section 4.2.3).
    0; *out has the current age (value).
    HCS_MALFORMED only if stored is no stored form (malformed).
    HCS_BAD_ARGUMENT only if the time is out of range (bad_argument).
@@ -228,8 +230,8 @@ int32_t hcs_freshness(const uint8_t *stored, size_t stored_len, struct hcs_durat
 int32_t hcs_age(const uint8_t *stored, size_t stored_len, const struct hcs_time *now,
                 struct hcs_duration *out);
 
-/* Says how much of the freshness lifetime is left at `now`, or zero (RFC 7234, section 4.2).
-   0; *out has what is left (value).
+/* Writes how much of the freshness lifetime is left at `now`, or zero (RFC 7234, section 4.2).
+   0; *out has the time that is left (value).
    HCS_MALFORMED only if stored is no stored form (malformed).
    HCS_BAD_ARGUMENT only if the time is out of range (bad_argument).
    No other error but HCS_NO_MEMORY is returned (others).
@@ -237,7 +239,7 @@ int32_t hcs_age(const uint8_t *stored, size_t stored_len, const struct hcs_time 
 int32_t hcs_time_to_live(const uint8_t *stored, size_t stored_len, const struct hcs_time *now,
                          struct hcs_duration *out);
 
-/* Says whether the stored response may be used for a request at `now` without validation.
+/* Returns whether the stored response may be used for a request at `now` without validation.
    1 if it may, else 0 (value).
    HCS_MALFORMED only if stored is no stored form, or request no head of a request (malformed).
    HCS_FULL only if a header map can't hold the fields of the request (full).
@@ -246,7 +248,7 @@ int32_t hcs_time_to_live(const uint8_t *stored, size_t stored_len, const struct 
 int32_t hcs_fresh_at(const struct hcs_cache *cache, const uint8_t *stored, size_t stored_len,
                      const uint8_t *request, size_t request_len, const struct hcs_time *now);
 
-/* Says which use of the stored response is allowed for a request once it is stale (RFC 5861).
+/* Returns which uses of the stale response are allowed for a request at `now` (RFC 5861).
    The bits of enum hcs_stale, or 0 for neither (value).
    HCS_MALFORMED only if stored is no stored form, or request no head of a request (malformed).
    HCS_FULL only if a header map can't hold the fields of the request (full).
@@ -255,8 +257,8 @@ int32_t hcs_fresh_at(const struct hcs_cache *cache, const uint8_t *stored, size_
 int32_t hcs_stale_use(const struct hcs_cache *cache, const uint8_t *stored, size_t stored_len,
                       const uint8_t *request, size_t request_len, const struct hcs_time *now);
 
-/* Says whether a 304 answers the request's own conditions, once the stored response may be used
-   (RFC 9110, section 13.2.2).
+/* Returns whether a 304 answers the preconditions of a request for which the stored response may be
+   used (RFC 9110, section 13.2.2).
    1 if it does, else 0 (value).
    HCS_MALFORMED only if stored is no stored form, or request no head of a request (malformed).
    HCS_FULL only if a header map can't hold the fields of the request (full).
@@ -264,7 +266,7 @@ int32_t hcs_stale_use(const struct hcs_cache *cache, const uint8_t *stored, size
 int32_t hcs_is_not_modified_for(const struct hcs_cache *cache, const uint8_t *stored, size_t stored_len,
                                 const uint8_t *request, size_t request_len);
 
-/* Says whether a response is a 304 that selects the stored response (RFC 9111, section 4.3.4).
+/* Returns whether a response is a 304 that selects the stored response (RFC 9111, section 4.3.4).
    1 if it is, else 0 (value).
    HCS_MALFORMED only if stored is no stored form, or response no head of a response (malformed).
    HCS_FULL only if a header map can't hold the fields of the response (full).
@@ -272,8 +274,9 @@ int32_t hcs_is_not_modified_for(const struct hcs_cache *cache, const uint8_t *st
 int32_t hcs_is_confirmed_by(const struct hcs_cache *cache, const uint8_t *stored, size_t stored_len,
                             const uint8_t *response, size_t response_len);
 
-/* Writes the stored response as it may be sent at `now`, fresh or stale: its status, every field line
-   but those of one connection, and its Age (RFC 9111, sections 4.2.4 and 5.1).
+/* Writes the head of the stored response as it may be sent at `now`, fresh or stale: its status,
+   every field line but hop-by-hop fields, and its Age (RFC 9111, sections 4.2.4 and 5.1).
+
    0; out has the head (head).
    HCS_MALFORMED only if stored is no stored form (malformed).
    HCS_FULL only if the fields have no room for Age (full).
@@ -284,8 +287,8 @@ int32_t hcs_is_confirmed_by(const struct hcs_cache *cache, const uint8_t *stored
 int32_t hcs_response_at(const uint8_t *stored, size_t stored_len, const struct hcs_time *now,
                         uint8_t *out, size_t out_len, size_t *needed);
 
-/* Writes the head of a response with one field line for each name (RFC 9110, section 5.3), as it is
-   to be passed to hcs_new.
+/* Writes the head of a response with one field line for each name (RFC 9110, section 5.3), for
+   hcs_new.
    0; out has the head (head).
    HCS_MALFORMED only if response is no head of a response (malformed).
    HCS_FULL only if a header map can't hold its fields (full).
@@ -295,8 +298,8 @@ int32_t hcs_response_at(const uint8_t *stored, size_t stored_len, const struct h
 int32_t hcs_joined(const struct hcs_cache *cache, const uint8_t *response, size_t response_len,
                    uint8_t *out, size_t out_len, size_t *needed);
 
-/* Writes the head of a stored response with the fields of a received 304 in place of the stored ones of
-   their names, and new names too (RFC 9111, section 3.2).
+/* Writes the head of a stored response updated with the fields of a received 304: they replace the
+   stored fields of their names, and new names are added (RFC 9111, section 3.2).
    0; out has the head (head).
    HCS_MALFORMED only if one of the two is no head of a response (malformed).
    HCS_FULL only if a header map can't hold the fields of one, or of both (full).

@@ -1,5 +1,5 @@
-"""What the tables of docs/AUDIT.md advise, row by row: each row has a recording here that it is for, and the report of that has to
-print what the row says."""
+"""Checks the advice in the tables of docs/AUDIT.md. Each table row has a recording here, and the report on the recording has to
+print the advice of the row."""
 import json
 import subprocess
 from datetime import datetime, timedelta, timezone
@@ -10,7 +10,7 @@ AUDIT = Path(__file__).resolve().parent.parent / "docs" / "AUDIT.md"
 START = datetime(2026, 1, 1, tzinfo=timezone.utc)
 CSS, HTML, TAG = ("Content-Type", "text/css"), ("Content-Type", "text/html"), ("ETag", '"1"')
 
-# The first words of a row, and a response that it is for: its path and headers.
+# The first words of a table row, and the path and the headers of a response that it is for.
 FIRST = [
     ("says `no-store` beside", "/a.css", [("Cache-Control", "no-store, no-cache"), CSS, TAG]),
     ("says `no-store` otherwise", "/a.css", [("Cache-Control", "no-store"), CSS, TAG]),
@@ -38,7 +38,8 @@ HINTS = {
     "Vary: User-Agent": [("Vary", "User-Agent")],
 }
 AGAIN = ("If-None-Match", '"1"')
-# The first words of a row, entries of a recording that it is for, words of the line of the report, and the cell that this has.
+# The first words of a table row, and entries of a recording that it is for. After them are words of the report's line, and the
+# index of the cell that the line has to have.
 WALKED = [
     ("no lifetime", [("/a.css", [CSS, TAG], [])], "-> Cache-Control: ", 2),
     ("a short lifetime, though", [("/a.0123456f.css", [("Cache-Control", "max-age=1"), CSS, TAG], [])], "-> Cache-Control: ", 2),
@@ -61,7 +62,9 @@ def pairs(headers):
 
 
 def report(program, entries):
-    """The lines of the report of a recording of GETs, one a second: each has a path, headers of its response and of its request."""
+    """Returns the lines of the report on a recording of GETs, one in each second.
+
+    An entry has a path, the headers of its response, and the headers of its request."""
     listed = [{
         "startedDateTime": (START + timedelta(seconds=second)).isoformat(), "time": 0,
         "request": {"method": "GET", "url": "http://h" + path, "headers": pairs(asked)},
@@ -72,7 +75,7 @@ def report(program, entries):
 
 
 def table(head):
-    """The rows of the table of AUDIT.md with this head, as lists of cells."""
+    """Returns the rows of the table of AUDIT.md with this head, as lists of cells."""
     lines = AUDIT.read_text().splitlines()
     begin = next(at for at, line in enumerate(lines) if line.startswith(head)) + 2
     rows = []
@@ -88,7 +91,7 @@ def bare(text):
 
 
 def advice_faults(program):
-    """How many rows were looked at, and those of which the report says something else."""
+    """Returns how many table rows were checked, and the rows with other advice than the report."""
     faults, rows = [], table("| the full response | send |")
     faults += [("rows", len(rows), len(FIRST))] if len(rows) != len(FIRST) else []
     for row, (words, path, headers) in zip(rows, FIRST):

@@ -1,14 +1,14 @@
-"""What an audit prints of each url, worked out from the answers of another audit for each request."""
+"""Checks what an audit prints for each url against the answers of another audit for each request."""
 import json
 import subprocess
 
 ASKED = {"fresh", "validate", "refetch", "miss", "miss-vary"}
-# What is printed of the first response, under our names and those of the other audit.
+# The members of the first response that are printed. The other audit has these names too.
 FIRST = ("status", "received", "reasons", "new_lifetime", "new_ttl")
 
 
 def worked_out(rows):
-    """The objects of the urls, in the order in which they were asked for first."""
+    """Returns the objects of the urls, in the order of their first requests."""
     urls = {}
     for row in rows:
         if row["verdict"] not in ASKED or row.get("received") == "failed":
@@ -22,19 +22,21 @@ def worked_out(rows):
     return [{name: value for name, value in url.items() if value or name in FIRST} for url in urls.values()]
 
 
-def told_by(program, recording, words):
-    """What the program prints, without what the other audit has in other words."""
+def printed_by(program, recording, words):
+    """Returns what the program prints, without the members that the other audit has in other words."""
     ended = subprocess.run([program, "--by-url", *words], input=recording, capture_output=True, timeout=60)
     rows = [json.loads(line) for line in ended.stdout.decode().splitlines()]
     return [{name: value for name, value in row.items() if name not in {"by", "source", "zero_by", "hints", "others"}} for row in rows]
 
 
 def url_faults(program, recordings):
-    """How many urls were compared, and what is wrong: of (name, bytes of the recording, words, rows of another audit)."""
+    """Returns how many urls were compared, and the faults.
+
+    A recording is its name, its bytes, the words of the command line, and the rows of another audit."""
     count, faults = 0, []
     for name, recording, words, rows in recordings:
-        told, wanted = told_by(program, recording, words), worked_out(rows)
+        got, wanted = printed_by(program, recording, words), worked_out(rows)
         count += len(wanted)
-        faults += [(name, a, b) for a, b in zip(told, wanted) if a != b]
-        faults += [(name, len(told), len(wanted))] if len(told) != len(wanted) else []
+        faults += [(name, a, b) for a, b in zip(got, wanted) if a != b]
+        faults += [(name, len(got), len(wanted))] if len(got) != len(wanted) else []
     return count, faults

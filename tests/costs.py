@@ -1,8 +1,8 @@
-"""What the requests of a recording cost, as it is and with a header changed: worked out from the answers of another audit and
-from the file, and compared with what the program says.
+"""Checks the costs that the program prints for a recording, as it is and with a header changed. The expected costs are worked
+out from the answers of another audit and from the file.
 
-The sums of the recording as it is come from tests/recordings/expected alone. For a changed header they come from the rows of
-an audit of the changed file, which must cost what `--with` says of the file as it is."""
+The sums of the recording as it is are worked out only from tests/recordings/expected. The sums with a changed header are worked
+out from an audit of the changed file. They have to be equal to the output of `--with` for the original file."""
 import copy
 import json
 import re
@@ -24,7 +24,8 @@ FRESH, VALIDATE = "fresh", "validate"
 ASKED = {FRESH, VALIDATE, "refetch", "miss", "miss-vary"}
 
 
-# A page that is loaded twice, worked out by hand: page, second, path, status, response headers, bytes sent, bytes of the head.
+# A page that is loaded twice: page, second, path, status, response headers, bytes sent, bytes of the head. Its costs below were
+# worked out by hand.
 WORKED = [
     ("1", 0, "/a.js", 200, {"Cache-Control": "no-store", "ETag": '"1"'}, 1000, 100),
     ("1", 1, "/b.js", 200, {"Cache-Control": "max-age=60", "ETag": '"2"'}, 500, 50),
@@ -34,7 +35,7 @@ WORKED = [
     (None, 102, "/c.js", 200, {"Last-Modified": "y"}, 310, 31),
 ]
 FIRST = {"load": "first_load", "bytes": 1800, "bytes_changed": 1800}
-# Of the later loads: a.js is sent again, b.js is confirmed by a head of 50 bytes, and c.js was changed.
+# In the later loads a.js is sent again, a head of 50 bytes confirms b.js, and c.js was changed.
 LATER = {"load": "later_loads", "bytes": 1370, "bytes_changed": 1370, "answers_304": 1, "answers_304_changed": 1}
 WORKED_CHANGES = [
     ("*/x.js: Cache-Control: max-age=600", FIRST, LATER),
@@ -71,7 +72,7 @@ def whole(value):
 
 
 def sent_at(entry):
-    """When a request was sent, in microseconds, which is as fine as these recordings are."""
+    """Returns when a request was sent, rounded to microseconds, which is the precision of these recordings."""
     text = re.sub(r"(\.\d{6})\d+", r"\1", entry["startedDateTime"].replace("Z", "+00:00"))
     at = datetime.fromisoformat(re.sub(r"([+-]\d\d)(\d\d)$", r"\1:\2", text))
     return at if at.tzinfo else at.replace(tzinfo=timezone.utc)
@@ -86,7 +87,7 @@ def header(entry, name):
 
 
 class Recorded:
-    """A recording, with the rows of the walk over it as it is."""
+    """A recording, with the rows of an audit of it as it is."""
 
     def __init__(self, recording, rows):
         self.log = log_of(recording)
@@ -110,17 +111,17 @@ class Recorded:
         return self.ended is None or sent_at(self.entries[i]) < self.ended
 
     def is_full(self, i):
-        """Whether an entry has a full response from the network."""
+        """Returns whether an entry has a full response from the network."""
         row = self.rows[i]
         return not row.get("browser") and row.get("received") != "failed" and row.get("status") != 304
 
     def full(self, i):
-        """The entry of the full response that answers, if it was sent in the recording."""
+        """Returns the index of the entry with the full response to a request, or None if the recording has none."""
         source = i if self.is_full(i) else self.rows[i].get("from_entry")
         return source if source is not None and self.is_full(source) else None
 
     def is_confirmed(self, row, entries):
-        """Whether a 304 would confirm what a row of another walk asks about."""
+        """Returns whether a 304 would confirm the stored response that a row of another audit validates."""
         if row.get("status") == 304:
             return True
         if row["url"] in self.in_full or row.get("from_entry") is None:
@@ -128,7 +129,7 @@ class Recorded:
         return is_same(entries[row["from_entry"]], entries[row["i"]])
 
     def cost(self, row, entries):
-        """Bytes, answers 304, and responses of unknown size."""
+        """Returns the cost of a row: bytes, answers 304, and responses of unknown size."""
         full = self.full(row["i"])
         if row["verdict"] == FRESH:
             return 0, 0, 0
@@ -138,7 +139,7 @@ class Recorded:
         return (0, 0, 1) if full is None else (self.rows[full].get("sent", 0), 0, 0)
 
     def sums(self, rows, entries):
-        """The costs of the asked requests of the first load, and of the later ones."""
+        """Returns the costs of the judged requests of the first load and of the later loads."""
         sums = {load: [0, 0, 0] for load in LOADS}
         for row in rows:
             if row["verdict"] in ASKED and row.get("received") != "failed":
@@ -147,7 +148,7 @@ class Recorded:
         return sums
 
     def changed(self, change):
-        """The recording with a header changed in each response whose url is of the pattern."""
+        """Returns the recording with a header changed in each response whose url matches the pattern."""
         pattern, name, value = (text.strip() for text in (change + " ").split(": ", 2))
         of_pattern = re.compile(".*".join(map(re.escape, pattern.split("*"))))
         log = copy.deepcopy(self.log)
@@ -164,7 +165,7 @@ class Recorded:
 
 
 def is_same(a, b):
-    """Whether two entries have the same response, by its validators, else by its body."""
+    """Returns whether two entries have one response, by its validators, else by its body."""
     if part(a, "response", "status") != part(b, "response", "status"):
         return False
     for name in ("etag", "last-modified"):
@@ -182,12 +183,12 @@ def audited(program, log, words):
 
 
 def object_of(load, now, then):
-    """What is printed of a load."""
-    told = {"load": load, "bytes": now[0], "bytes_changed": then[0]}
-    told["saved"], told["more"] = max(now[0] - then[0], 0), max(then[0] - now[0], 0)
+    """Returns the object that is printed for a load."""
+    members = {"load": load, "bytes": now[0], "bytes_changed": then[0]}
+    members["saved"], members["more"] = max(now[0] - then[0], 0), max(then[0] - now[0], 0)
     for name, before, after in zip(NAMES[1:], now[1:], then[1:]):
-        told[name], told[f"{name}_changed"] = before, after
-    return {name: value for name, value in told.items() if value or name.startswith("bytes")}
+        members[name], members[f"{name}_changed"] = before, after
+    return {name: value for name, value in members.items() if value or name.startswith("bytes")}
 
 
 def worked_log():
@@ -204,13 +205,15 @@ def worked_log():
 def worked_faults(program):
     faults = []
     for change, *wanted in WORKED_CHANGES:
-        told = audited(program, worked_log(), ["--private", "--with", change])
-        faults += [(change, a, b) for a, b in zip(told, wanted) if a != b] + ([(change,)] if len(told) != 2 else [])
+        got = audited(program, worked_log(), ["--private", "--with", change])
+        faults += [(change, a, b) for a, b in zip(got, wanted) if a != b] + ([(change,)] if len(got) != 2 else [])
     return faults
 
 
 def cost_faults(program, recordings):
-    """How many sums were compared, and what is wrong: of (name, bytes of the recording, words, rows of another audit)."""
+    """Returns how many sums were compared, and the faults.
+
+    A recording is its name, its bytes, the words of the command line, and the rows of another audit."""
     count, faults = 2 * len(WORKED_CHANGES), worked_faults(program)
     for name, recording, words, rows in recordings:
         recorded = Recorded(recording, rows)
@@ -219,9 +222,9 @@ def cost_faults(program, recordings):
             log = recorded.changed(change)
             rows_changed = [row for row in audited(program, log, words) if "i" in row]
             then = recorded.sums(rows_changed, log["entries"])
-            told = audited(program, recorded.log, [*words, "--with", change])
+            got = audited(program, recorded.log, [*words, "--with", change])
             wanted = [object_of(load, now[load], then[load]) for load in LOADS]
             count += len(wanted)
-            faults += [(name, change, a, b) for a, b in zip(told, wanted) if a != b]
-            faults += [(name, change, len(told))] if len(told) != len(wanted) else []
+            faults += [(name, change, a, b) for a, b in zip(got, wanted) if a != b]
+            faults += [(name, change, len(got))] if len(got) != len(wanted) else []
     return count, faults

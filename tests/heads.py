@@ -1,12 +1,13 @@
-"""Heads of responses on standard input, as `curl -sI`, `curl -sIL` and `curl -si` print them, and what an audit of them prints.
+"""Checks audits of heads of responses on standard input, as `curl -sI`, `curl -sIL` and `curl -si` print them.
 
-A case is a name and the parts of an input: heads that are listed, heads that are skipped, and bytes that are no head. What is
-wanted follows from the parts: the N-th head that is listed is `head N`, and was sent with its own bytes and those of its body.
-An input that can't be read has an error in place of rows. The statuses, lengths and lines were worked out by hand.
+A case is a name and the parts of an input: heads that are listed, heads that are skipped, and bytes that are no head. The
+expected rows follow from the parts: the N-th listed head is `head N`, and its size is the bytes of the head and of its body. An
+input that can't be read has an error in place of rows. The statuses, lengths and lines were worked out by hand.
 
-A text is a name, options, heads, and what is printed of each in the report. That was worked out by hand too, from RFC 9111: what
-sets the lifetime (5.2.2, 5.3, 4.2.2), whether the response may be stored (3), its age (4.2.3), and whether a stored response needs
-validation an hour, a day and a week later, and can be validated (4.2, 4.3.1).
+A text is a name, options, heads, and the lines of the report for each head. The lines were worked out by hand from RFC 9111:
+what sets the lifetime (5.2.2, 5.3, 4.2.2), whether the response may be stored (3), and its age (4.2.3). The line on visits was
+worked out from sections 4.2 and 4.3.1: whether a stored response needs validation an hour, a day and a week later, and can be
+validated.
 """
 import json
 import re
@@ -20,7 +21,7 @@ DATE = "Date: Thu, 01 Jan 2026 00:00:00 GMT"
 
 @dataclass
 class Part:
-    """Bytes of an input. A head that is listed has a status, the length of its body, and what else is printed of it."""
+    """Bytes of an input. A listed head has a status, the length of its body, and further members of its row."""
     text: bytes
     status: int = 0
     body: int = 0
@@ -35,7 +36,7 @@ class Case:
 
 
 def lines(*texts, end=b"\r\n"):
-    """The lines of a head, and an empty line."""
+    """Returns the lines of a head, and an empty line."""
     return b"".join((text.encode("latin-1") if isinstance(text, str) else text) + end for text in (*texts, ""))
 
 
@@ -44,12 +45,12 @@ def head(*texts, status=200, body=0, end=b"\r\n", **more):
 
 
 def cut(part, count):
-    """A head without its last bytes."""
+    """Returns a head without its last bytes."""
     return Part(part.text[:-count], part.status, part.body, part.more)
 
 
 def usual():
-    """What curl prints."""
+    """Returns cases of what curl prints."""
     old = head("HTTP/1.1 200 OK", DATE, "Cache-Control: max-age=60", "Content-Length: 1256", body=1256, new_lifetime=60)
     new = head("HTTP/2 200 ", DATE.lower(), "cache-control: max-age=3600", "content-length: 5", body=5, new_lifetime=3600)
     moved = head("HTTP/1.1 301 Moved Permanently", "Location: https://example.com/", "Content-Length: 0", status=301)
@@ -83,7 +84,7 @@ def usual():
 
 
 def ends():
-    """How lines and heads end."""
+    """Returns cases of how lines and heads end."""
     bare = head("HTTP/1.1 200 OK", "Cache-Control: max-age=9", end=b"\n", new_lifetime=9)
     full = head("HTTP/1.1 200 OK", "Cache-Control: max-age=9", new_lifetime=9)
     mixed = Part(b"HTTP/1.1 200 OK\nCache-Control: max-age=9\r\n\n", 200, 0, {"new_lifetime": 9})
@@ -102,13 +103,13 @@ def ends():
         Case("a body that begins like a head", [full, Part(b"HTTP/ is a protocol\n")], at(4)),
         Case("CR CR LF at a field", [Part(b"HTTP/1.1 200 OK\r\nAge: 1\r\r\n\r\n")], at(1)),
         Case("CR CR LF in place of an empty line", [full, Part(b"HTTP/1.1 200 OK\r\nAge: 1\r\n\r\r\n")], at(4)),
-        Case("CR alone in a value", [Part(lines("HTTP/1.1 200 OK", "Age: 1\r2"))], at(1)),
+        Case("CR without LF in a value", [Part(lines("HTTP/1.1 200 OK", "Age: 1\r2"))], at(1)),
         Case("blanks in place of an empty line", [Part(b"HTTP/1.1 200 OK\r\nAge: 1\r\n \r\n")], at(1)),
     ]
 
 
 def sizes():
-    """What counts as the length of a body (RFC 9110, section 8.6)."""
+    """Returns cases of the length of a body (RFC 9110, section 8.6)."""
     def of(*values, body=0):
         return Case(f"Content-Length {values}", [head("HTTP/1.1 200 OK", *(f"Content-Length:{value}" for value in values), body=body)])
 
@@ -124,7 +125,7 @@ def at(line):
 
 
 def refused():
-    """What is no head of a response (RFC 9112, sections 4 and 5)."""
+    """Returns cases of what is no head of a response (RFC 9112, sections 4 and 5)."""
     full = head("HTTP/1.1 200 OK", "Age: 1")
     statuses = ["HTTP/", "HTTP/1.1", "HTTP/2", "HTTP/2 ", "HTTP/1.1 20 OK", "HTTP/1.1 2000 OK", "HTTP/1.1 099 OK", "HTTP/1.1 000 OK",
                 "HTTP/1.1 abc", "HTTP/1.1 -20 OK", "HTTP/1.1  200 OK", "HTTP/1.1\t200 OK", "HTTP/1.2 200 OK", "HTTP/0.9 200 OK",
@@ -144,7 +145,7 @@ def refused():
 
 
 def large():
-    """Much of everything."""
+    """Returns cases of large inputs."""
     full = head("HTTP/2 200 ", "age: 1")
     names = [f"x{number}: 1" for number in range(24_577)]
     return [
@@ -169,7 +170,7 @@ def cases():
 
 
 def wanted(case):
-    """What is printed of each head, or nothing where the input can't be read."""
+    """Returns the expected row of each listed head, or nothing if the input can't be read."""
     listed = [part for part in case.parts if part.status]
     rows = [
         {"url": f"head {number}", "status": part.status, "sent": min(len(part.text) + part.body, MOST), **part.more}
@@ -188,7 +189,7 @@ TAGGED = "304 304 304"
 
 @dataclass
 class Text:
-    """Heads of an input, and of each what a browser's cache and a CDN's do with it, what three visits ask for, and other lines."""
+    """Heads of an input. For each, `wanted` has the texts for a browser's cache, a CDN's and three visits, and other lines."""
     name: str
     heads: list
     wanted: list
@@ -196,12 +197,12 @@ class Text:
 
 
 def page(kind, *texts, status=200, body=0):
-    """A head of a type that was sent at the first second of 2026, before a body of so many bytes."""
+    """Returns a head of a type that was sent at the start of 2026, before a body of so many bytes."""
     return head(f"HTTP/1.1 {status} ", DATE, f"Content-Type: {TYPES[kind]}", f"Content-Length: {body}", *texts, status=status, body=body)
 
 
 def lifetimes():
-    """What sets a lifetime, and what is left of it at the receipt."""
+    """Returns texts on what sets a lifetime, and what is left of it at the receipt."""
     def of(name, texts, both, visits, *more, kind="css"):
         return Text(name, [page(kind, *texts)], [(*both, visits, *more)])
 
@@ -211,7 +212,7 @@ def lifetimes():
     week = "send: Cache-Control: max-age=604800"
     tagged = "send: Cache-Control: no-cache, and an ETag"
     expires, past = "Thu, 01 Jan 2026 00:01:40 GMT", "Wed, 31 Dec 2025 23:59:59 GMT"
-    # Ten days before the Date, so that a tenth of that is a day.
+    # It is ten days before the Date, so the heuristic lifetime is a day.
     modified = "Mon, 22 Dec 2025 00:00:00 GMT"
     no_control = "wrong: Expires without Cache-Control -> Cache-Control: max-age=N"
     return [
@@ -243,7 +244,7 @@ def lifetimes():
 
 
 def storing():
-    """What may not be stored, and what only one kind of cache stores."""
+    """Returns texts on responses that may not be stored, or that only one kind of cache stores."""
     def of(name, head, browser, cdn, visits, *more, words=()):
         return Text(name, [head], [(browser, cdn, visits, *more)], words)
 
@@ -259,7 +260,7 @@ def storing():
         of("a page that sets a cookie", cookie, minutes, "0 s by set-cookie", AGAIN, "send: Cache-Control: private, no-cache, and an ETag"),
         of("two hours in a CDN", shown, "60 s by max-age=60", "2 h by s-maxage=7200", "nothing 304 304", "send: Cache-Control: max-age=604800",
            words=("--shared",)),
-        # After a day its own lifetime is over, and nothing validates it, so all of it is sent again.
+        # After a day its advised lifetime is over, and it has no validator, so all of it is sent again.
         of("an image that is no secret", page("png", "Cache-Control: no-store"), *["not stored: no-store"] * 2, AGAIN,
            "send: Cache-Control: max-age=86400"),
         of("a page that is one", page("html", "Cache-Control: no-store"), *["not stored: no-store"] * 2, AGAIN,
@@ -275,14 +276,14 @@ def storing():
 
 
 def faulty():
-    """What looks wrong."""
+    """Returns texts on headers that look wrong."""
     def of(name, texts, text, visits, *more):
         return Text(name, [page("css", *texts)], [(text, text, visits, *more)])
 
     return [
         of("an ETag without quotes", ["Cache-Control: max-age=600", "ETag: a"], "10 min by max-age=600", TAGGED,
            "wrong: an ETag without quotes -> the ETag in quotes", "send: Cache-Control: max-age=604800"),
-        # No header makes a stored response with it answer.
+        # No lifetime makes a stored response with it answer a request.
         of("Vary: *", ["Cache-Control: max-age=600", TAG, "Vary: *"], "0 s by vary *", AGAIN, "wrong: Vary: * -> no Vary"),
         of("two faults", ["Cache-Control: max-age=31536000", "Vary: Cookie", f"Expires: {DATE[6:]}"], "365 d by max-age=31536000",
            "nothing nothing nothing", "wrong: Expires against max-age -> only max-age",
@@ -291,7 +292,7 @@ def faulty():
 
 
 def several():
-    """Several heads, each of which is visited after its own Date."""
+    """Returns texts with several heads. The visits of each head are after its own Date."""
     later = Part(page("css", "Cache-Control: max-age=7200", TAG).text.replace(b"00:00:00", b"03:00:00"), 200)
     moved = page("html", "Location: /a.css", "Cache-Control: max-age=7200", status=301, body=10)
     hours = "2 h by max-age=7200"
@@ -315,7 +316,7 @@ def kilobytes(count):
 
 
 def text_lines(text):
-    """The lines that are wanted of a text."""
+    """Yields the expected lines of a text."""
     count = len(text.heads)
     yield f"{count} head{'' if count == 1 else 's'}, {CDN if '--shared' in text.words else BROWSER}"
     for number, (part, (browser, cdn, visits, *more)) in enumerate(zip(text.heads, text.wanted), 1):
@@ -326,22 +327,22 @@ def text_lines(text):
 
 
 def run_by(program, given, words):
-    """What a program prints of an input, and the line on standard error without its name and that of the input."""
+    """Returns what a program prints for an input, and the line on standard error without `cacheaudit: heads: `."""
     ended = subprocess.run([program, *words], input=given, capture_output=True, timeout=SECONDS)
     return ended.stdout.decode(), ended.stderr.decode().rstrip("\n").removeprefix("cacheaudit: heads: ")
 
 
-def rows_of(told):
-    """The objects of heads, which are printed in the order of their times, in that of the input."""
-    rows = [json.loads(line) for line in told.splitlines()]
+def rows_of(output):
+    """Returns the objects of heads in the order of the input. They are printed in the order of their times."""
+    rows = [json.loads(line) for line in output.splitlines()]
     return sorted((row for row in rows if "url" in row), key=lambda row: row["i"])
 
 
-def row_faults(program, told):
-    """How many heads and errors were compared, and what is wrong."""
+def row_faults(program, audit):
+    """Returns how many heads and errors were compared, and the faults."""
     count, faults = 0, []
     for case in cases():
-        out, error = told(program, b"".join(part.text for part in case.parts), ("--json",))
+        out, error = audit(program, b"".join(part.text for part in case.parts), ("--json",))
         rows, right = rows_of(out), wanted(case)
         seen = [{name: row.get(name) for name in want} for row, want in zip(rows, right)]
         count += max(len(right), 1)
@@ -351,24 +352,24 @@ def row_faults(program, told):
     return count, faults
 
 
-def text_faults(program, told):
-    """How many texts were compared, and which differ."""
+def text_faults(program, audit):
+    """Returns how many texts were compared, and those that differ."""
     faults = []
     for text in texts():
-        out, error = told(program, b"".join(part.text for part in text.heads), text.words)
+        out, error = audit(program, b"".join(part.text for part in text.heads), text.words)
         right = "\n".join([*text_lines(text), ""])
         faults += [(text.name, out, error, right)] if (out, error) != (right, "") else []
     return len(texts()), faults
 
 
-def form_faults(program, told):
-    """How many inputs were reported of those that aren't large, and of which a head isn't, or a byte that isn't printed."""
+def form_faults(program, audit):
+    """Returns how many of the smaller inputs were reported, and the faults: a head that is missing, or an unprintable byte."""
     count, faults = 0, []
     for case in cases():
         given = b"".join(part.text for part in case.parts)
         if len(given) > 2000:
             continue
-        out, error = told(program, given, ())
+        out, error = audit(program, given, ())
         names = re.findall(r"^(head \d+), status (\d+), ", out, re.M)
         right = [(row["url"], str(row["status"])) for row in wanted(case)]
         count += 1
@@ -376,7 +377,7 @@ def form_faults(program, told):
     return count, faults
 
 
-def head_faults(program, told=run_by):
-    """How many heads, errors and texts were compared, and what is wrong. A function returns what is told of an input: text, an error."""
-    found = [row_faults(program, told), text_faults(program, told), form_faults(program, told)]
+def head_faults(program, audit=run_by):
+    """Returns how many heads, errors and texts were compared, and the faults. `audit` returns the output and the error."""
+    found = [row_faults(program, audit), text_faults(program, audit), form_faults(program, audit)]
     return sum(count for count, _ in found), [fault for _, some in found for fault in some]

@@ -1,5 +1,5 @@
-"""Opens pages in Chromium, if it is there: nothing is asked of the network, no text of a recording runs, and each page is read
-without a script and in a narrow window."""
+"""Opens pages in Chromium, if it is installed. No page may send a request or run a text of a recording. Each page has to be
+readable without scripts and in a narrow window."""
 import re
 import shutil
 import subprocess
@@ -10,9 +10,10 @@ NAMES = ["chromium", "chromium-browser", "google-chrome"]
 FLAGS = ["--headless", "--no-sandbox", "--disable-gpu", "--hide-scrollbars", "--disable-background-networking", "--disable-sync",
          "--no-first-run", "--disable-component-update", "--virtual-time-budget=3000", "--enable-logging=stderr",
          "--allow-file-access-from-files", "--host-resolver-rules=MAP * ~NOTFOUND"]
-# What Chromium asks for by itself, in vain: no name is resolved.
+# The requests that Chromium sends by itself. They fail, since no name is resolved.
 OWN = r"https?://[a-z0-9.-]*\.(?:google|googleapis|gvt1)\.com/"
-# A page in a narrow frame, and in one without scripts: how wide each is, and how many elements the other has.
+# A page that shows another one in a narrow frame and in a frame without scripts. Its title is set to four values. Two are
+# widths in the first frame. The others are the number of elements, and whether the tools are hidden, in the second.
 FRAMES = """<!DOCTYPE html><title>-</title><iframe id="narrow" width="360" height="900" src="page.html"></iframe>
 <iframe id="still" sandbox="allow-same-origin" src="page.html"></iframe><script>
 onload = function () {
@@ -28,14 +29,14 @@ def browser():
 
 
 def opened(program, path, folder):
-    """The tree of a page that was opened, what the console says, and what was asked for."""
+    """Opens a page. Returns its tree, the lines of the console, and the URLs of its requests."""
     log = Path(folder) / "net.json"
     words = [program, *FLAGS, f"--user-data-dir={folder}/profile", f"--log-net-log={log}", "--dump-dom", path.as_uri()]
     ended = subprocess.run(words, capture_output=True, timeout=120)
-    said = [line for line in ended.stderr.decode(errors="replace").splitlines() if "CONSOLE" in line]
+    messages = [line for line in ended.stderr.decode(errors="replace").splitlines() if "CONSOLE" in line]
     asked = re.findall(r'"url":"((?!file:|data:|chrome)[^"]*)"', log.read_text(errors="replace")) if log.exists() else ["no log"]
     asked = [url for url in asked if not re.match(OWN, url)]
-    return ended.stdout.decode(errors="replace"), said, asked
+    return ended.stdout.decode(errors="replace"), messages, asked
 
 
 def elements(text):
@@ -52,25 +53,25 @@ def faults_of(program, name, text):
         path = Path(folder) / "page.html"
         path.write_text(text)
         (Path(folder) / "frames.html").write_text(FRAMES)
-        tree, said, asked = opened(program, path, folder)
-        faults += [(name, "the console", line) for line in said] + [(name, "asked for", url) for url in asked]
+        tree, messages, asked = opened(program, path, folder)
+        faults += [(name, "the console", line) for line in messages] + [(name, "asked for", url) for url in asked]
         if title(tree) != title(text):
             faults.append((name, "another title", title(tree)))
         if tree.count("<script") != 1 or "<table class=\"all\"" not in tree or 'aria-sort="ascending"' not in tree and "<button" not in tree:
             faults.append((name, "the script didn't run, or another did"))
         frames, _, _ = opened(program, Path(folder) / "frames.html", folder)
-        told = title(frames).split()
-        if len(told) != 4 or int(told[0]) > int(told[1]):
-            faults.append((name, "scrolls sideways", told))
-        if told[2:] != [str(elements(text)), "true"]:
-            faults.append((name, "other elements without a script", told, elements(text)))
+        found = title(frames).split()
+        if len(found) != 4 or int(found[0]) > int(found[1]):
+            faults.append((name, "scrolls sideways", found))
+        if found[2:] != [str(elements(text)), "true"]:
+            faults.append((name, "other elements without a script", found, elements(text)))
     return faults
 
 
 def browser_faults(pages):
-    """How many answers were looked at, and what is wrong: of (name, text of the page)."""
+    """Returns how many answers were checked, and the faults. A page is its name and its text."""
     program = browser()
     if program is None:
-        print("left out: pages in a browser, since Chromium isn't there")
+        print("left out: pages in a browser, since Chromium isn't installed")
         return 0, []
     return 5 * len(pages), [fault for name, text in pages for fault in faults_of(program, name, text)]

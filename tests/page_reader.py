@@ -1,4 +1,4 @@
-"""Reads a page of HTML strictly: each tag is closed, each attribute is one that the sources have, and each link leads somewhere."""
+"""Reads a page of HTML strictly: each tag is closed, each attribute is in the sources, and each link has a target."""
 import base64
 import hashlib
 import html
@@ -15,7 +15,7 @@ NUMBERS = {("rect", "width", "N%"), ("svg", "height", "N"), ("a", "href", "#rN")
 
 
 def attributes_of_sources():
-    """The attributes in the constants of the sources, as they are written."""
+    """Returns the attributes in the constants of the sources."""
     text = "".join(path.read_text() for path in SOURCES.glob("*.rt")).replace('\\"', '"')
     return {(name.lower(), value) for name, value in re.findall(r'([A-Za-z-]+)="([^"]*)"', text)} | {("hidden", None)}
 
@@ -24,7 +24,7 @@ KNOWN = attributes_of_sources()
 
 
 class Page(HTMLParser):
-    """What a page has: its faults, the texts of its blocks, its cells, its style and its script."""
+    """A page that is read: its faults, the texts of its blocks, its tags, its style, its script and its policy."""
 
     def __init__(self, text):
         super().__init__(convert_charrefs=True)
@@ -40,8 +40,8 @@ class Page(HTMLParser):
     def handle_starttag(self, tag, attributes):
         self.tags.append(tag)
         for name, value in attributes:
-            told = (tag, name, re.sub(r"\d+", "N", value or ""))
-            if (name, value) not in KNOWN and told not in NUMBERS:
+            pattern = (tag, name, re.sub(r"\d+", "N", value or ""))
+            if (name, value) not in KNOWN and pattern not in NUMBERS:
                 self.faults.append(("an attribute", tag, name, value))
             if name == "id":
                 self.ids.append(value)
@@ -87,7 +87,7 @@ def hash_of(text):
 
 
 def page_faults(text):
-    """The page, and what is wrong with it."""
+    """Reads a page. Returns it, and its faults."""
     page = Page(text)
     faults = page.faults
     for name, source in (("style", f"{name_of('style')}"), ("script", f"{name_of('script')}")):
@@ -105,13 +105,13 @@ def page_faults(text):
 
 
 def name_of(name):
-    """The element of the style or the script, as the sources have it."""
+    """Returns the element `style` or `script` as the sources have it."""
     source = (SOURCES / f"{name}.rt").read_text()
     return source.split('r##"', 1)[1].rsplit('"##;', 1)[0]
 
 
 def shown(text):
-    """A text as a page shows it."""
+    """Returns a text as a page shows it."""
     return "".join(f"[U+{ord(c):04X}]" if is_unseen(ord(c)) else c for c in text)
 
 
@@ -123,5 +123,5 @@ def is_unseen(c):
 
 
 def escaped(text):
-    """A text as the file has it."""
+    """Returns a text as the file of a page has it."""
     return html.escape(shown(text), quote=True).replace("&#x27;", "&#39;")

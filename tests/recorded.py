@@ -1,13 +1,14 @@
-"""Small recordings, and what an audit has to answer: the cases of tests/cases/audit/recordings.txt.
+"""Audits small recordings: the cases of tests/cases/audit/recordings.txt.
 
-A case begins with a line `== TITLE`, and may have a line `? WORDS` with the words of a command line, a line `by NAME` with
-what wrote the recording, and a line `= COUNTS` with what is wanted of the summary. Each other line is an entry:
+A case begins with a line `== TITLE`. It may have a line `? WORDS` with the words of a command line, and a line `by NAME` with
+the creator of the recording. A line `= COUNTS` has the expected members of the summary. Each other line is an entry:
 
     SECOND | METHOD URL | request headers | status | response headers | more | wanted
 
-or, where it begins with `{` or `[`, the entry as it is, `|` and what is wanted. It may go on in lines that begin with two
-blanks. A field that is empty is none, or status 200. `~` stands between headers, and between what is wanted: `MEMBER=VALUE`, a
-flag, or `no MEMBER`. `@N` is the date N seconds after the start. SECOND may be `A..B`: an entry for each, in which `$i` is it.
+If the line begins with `{` or `[`, it is the JSON of the entry, `|` and what is wanted. A line that begins with two blanks
+continues the line before it. An empty field means none, or status 200. `~` separates headers, and the things that are wanted:
+`MEMBER=VALUE`, a flag, or `no MEMBER`. `@N` is the date N seconds after the start. SECOND may be `A..B`: then there is an entry
+for each second, in which `$i` is the second.
 """
 import json
 import re
@@ -18,7 +19,7 @@ from pathlib import Path
 
 CASES = Path(__file__).resolve().parent / "cases" / "audit" / "recordings.txt"
 START = datetime(2026, 1, 1, tzinfo=timezone.utc)
-# The members of an entry that the words of its sixth field set.
+# The paths of the members that the words in the sixth field of an entry set.
 MORE = {
     "cache": ("_fromCache",), "type": ("_resourceType",), "time": ("time",), "error": ("response", "_error"),
     "sent": ("response", "_transferSize"), "headers": ("response", "headersSize"), "body": ("response", "bodySize"),
@@ -26,13 +27,13 @@ MORE = {
     "text": ("response", "content", "text"), "encoding": ("response", "content", "encoding"),
     "worker": ("response", "_fetchedViaServiceWorker"),
 }
-# What words of an entry that is given as it is stand for.
+# The meanings of words in an entry that is written as JSON.
 WORDS = {
     "$AT": '"startedDateTime": "2026-01-01T00:00:00Z"',
     "$GET": '"request": {"method": "GET", "url": "http://h/a", "headers": []}',
     "$OK": '"response": {"status": 200, "headers": [{"name": "Cache-Control", "value": "max-age=60"}]}',
 }
-# No output has the password that the urls of the cases have.
+# The urls of the cases have this password. No output may have it.
 PASSWORD = b"secret"
 
 
@@ -46,7 +47,7 @@ def headers(text):
 
 
 def value_of(text):
-    """A word as a value of JSON, if it is one, else as a text."""
+    """Returns a word as a JSON value if it is one, else as a text."""
     try:
         return json.loads(text)
     except ValueError:
@@ -54,7 +55,7 @@ def value_of(text):
 
 
 def entry_of(fields, second):
-    """The entry of a line."""
+    """Returns the entry of a line at a second."""
     asked, request, status, response, more = (field.replace("$i", str(second)) for field in fields)
     method, url = asked.split(" ", 1)
     entry = {
@@ -74,7 +75,7 @@ def entry_of(fields, second):
 
 
 def entries_of(line):
-    """The entries of a line, each with what is wanted of it."""
+    """Returns the entries of a line, each with what is wanted of it."""
     if line.startswith(("{", "[")):
         text, _, wanted = line.rpartition("|")
         for word, meaning in WORDS.items():
@@ -86,7 +87,7 @@ def entries_of(line):
 
 
 def members(text):
-    """What is wanted, by member: a text, or `None` for a member that may not be told."""
+    """Returns what is wanted, by member: a text, or `None` for a member that must be absent."""
     wanted = {}
     for piece in re.split(r"\s*~\s*", text.strip()):
         absent = re.fullmatch(r"no (\S+)", piece)
@@ -96,7 +97,7 @@ def members(text):
 
 
 def cases():
-    """The cases: titles, words of the command line, recordings, and what is wanted of each entry and of the summary."""
+    """Returns the cases: titles, words of the command line, recordings, and what is wanted of the entries and the summary."""
     found = []
     for line in re.sub(r"\n  +", " ", CASES.read_text()).splitlines():
         if line.startswith("=="):
@@ -114,22 +115,22 @@ def cases():
     return found
 
 
-def told_by(program, case, words):
-    """What the program writes for a case."""
+def run_on(program, case, words):
+    """Runs the program on a case."""
     text = '{"log": {"creator": {"name": "%s"}, "entries": [%s]}}' % (case["by"], ",".join(case["entries"]))
     command = [program, *words, *case["words"]]
     return subprocess.run(command, input=text.encode(), capture_output=True, timeout=10)
 
 
 def shown(value):
-    """A value as the table writes it."""
+    """Returns a value as the table writes it."""
     if isinstance(value, list):
         return ", ".join(value)
     return value if isinstance(value, str) or value is None else json.dumps(value)
 
 
 def are_plain(text, entries, summary):
-    """Whether lines of an audit have a line for each entry, then the counts of the summary, and what is noticed."""
+    """Returns whether the output has a line for each entry, then the counts of the summary, and then what is noticed."""
     lines = text.splitlines()[entries:]
     counts = [f"{name} {count}" for name, count in summary.items() if "/" in name]
     noticed = [line for line in lines if line.startswith("noticed: ")]
@@ -137,7 +138,7 @@ def are_plain(text, entries, summary):
 
 
 def faults_of(program, case):
-    ended, plain = told_by(program, case, ["--json"]), told_by(program, case, ["--lines"])
+    ended, plain = run_on(program, case, ["--json"]), run_on(program, case, ["--lines"])
     if (ended.returncode, plain.returncode) != (0, 0):
         return [(case["title"], ended.returncode, ended.stderr, plain.stderr)]
     *rows, summary = [json.loads(line) for line in ended.stdout.decode().splitlines()]
@@ -145,11 +146,11 @@ def faults_of(program, case):
     by_index = {row["i"]: row for row in rows}
     pairs = [(by_index[i], wanted) for i, wanted in enumerate(case["wanted"])] + [(summary, case["counts"])]
     faults = []
-    for told, wanted in pairs:
-        different = {name: shown(told.get(name)) for name, value in wanted.items() if shown(told.get(name)) != value}
+    for got, wanted in pairs:
+        different = {name: shown(got.get(name)) for name, value in wanted.items() if shown(got.get(name)) != value}
         if different:
-            faults.append((case["title"], told.get("i", "summary"), different, wanted))
-    report = told_by(program, case, [])
+            faults.append((case["title"], got.get("i", "summary"), different, wanted))
+    report = run_on(program, case, [])
     if report.returncode != 0:
         faults.append((case["title"], "no report", report.returncode, report.stderr))
     if PASSWORD in ended.stdout + plain.stdout + report.stdout:
@@ -160,5 +161,5 @@ def faults_of(program, case):
 
 
 def case_faults(program, all_cases):
-    """How many cases there are, and what is wrong with them."""
+    """Returns how many cases there are, and the faults."""
     return len(all_cases), [fault for case in all_cases for fault in faults_of(program, case)]

@@ -1,8 +1,9 @@
-/* Loaded in front of a program, refuses one of its requests, or tells of each.
-   REFUSE is a letter and a number n. m: the n-th request for memory is refused; a: so is each behind it, until the
-   program writes; r, w: the n-th read of standard input, write to standard output fails; i, j: it is interrupted;
-   s, t: each is of at most n bytes.
-   REFUSE_LOG is a descriptor to which each request that is met is told, a line each. */
+/* A library for LD_PRELOAD that refuses a request of a program, or reports each request.
+   REFUSE is a letter and a number n:
+   m: the n-th request for memory is refused; a: so is each request after it, until the program writes;
+   r, w: the n-th read of standard input or write to standard output fails; i, j: it is interrupted;
+   s, t: each read or write is of at most n bytes.
+   REFUSE_LOG is a file descriptor. A line for each request that isn't refused is written to it. */
 #include <errno.h>
 #include <stddef.h>
 #include <stdio.h>
@@ -39,8 +40,8 @@ static int is_refused(void) {
   return 1;
 }
 
-/* Takes no memory itself. */
-static void tell(char letter, void *block, size_t size) {
+/* Writes a line to the log. It must not allocate memory. */
+static void report(char letter, void *block, size_t size) {
   char line[64];
   if (log_to >= 0) {
     int len = snprintf(line, sizeof line, "%c %zx %zu\n", letter, (size_t)block, size);
@@ -48,31 +49,31 @@ static void tell(char letter, void *block, size_t size) {
   }
 }
 
-static void *made(void *block, size_t size) {
-  tell('m', block, size);
+static void *allocated(void *block, size_t size) {
+  report('m', block, size);
   return block;
 }
 
-static void gone(void *block) {
+static void freed(void *block) {
   if (block)
-    tell('f', block, 0);
+    report('f', block, 0);
 }
 
-void *malloc(size_t size) { return is_refused() ? NULL : made(__libc_malloc(size), size); }
+void *malloc(size_t size) { return is_refused() ? NULL : allocated(__libc_malloc(size), size); }
 
 void *realloc(void *old, size_t size) {
   if (is_refused())
     return NULL;
-  gone(old);
-  return made(__libc_realloc(old, size), size);
+  freed(old);
+  return allocated(__libc_realloc(old, size), size);
 }
 
 void free(void *block) {
-  gone(block);
+  freed(block);
   __libc_free(block);
 }
 
-/* The n-th call fails by one letter, and is interrupted by the other. */
+/* Returns whether a call fails, with EIO by one letter and with EINTR by the other. */
 static int fails(long call, char failing, char interrupted) {
   if (call != number || (kind != failing && kind != interrupted))
     return 0;
@@ -89,7 +90,7 @@ ssize_t read(int from, void *to, size_t size) {
     if (fails(++reads, 'r', 'i'))
       return -1;
     size = at_most(size, 's');
-    tell('r', NULL, 0);
+    report('r', NULL, 0);
   }
   return syscall(SYS_read, from, to, size);
 }
@@ -100,7 +101,7 @@ ssize_t write(int to, const void *from, size_t size) {
     if (fails(++writes, 'w', 'j'))
       return -1;
     size = at_most(size, 't');
-    tell('w', NULL, 0);
+    report('w', NULL, 0);
   }
   return syscall(SYS_write, to, from, size);
 }

@@ -1,5 +1,5 @@
-"""What a report says of tests/recordings/site.har, with the numbers of a reference that was made before the report, what changes in it if the recording
-changes, and the sums of every recording, worked out from the answers of another audit."""
+"""Checks the report on tests/recordings/site.har against numbers of a reference that was made before the report. Checks what
+changes in the report if the recording changes, and the sums of every recording against another audit."""
 import copy
 import json
 import re
@@ -9,8 +9,8 @@ from pathlib import Path
 from costs import ASKED, Recorded
 
 SITE = Path(__file__).resolve().parent / "recordings" / "site.har"
-# The pieces of each line: bytes by url of the later loads, what a second walk with the advised header spares, and what a third one
-# sends that begins an hour, a day, a week and thirty days after the recording.
+# The pieces of each expected line. Some have the bytes by url of the later loads, and the bytes that a second walk with the
+# advised header saves. Others have what walks send that begin an hour, a day, a week and thirty days after the recording.
 WANTED = [
     ["3 loads of 127.0.0.1:8901/, 2 of /other, in 15 s, as a browser's cache"],
     ["first load 1358 kB, later loads 220 kB", "answer 1157 and 198 kB"],
@@ -64,13 +64,13 @@ def report(program, recording, words=()):
 
 
 def lacking(text, wanted):
-    """Those lines of which no line of the text has all pieces."""
+    """Returns the wanted lines whose pieces aren't all in one line of the text."""
     lines = text.splitlines()
     return [pieces for pieces in wanted if not any(all(piece in line for piece in pieces) for line in lines)]
 
 
 def doubled(recording, name):
-    """The recording with twice the bytes for each response of a url that was sent."""
+    """Returns the recording with twice the bytes for each sent response of a url."""
     log = json.loads(recording)
     for entry in log["log"]["entries"]:
         if entry["request"]["url"].endswith(name) and isinstance(entry["response"].get("_transferSize"), int):
@@ -79,7 +79,7 @@ def doubled(recording, name):
 
 
 def swapped(recording, one, other):
-    """The recording with two urls in place of each other."""
+    """Returns the recording with two urls exchanged."""
     log = json.loads(recording)
     for entry in log["log"]["entries"]:
         url = entry["request"]["url"]
@@ -90,7 +90,7 @@ def swapped(recording, one, other):
 
 
 def single(recording):
-    """The recording without its pages, which then is one load."""
+    """Returns the recording without its pages, so that it is one load."""
     log = copy.deepcopy(json.loads(recording))
     log["log"].pop("pages", None)
     return json.dumps(log).encode()
@@ -101,7 +101,7 @@ def kilobytes(count):
 
 
 def sums(recording, rows):
-    """The pieces of the lines of what was sent."""
+    """Returns the pieces of the line on what was sent, and of the part that the judged requests got."""
     recorded = Recorded(recording, rows)
     sent = {True: 0, False: 0}
     asked = {True: 0, False: 0}
@@ -117,7 +117,9 @@ def sums(recording, rows):
 
 
 def report_faults(program, recordings):
-    """How many pieces were looked for, and what lacks: of (name, bytes of the recording, words, rows of another audit)."""
+    """Returns how many lines were looked for, and those that are missing.
+
+    A recording is its name, its bytes, the words of the command line, and the rows of another audit."""
     site = SITE.read_bytes()
     count, faults = 0, []
     table = [

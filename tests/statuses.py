@@ -1,4 +1,4 @@
-"""What of cacheaudit ends in which status, and what it writes on standard error."""
+"""Checks the exit statuses of cacheaudit, and what it writes on standard error."""
 import gzip
 import json
 import re
@@ -20,7 +20,7 @@ LIMIT = 48 << 20
 
 
 def hostile_changes(recording):
-    """The same of changes of headers that somebody else wrote."""
+    """Returns runs with hostile changes of headers, in the form of `runs`."""
     return [
         (["--with", "*" * 5000 + ": ETag: a"], recording, 0, ""),
         (["--with", "*a" * 5000 + "b: ETag: a"], recording, 0, ""),
@@ -43,7 +43,7 @@ def hostile_changes(recording):
 
 
 def runs():
-    """Words of a command line, the input, the status, and what is written on standard error."""
+    """Returns runs: the words of a command line, the input, the status, and what is written on standard error."""
     text = EXAMPLE.read_text()
     bytes_of = EXAMPLE.read_bytes()
     fault = "cacheaudit: recording: "
@@ -106,19 +106,19 @@ def runs():
 
 
 def ended(program, words, given):
-    return subprocess.run([program, *words], input=given, capture_output=True, timeout=10)
+    return subprocess.run([program, *words], input=given, capture_output=True, timeout=60)
 
 
 def is_ended_so(run, status, error):
-    """Whether a run has the status and the text, or a text that begins so, on one line."""
+    """Returns whether a run has the status and prints the error. An error without a line end is only the line's beginning."""
     text = run.stderr.decode()
     if status == 2 and run.stdout or text.count("\n") != (status != 0):
         return False
     return run.returncode == status and (text == error or not error.endswith("\n") and error and text.startswith(error))
 
 
-def said(program):
-    """The faults of what is said of the program, and of recordings in other forms and places."""
+def option_faults(program):
+    """Checks --help, --version, other forms of a recording, and options. Returns how many checks there were, and the faults."""
     log = json.loads(EXAMPLE.read_text())["log"]
     forms = [b"\xef\xbb\xbf" + EXAMPLE.read_bytes(), json.dumps(log).encode(), json.dumps(log["entries"]).encode()]
     usage = ended(program, ["--help", "--nothing"], b"")
@@ -137,7 +137,7 @@ def said(program):
         ("a report of a browser's", ended(program, ["--private"], EXAMPLE.read_bytes()).stdout == report.stdout),
         ("a report of a CDN's", ended(program, ["--shared"], EXAMPLE.read_bytes()).stdout != report.stdout),
     ]
-    return len(checks), [("said", name) for name, holds in checks if not holds]
+    return len(checks), [("options", name) for name, holds in checks if not holds]
 
 
 def limit():
@@ -145,21 +145,23 @@ def limit():
 
 
 def without_memory(program):
-    """The faults of a run that has no memory for what it reads. A build that tests its memory runs with no such limit."""
+    """Checks a run that has no memory for its input. Returns a count, and the faults.
+
+    A build with a memory checker doesn't start under the limit, so the run is left out."""
     if subprocess.run([program, "--version"], capture_output=True, preexec_fn=limit).returncode != 0:
         return 1, []
     with tempfile.TemporaryFile() as file:
         file.write(b"[" + b" " * (2 * LIMIT) + b"]")
         file.seek(0)
-        run = subprocess.run([program], stdin=file, capture_output=True, preexec_fn=limit, timeout=10)
+        run = subprocess.run([program], stdin=file, capture_output=True, preexec_fn=limit, timeout=60)
     texts = ("cacheaudit: out of memory\n", "cacheaudit: recording: out of memory\n")
     is_so = any(is_ended_so(run, 3, text) for text in texts)
     return 1, [] if is_so else [("out of memory", run.returncode, run.stderr)]
 
 
 def status_faults(program):
-    """How many runs there are, and which end otherwise."""
-    counted = [said(program), without_memory(program)]
+    """Returns how many runs and checks there are, and the faults."""
+    counted = [option_faults(program), without_memory(program)]
     faults = [fault for _, some in counted for fault in some]
     wanted = runs()
     for words, given, status, error in wanted:

@@ -1,7 +1,8 @@
-"""Each number of a report, worked out from the rows of another audit and from the file: what later loads send and what is saved by
-a second walk over a recording with the advised headers, and each later visit by a walk over a recording at whose end the requests of
-the first load come once more, with their times, Date and Expires moved. These walks are asked of the program by --json; what their rows
-cost is summed here."""
+"""Checks each number of a report against numbers that are worked out from the rows of another audit and from the file.
+
+What later loads send, and what the advice saves, is worked out by a second walk over the recording, with the advised headers.
+For a later visit the requests of the first load are repeated at the end of the recording, with times, Date and Expires moved.
+The program makes these walks by --json. The costs of their rows are added up here."""
 import copy
 import json
 import re
@@ -17,7 +18,7 @@ ADVISED = re.compile(r"      -> Cache-Control: (.*?)(, and an ETag)?(, and answe
 
 
 def took(entry):
-    """How long a request took, if that can be read."""
+    """Returns how long a request took, or zero if the entry doesn't have it."""
     time = entry.get("time")
     return timedelta(milliseconds=time if isinstance(time, (int, float)) and not isinstance(time, bool) and 0 <= time < 1e12 else 0)
 
@@ -60,7 +61,7 @@ def moved(value, by):
 
 
 def moved_headers(listed, by):
-    """Headers with the first Date and the first Expires moved."""
+    """Returns headers with the first Date and the first Expires moved."""
     seen, made = set(), []
     for one in listed if isinstance(listed, list) else []:
         name = str(part(one, "name")).lower()
@@ -72,7 +73,7 @@ def moved_headers(listed, by):
 
 
 class Session:
-    """A recording, the rows of another audit, and what a report says of them."""
+    """A recording, the rows of another audit, and the numbers that follow from them."""
 
     def __init__(self, program, words, recording, rows):
         self.program, self.words = program, words
@@ -91,7 +92,7 @@ class Session:
         self.changing = self.changing_urls()
 
     def full_index(self, i):
-        """The entry with the full response to a request, as far as the recording has one."""
+        """Returns the index of the entry with the full response to a request, or the request's own index if there is none."""
         if self.recorded.is_full(i):
             return i
         source = self.rows[i].get("from_entry")
@@ -102,7 +103,7 @@ class Session:
         return part(entry, "response", "content", "text") or header(entry, "etag") or header(entry, "last-modified")
 
     def changing_urls(self):
-        """Urls that differ in their query alone, all with one mark."""
+        """Returns the urls that differ only in their query and have one mark, each with its url without the query."""
         bases = {}
         for url in self.urls:
             if "?" in url:
@@ -112,7 +113,7 @@ class Session:
         return {url: base for base, urls in found.items() for url in urls}
 
     def cost(self, i, row, entries, in_full):
-        """Bytes, answers 304, and responses of unknown size, of a row for the request of an entry."""
+        """Returns the cost of a row for the request of an entry: bytes, answers 304, and responses of unknown size."""
         full = self.recorded.full(i)
         if row["verdict"] == FRESH:
             return 0, 0, 0
@@ -132,7 +133,7 @@ class Session:
         return {row["i"]: row for row in audited(self.program, log, self.words) if "i" in row}
 
     def copies(self, log, delay):
-        """The requests of the first load once more, in a log with the same entries."""
+        """Returns the entries of a later visit: the requests of the first load, so many seconds after the end of the log."""
         entries = log["entries"]
         walked = [i for i in self.recorded.order if self.rows[i]["verdict"] != "skipped"]
         begun = next(sent_at(entries[i]) for i in walked if self.recorded.is_first(i))
@@ -156,7 +157,7 @@ class Session:
         return made
 
     def visit(self, log, delay, in_full):
-        """What a visit costs: in all, and for each url whether it is sent again and whether a 304 confirms it."""
+        """Returns the cost of a visit, and for each url whether it is sent again or confirmed by a 304, and its bytes."""
         copies = self.copies(log, delay)
         entries = log["entries"] + copies
         rows = self.walked({**log, "entries": entries})
@@ -171,7 +172,7 @@ class Session:
         return total, acts, costs
 
     def url_costs(self, rows, entries, in_full):
-        """What the requests of each url cost in the first load, and in later ones."""
+        """Returns the bytes of the requests of each url in the first load, and in later loads."""
         costs = {}
         for i in self.asked:
             both = costs.setdefault(self.rows[i]["url"], [0, 0])
@@ -179,7 +180,7 @@ class Session:
         return costs
 
     def later(self):
-        """The bytes of each url in the later loads, and how many of its requests have some."""
+        """Returns the bytes of each url in the later loads, and how many of its requests sent some."""
         found = {}
         for i in self.asked:
             if not self.recorded.is_first(i):
@@ -198,7 +199,7 @@ def total_text(total):
 
 
 def advised(session, text):
-    """The urls to change first by the report, with what they are advised to send."""
+    """Returns the urls that the report lists to change first, with its advice for each."""
     by_short = {}
     for url in session.urls:
         by_short.setdefault(shortened(url, session.host), url)
@@ -211,21 +212,21 @@ def advised(session, text):
 
 
 def with_advice(session, advice):
-    """The recording with what is advised in each response of these urls."""
+    """Returns the recording with the advised headers in each response of these urls."""
     log = copy.deepcopy(session.recorded.log)
     for i, entry in enumerate(log["entries"]):
-        told = advice.get(session.rows[i].get("url"))
-        if not told or session.rows[i]["verdict"] == "skipped":
+        headers = advice.get(session.rows[i].get("url"))
+        if not headers or session.rows[i]["verdict"] == "skipped":
             continue
-        names = ["cache-control"] + (["etag"] if told[1] else [])
+        names = ["cache-control"] + (["etag"] if headers[1] else [])
         kept = [one for one in entry["response"].get("headers") or [] if str(part(one, "name")).lower() not in names]
-        added = [{"name": "Cache-Control", "value": told[0]}] + ([{"name": "ETag", "value": '"1"'}] if told[1] else [])
+        added = [{"name": "Cache-Control", "value": headers[0]}] + ([{"name": "ETag", "value": '"1"'}] if headers[1] else [])
         entry["response"]["headers"] = kept + added
     return log
 
 
 def plain(session, log):
-    """A recording without the queries that change."""
+    """Returns a recording without the queries that change."""
     log = {**log, "entries": [dict(entry) if isinstance(entry, dict) else entry for entry in log["entries"]]}
     for i, entry in enumerate(log["entries"]):
         base = session.changing.get(session.rows[i].get("url"))
@@ -235,7 +236,7 @@ def plain(session, log):
 
 
 def pick_lines(session, advice, visits, then, costs, costs_then, costs_alone):
-    """The pieces of what to change first, in the order of the bytes."""
+    """Yields the pieces of the lines on what to change first, in the order of the bytes."""
     later = session.later()
     by_visit = not any(not session.recorded.is_first(i) for i in session.recorded.order if session.rows[i]["verdict"] != "skipped")
     for url in advice:
@@ -251,8 +252,9 @@ def pick_lines(session, advice, visits, then, costs, costs_then, costs_alone):
 
 
 def order_of(session, advice, visits):
-    """The urls to change first: at most five of which most bytes are sent again, each at least one in a hundred of all, whose
-    full response is a 200."""
+    """Returns the urls to change first: at most five with the most bytes sent again.
+
+    Each has at least a hundredth of all bytes, and its full response is a 200."""
     later = session.later()
     by_visit = not any(not session.recorded.is_first(i) for i in session.recorded.order if session.rows[i]["verdict"] != "skipped")
     sizes = visits[1][2] if by_visit else {url: both[0] for url, both in later.items()}
@@ -266,7 +268,7 @@ def order_of(session, advice, visits):
 
 
 def guess_pieces(session, visits):
-    """The pieces of the line of the urls that say no lifetime."""
+    """Returns the pieces of the line on urls that state no lifetime."""
     found = {}
     for url in session.urls:
         i = session.sample[url]
@@ -284,7 +286,7 @@ def guess_pieces(session, visits):
 
 
 def act_lines(session, visits, text):
-    """The lines of later visits in the report whose words are other ones than a walk's."""
+    """Returns how many lines of the report on later visits were compared, and the lines that differ from the walks."""
     section = re.search(r"thirty days\n(.*?)  the whole page: ", text, re.S)
     by_short = {shortened(url, session.host): url for url in reversed(session.urls)}
     count, faults = 0, []
@@ -300,7 +302,7 @@ def act_lines(session, visits, text):
 
 
 def query_pieces(session, log, in_full):
-    """The pieces of the lines of changing queries: what the later loads cost with them and without, as advised otherwise."""
+    """Returns the pieces of the lines on changing queries: what later loads save without them, if other advice is taken."""
     cut = plain(session, log)
     rows, rows_cut = session.walked(log), session.walked(cut)
     made = []
@@ -315,7 +317,7 @@ def query_pieces(session, log, in_full):
 
 
 def apart_word(row):
-    """The words for a request that no store is asked for."""
+    """Returns the words for a request that isn't judged."""
     words = {"internal": "redirected by the browser", "preflight": "preflights", "range": "by Range"}
     if row["verdict"] == "skipped":
         return row["reason"]
@@ -323,7 +325,7 @@ def apart_word(row):
 
 
 def apart_lines(session):
-    """The lines of what isn't judged: how many there are of each kind, and their bytes."""
+    """Returns the lines on what isn't judged: how many requests there are of each kind, and their bytes."""
     found = {}
     for i in session.recorded.order:
         row = session.rows[i]
@@ -335,7 +337,7 @@ def apart_lines(session):
 
 
 def hit_pieces(session):
-    """The piece of how many repeated requests need nothing, and what that saves."""
+    """Returns the piece on how many repeated requests need nothing, and what that saves."""
     rows = [session.rows[i] for i in session.asked]
     fresh, repeated = sum(row["verdict"] == FRESH for row in rows), sum(bool(row.get("repeated")) for row in rows)
     saved = sum(row.get("saved") or 0 for row in rows if row["verdict"] == FRESH)
@@ -344,14 +346,14 @@ def hit_pieces(session):
 
 
 def kept(row):
-    """What a cache does with the response of a row, or nothing if it received none."""
+    """Returns what a cache does with the response of a row, or an empty text if it received none."""
     if row.get("received") in ("stored", "updated", "updated other"):
         return f"{duration(row['new_lifetime'])} by {row['by']}"
     return "not stored: " + ", ".join(row["reasons"]) if row.get("received") == "not storable" else ""
 
 
 def both_pieces(session, others):
-    """The pieces of the lines of the urls of which the two kinds of cache store something else, the largest first."""
+    """Returns the pieces of the lines on urls that the two kinds of cache store differently, the largest first."""
     found = []
     for url in session.urls:
         i = session.sample[url]
@@ -363,7 +365,7 @@ def both_pieces(session, others):
 
 
 def order_pieces(session, advice, visits, text):
-    """The pieces of what is in order. What looks wrong is taken from the report."""
+    """Returns the pieces of the lines on what is in order. The urls that look wrong are read from the report."""
     section = re.search(r"\nLOOKS WRONG\n(.*?)\n\n", text + "\n\n", re.S)
     wrong = {line.split()[0] for line in section[1].splitlines()} if section else set()
     wrong_more = bool(section and "more: --lines" in section[1])
@@ -385,7 +387,9 @@ def order_pieces(session, advice, visits, text):
 
 
 def visit_faults(program, recordings):
-    """How many pieces were looked for, and what lacks: of (name, bytes of the recording, words, rows of another audit)."""
+    """Returns how many lines were checked, and the faults.
+
+    A recording is its name, its bytes, the words of the command line, and the rows of another audit."""
     count, faults = 0, []
     recordings = list(recordings)
     walks = {(name.split(".")[0], tuple(words)): {row["i"]: row for row in rows} for name, _, words, rows in recordings}
@@ -400,7 +404,7 @@ def visit_faults(program, recordings):
         visits = [session.visit(log, delay, session.in_full) for delay in DELAYS]
         advice = advised(session, text)
         changed = with_advice(session, advice)
-        still = session.in_full - {url for url, told in advice.items() if told[2]}
+        still = session.in_full - {url for url, headers in advice.items() if headers[2]}
         then = [session.visit(changed, delay, still) for delay in DELAYS]
         rows_now, rows_then = session.walked(log), session.walked(changed)
         costs = session.url_costs(rows_now, entries, session.in_full)
@@ -416,7 +420,7 @@ def visit_faults(program, recordings):
         count += len(wanted) + 1
         faults += [(name, pieces) for pieces in wanted if not any(all(piece in line for piece in pieces) for line in lines)]
         faults += [(name, list(advice))] if list(advice) != order_of(session, advice, visits) else []
-        told, wrong = act_lines(session, visits, text)
-        count += told
+        checked, wrong = act_lines(session, visits, text)
+        count += checked
         faults += [(name, *one) for one in wrong]
     return count, faults

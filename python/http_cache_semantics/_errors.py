@@ -1,25 +1,25 @@
-"""Exceptions. Out of memory is `MemoryError`."""
+"""The exceptions of the package. If memory runs out, `MemoryError` is raised."""
 
 
 class Refused(ValueError):
-    """The library has no result for these arguments; nothing has changed."""
+    """Raised if the library has no result for the arguments. Nothing has changed."""
 
 
 class Malformed(Refused):
-    """A message or a stored form can't be read."""
+    """Raised if a message or a stored form can't be read."""
 
 
 class HeaderMapFull(Refused):
-    """A message has more fields than the library holds: pass it on, and don't store it."""
+    """Raised if a message has more fields than the library can hold: forward it, and don't store it."""
 
 
 class DateNotPrintable(Refused):
-    """The time is before 1900."""
+    """Raised if a Date would be before 1900."""
 
 
 class BadArgument(Refused):
-    """An option or a time is out of range."""
+    """Raised if an option or a time is out of range."""
 
 
 class LibraryNotFound(ImportError):
-    """The shared library can't be loaded."""
+    """Raised if the shared library can't be loaded."""

@@ -1,4 +1,4 @@
-"""The frames of `cacheserve` (docs/PROTOCOL.md): lines as they are written, and what replies say."""
+"""Writes the frames of `cacheserve` (docs/PROTOCOL.md), and reads the outcomes from its replies."""
 from __future__ import annotations
 
 import json
@@ -7,32 +7,32 @@ from dataclasses import dataclass
 from typing import Any, Dict, NamedTuple, NoReturn, Optional, Tuple, Union
 
 PROTOCOL = 1
-# The status of a process whose file can't be opened.
+# The exit status of a process whose file can't be opened.
 _FILE_NOT_OPENED = 6
 
 
 class CacheError(Exception):
-    """The process refuses a frame; nothing that is stored or under way has changed."""
+    """Raised if the process refuses a frame. Nothing that is stored or under way has changed."""
 
 
 class NoResponse(CacheError):
-    """The origin server sent no response, and nothing that is stored may be used instead."""
+    """Raised if the origin server sent no response, and no stored response may be used instead."""
 
 
 class CacheGone(CacheError):
-    """The process has ended. What it was asked has no reply, and its requests under way are lost."""
+    """Raised if the process has ended. Frames that it hasn't answered get no reply, and its requests under way are lost."""
 
 
 class StoreNotOpened(CacheGone):
-    """The process can't open its file, which another process may be using."""
+    """Raised if the process can't open its file, which another process may be using."""
 
 
 @dataclass(frozen=True)
 class Send:
-    """A request to send to the origin server. What comes of it is handed over by `received` or `failed`.
+    """A request to send to the origin server. The caller reports its outcome by `received` or `failed`.
 
-    With `rest` its body is the one that the caller has kept. `life` is the process that the token is of: the next one gives
-    the same numbers again.
+    With `rest` its body is the one that the caller has kept. `life` is the number of the process that chose the token, since
+    the next process uses the same tokens again.
     """
 
     token: int
@@ -44,9 +44,9 @@ class Send:
 
 @dataclass(frozen=True)
 class Answer:
-    """The response to a request. `due` is a request to send meanwhile; its response gets a `Done`.
+    """The response to a request. `due` is a request to send meanwhile; the reply to its response is a `Done`.
 
-    With `rest` its body is that of the received response, which the caller has kept.
+    With `rest` its body is the body of the received response, which the caller has kept.
     """
 
     head: bytes
@@ -57,7 +57,7 @@ class Answer:
 
 @dataclass(frozen=True)
 class Done:
-    """What was sent after an answer is over."""
+    """The reply to the response to a request that was sent after an answer: nothing is left to do."""
 
 
 Outcome = Union[Answer, Send, Done]
@@ -75,7 +75,7 @@ class Frame(NamedTuple):
 
 
 def now_ms() -> int:
-    """Returns the time as frames have it: milliseconds since 1970."""
+    """Returns the current time as frames have it, in milliseconds since 1970."""
     return time.time_ns() // 1_000_000
 
 
@@ -110,7 +110,7 @@ def failed_line(token: int, why: str, at: Optional[int]) -> Dict[str, Any]:
 
 
 def outcome_of(life: int, frame: Frame) -> Outcome:
-    """What a reply says of a request."""
+    """Returns the outcome of a request from a reply. Raises `CacheError` if the process refuses the frame."""
     line = frame.line
     if "answer" in line:
         due = Send(line["token"], frame.request, b"", False, life) if frame.request else None
@@ -123,7 +123,7 @@ def outcome_of(life: int, frame: Frame) -> Outcome:
 
 
 def _refused(line: Dict[str, Any]) -> NoReturn:
-    why = line.get("error", f"a reply of another kind: {line}")
+    why = line.get("error", f"cacheserve wrote a reply of an unknown kind: {line}")
     raise NoResponse(why) if why == "no response" else CacheError(why)
 
 
@@ -138,7 +138,7 @@ def check_protocol(line: Dict[str, Any]) -> None:
         raise CacheError(f"the process speaks protocol {line.get('protocol')}, not {PROTOCOL}")
 
 
-def gone(status: Optional[int], said: bytes) -> CacheGone:
-    """The exception for a process that has ended, with what it wrote on standard error."""
-    text = said.decode(errors="replace").strip() or f"cacheserve has ended with status {status}"
+def gone(status: Optional[int], stderr: bytes) -> CacheGone:
+    """Returns the exception for a process that has ended, with what it wrote on standard error."""
+    text = stderr.decode(errors="replace").strip() or f"cacheserve has ended with status {status}"
     return StoreNotOpened(text) if status == _FILE_NOT_OPENED else CacheGone(text)

@@ -1,7 +1,7 @@
-"""The calls of the shared library, by ctypes, as c/http_cache_semantics.h declares them.
+"""Calls the shared library by ctypes, as c/http_cache_semantics.h declares its functions.
 
-The library is the file that the environment variable HTTP_CACHE_SEMANTICS_LIBRARY names, else the one beside this
-package, else the one in out/c of the repository, else the one that the system's loader finds."""
+If the environment variable HTTP_CACHE_SEMANTICS_LIBRARY names a file, that file is loaded. Otherwise the first file that is
+found is loaded: beside this package, in out/c of the repository, or by the system's loader."""
 from __future__ import annotations
 
 import ctypes
@@ -88,7 +88,10 @@ def _files() -> List[str]:
 
 @lru_cache(maxsize=None)
 def library() -> ctypes.CDLL:
-    """The shared library, loaded by the first call, so that `process` and `proxy` do without it. Raises `LibraryNotFound`."""
+    """Returns the shared library. Raises `LibraryNotFound`.
+
+    The first call loads it, so that the modules `process` and `proxy` work without it.
+    """
     file = _files()[0]
     try:
         loaded = ctypes.CDLL(file)
@@ -96,7 +99,7 @@ def library() -> ctypes.CDLL:
         raise LibraryNotFound(f"{file} can't be loaded: {e}; bin/library builds it") from e
     for name, arguments in _ARGUMENTS.items():
         if not hasattr(loaded, name):
-            raise LibraryNotFound(f"{file} has no {name}: it is of another version")
+            raise LibraryNotFound(f"{file} has no {name}: its version differs from this package's; bin/library builds it")
         getattr(loaded, name).argtypes = arguments
         getattr(loaded, name).restype = c_int32
     loaded.hcs_version.argtypes = []
@@ -111,7 +114,7 @@ def library_version() -> Tuple[int, int, int]:
 
 
 def checked(code: int) -> int:
-    """The code of a call, where it is no error."""
+    """Returns the result code of a call, or raises its error."""
     if code < 0:
         kind, why = _ERRORS[code]
         raise kind(why)
@@ -141,7 +144,7 @@ class Buffer:
 
 
 def filled(call: Callable[..., int], buffers: List[Buffer]) -> Tuple[int, List[bytes]]:
-    """The code and the results of a call, which is made again with buffers that suffice where they don't."""
+    """Returns the code and the results of a call. If the buffers are too short, calls again with longer ones."""
     while True:
         code = call(*(it for buffer in buffers for it in buffer.arguments()))
         if code != _TOO_SMALL:

@@ -10,13 +10,13 @@ from ._errors import Malformed
 Value = Union[str, bytes, int]
 Headers = Union[Mapping[str, Union[Value, Sequence[Value]]], Iterable[Tuple[str, Value]]]
 
-# One of these would end a line early, so that a value could begin a field of its own.
+# Each of these would end a line early, so a value could begin another field (RFC 9110, section 5.5).
 _LINE_ENDS = "\r\n\0"
 _WORD_ENDS = re.compile(r"[\x00-\x20\x7f]")
 
 
 def _text(value: Value) -> str:
-    """The bytes of a value, each as the character of its number (ISO 8859-1, as in http.client)."""
+    """Returns a value as text. Bytes are decoded as ISO 8859-1, as in http.client."""
     return value.decode("latin-1") if isinstance(value, bytes) else str(value)
 
 
@@ -46,7 +46,7 @@ class _Message:
         lines = [f"{name}: {value}" for name, value in self.headers]
         names = "".join([name for name, _ in self.headers])
         if ":" in names or any(end in "".join(lines) for end in _LINE_ENDS):
-            raise Malformed(f"a field can't be sent as it is, among {self.headers}")
+            raise Malformed(f"a field name has a colon, or a field has CR, LF or NUL, among {self.headers}")
         return _encoded("\r\n".join([first_line, *lines, "\r\n"]))
 
 
@@ -54,7 +54,7 @@ def _encoded(text: str) -> bytes:
     try:
         return text.encode("latin-1")
     except UnicodeEncodeError as e:
-        raise Malformed(f"{e.object[e.start]!r} is no byte: pass UTF-8 as bytes") from None
+        raise Malformed(f"{e.object[e.start]!r} is not in ISO 8859-1: pass UTF-8 as bytes") from None
 
 
 @dataclass(frozen=True)
@@ -74,7 +74,7 @@ class Request(_Message):
         """Returns the head of the HTTP/1.1 message."""
         for word in (self.method, self.target):
             if not word or _WORD_ENDS.search(word):
-                raise Malformed(f"no word of a request line: {word!r}")
+                raise Malformed(f"the method or the target is empty, or has a space or a control character: {word!r}")
         return self._head(f"{self.method} {self.target} HTTP/1.1")
 
 
@@ -99,14 +99,14 @@ def _lines(head: bytes) -> Tuple[str, Tuple[Tuple[str, str], ...]]:
 
 
 def request_from(head: bytes) -> Request:
-    """The request of a head that the library wrote."""
+    """Returns the request whose head the library wrote."""
     first, headers = _lines(head)
     method, target, _ = first.split(" ")
     return Request(method, target, headers)
 
 
 def response_from(head: bytes) -> Response:
-    """The response of a head that the library wrote."""
+    """Returns the response whose head the library wrote."""
     first, headers = _lines(head)
     return Response(int(first.split(" ")[1]), headers)
 

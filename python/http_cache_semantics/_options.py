@@ -1,4 +1,4 @@
-"""Options of a cache, and times."""
+"""The options of a cache, and times, as the shared library reads them."""
 from __future__ import annotations
 
 import datetime
@@ -19,7 +19,7 @@ Seconds = Union[int, float, Decimal, Fraction, datetime.timedelta]
 _NANOSECONDS = 1_000_000_000
 _EPOCH = datetime.datetime(1970, 1, 1, tzinfo=datetime.timezone.utc)
 _FORMS = {"compact": 0, "json": 1}
-# Drawn once per process: nobody who sends field names can find out which of them collide.
+# They are drawn once per process, so that no sender of field names can find out which names collide.
 _SECRETS = (secrets.randbits(64), secrets.randbits(64))
 
 
@@ -29,7 +29,7 @@ def _nanoseconds(seconds: Union[int, float, Decimal, Fraction]) -> int:
     try:
         return math.floor(Fraction(seconds) * _NANOSECONDS)
     except (OverflowError, ValueError) as e:
-        raise BadArgument(f"no time: {seconds}") from e
+        raise BadArgument(f"neither a time nor a duration: {seconds}") from e
 
 
 def _of_delta(delta: datetime.timedelta) -> int:
@@ -47,17 +47,17 @@ def _since_1970(at: Optional[Time]) -> int:
 
 
 def time_struct(at: Optional[Time]) -> TimeStruct:
-    """A time for the library; without one, the time of the call."""
+    """Returns a time as the library's struct. None is the time of the call."""
     seconds, nanoseconds = divmod(_since_1970(at), _NANOSECONDS)
     if not -(2**63) <= seconds < 2**63:
-        raise BadArgument(f"no time: {at}")
+        raise BadArgument(f"the time is out of range: {at}")
     return TimeStruct(seconds, nanoseconds)
 
 
 def _parts(seconds: Seconds) -> Tuple[int, int]:
     nanoseconds = _of_delta(seconds) if isinstance(seconds, datetime.timedelta) else _nanoseconds(seconds)
     if not 0 <= nanoseconds < 2**64 * _NANOSECONDS:
-        raise BadArgument(f"no duration: {seconds}")
+        raise BadArgument(f"the duration is out of range: {seconds}")
     return divmod(nanoseconds, _NANOSECONDS)
 
 
@@ -66,8 +66,8 @@ class CacheOptions:
     """How a cache behaves.
 
     `shared`: whether it serves more than one user.
-    `heuristic`: the part of the time from Last-Modified to Date that is the lifetime where none is stated.
-    `immutable_min_time_to_live`: the least lifetime of a response with `immutable` and no other, in seconds.
+    `heuristic`: the fraction of the time from Last-Modified to Date that is the lifetime of a response that states none.
+    `immutable_min_time_to_live`: the least lifetime in seconds of a response with `immutable` and no stated lifetime.
     `ignore_cargo_cult`: whether a response with `pre-check` and `post-check` loses its `no-cache` and `no-store`.
     `form`: stored forms are written as `compact` bytes or as `json`; both are read."""
 
@@ -80,9 +80,9 @@ class CacheOptions:
     def _struct(self) -> CacheStruct:
         ratio = Fraction(*self.heuristic) if isinstance(self.heuristic, tuple) else Fraction(self.heuristic)
         if self.form not in _FORMS:
-            raise BadArgument(f"no stored form: {self.form!r}")
+            raise BadArgument(f"form is neither compact nor json: {self.form!r}")
         if not (0 <= ratio.numerator < 2**32 and ratio.denominator < 2**32):
-            raise BadArgument(f"no heuristic: {self.heuristic}")
+            raise BadArgument(f"heuristic is out of range: {self.heuristic}")
         seconds, nanoseconds = _parts(self.immutable_min_time_to_live)
         return CacheStruct(
             *_SECRETS, seconds, nanoseconds, ratio.numerator, ratio.denominator,

@@ -13,12 +13,12 @@ RequestLike = Union[Request, Tuple[str, str, Headers]]
 ResponseLike = Union[Response, Tuple[int, Headers]]
 
 _NANOSECONDS = 1_000_000_000
-# More than most results take, so that a call is seldom made again.
+# Most results are shorter, so a call is seldom repeated with a longer buffer.
 _USUAL_SIZE = 4096
 _FRESH, _VALIDATE, _NO_MATCH = range(3)
 _NOT_MODIFIED = 0
 
-# The words for each value of enum hcs_permission, from 1, for each bit of enum hcs_obstacle, and for each value of enum
+# The words for the values of enum hcs_permission from 1, for the bits of enum hcs_obstacle, and for the values of enum
 # hcs_source.
 _PERMISSIONS = ("Expires", "max-age", "s-maxage", "public", "status")
 _OBSTACLES = (
@@ -49,17 +49,17 @@ _SOURCES = (
 
 @dataclass(frozen=True)
 class Fresh:
-    """Send the stored body under the head `response`."""
+    """The stored response answers the request: send the stored body under the head `response`."""
 
     response: Response
 
 
 @dataclass(frozen=True)
 class Stale:
-    """Send `request` to the origin server.
+    """The stored response may not be sent yet: send `request` to the origin server.
 
-    Where `matches` is true, it validates the stored response: hand what is received to `after_response`. Else what is
-    stored doesn't answer the request: `request` is the one that was asked, and what is received gets its own policy."""
+    If `matches` is true, it validates the stored response: pass the received response to `after_response`. Else the stored
+    response is not for the client's request, which `request` then is, and the received response gets its own policy."""
 
     request: Request
     matches: bool
@@ -67,7 +67,7 @@ class Stale:
 
 @dataclass(frozen=True)
 class NotModified:
-    """Keep the stored body under `policy`, and send it under the head `response`."""
+    """The stored response is still valid: keep its body under `policy`, and send it under the head `response`."""
 
     policy: "CachePolicy"
     response: Response
@@ -75,21 +75,21 @@ class NotModified:
 
 @dataclass(frozen=True)
 class Modified:
-    """The received body replaces the stored one, to be stored if `policy.is_storable()`; `response` is its head."""
+    """The received response replaces the stored one. `response` is its head; store its body if `policy.is_storable()`."""
 
     policy: "CachePolicy"
     response: Response
 
 
 class Storability(NamedTuple):
-    """Whether a response may be stored (RFC 7234, section 3), and what allows that or all that forbids it."""
+    """Whether a response may be stored (RFC 7234, section 3), and what allows it, or all that forbids it."""
 
     storable: bool
     reasons: Tuple[str, ...]
 
 
 class Freshness(NamedTuple):
-    """A freshness lifetime in seconds (RFC 7234, section 4.2.1), and what it comes from."""
+    """A freshness lifetime in seconds (RFC 7234, section 4.2.1), and what decides it."""
 
     lifetime: float
     source: str
@@ -125,11 +125,11 @@ def _decision(code: int, head: bytes, asked: Request) -> Union[Fresh, Stale]:
 class CachePolicy:
     """The policy of a response: whether it may be stored, how long it stays fresh, and which requests it answers.
 
-    `request` is the request that was sent, `response` what was received for it, `received` when. Messages are `Request`
-    and `Response`, or tuples of their members.
+    `request` is the request that was sent, `response` is the received response, and `received` is the time of its receipt.
+    Messages are `Request` and `Response`, or tuples of their members.
 
-    Raises `Malformed` if a message isn't one, `HeaderMapFull` if it has too many fields, `BadArgument` if an option or
-    a time is out of range, and `MemoryError`, as does every call that takes such arguments."""
+    Raises `Malformed` if a message can't be sent, and `HeaderMapFull` if it has too many fields. Raises `BadArgument` if an
+    option or a time is out of range, and `MemoryError`. Every call that has such arguments raises these errors."""
 
     __slots__ = ("_form", "_options", "_struct")
 
@@ -150,7 +150,7 @@ class CachePolicy:
         """Returns the policy of a stored form.
 
         Raises `Malformed` if the bytes are no stored form: then forget the response. The form has the options of its
-        policy; of `options` only `form` counts, for what is stored later."""
+        policy. Of `options` only `form` is used, for later stored forms."""
         policy = cls.__new__(cls)
         policy._options, policy._struct, policy._form = options, options._struct(), bytes(form)
         policy.storability()
@@ -178,7 +178,7 @@ class CachePolicy:
         return self.storability().storable
 
     def storability(self) -> Storability:
-        """Returns whether the response may be stored, with what allows that or all that forbids it."""
+        """Returns whether the response may be stored, and what allows it, or all that forbids it."""
         bits = c_uint32()
         permission = called("hcs_storability", *_sized(self._form), byref(bits))
         if permission:
@@ -186,7 +186,7 @@ class CachePolicy:
         return Storability(False, tuple(words for i, words in enumerate(_OBSTACLES) if bits.value >> i & 1))
 
     def freshness(self) -> Freshness:
-        """Returns the freshness lifetime, and what it comes from (RFC 7234, section 4.2.1)."""
+        """Returns the freshness lifetime, and what decides it (RFC 7234, section 4.2.1)."""
         lifetime = DurationStruct()
         source = called("hcs_freshness", *_sized(self._form), byref(lifetime))
         return Freshness(lifetime.in_nanoseconds() / _NANOSECONDS, _SOURCES[source])
@@ -200,31 +200,31 @@ class CachePolicy:
         return self._duration("hcs_age", now)
 
     def time_to_live(self, now: Optional[Time] = None) -> float:
-        """Returns for how many seconds the response stays fresh; 0.0 if it is stale."""
+        """Returns for how many seconds the response stays fresh, or 0.0 if it is stale."""
         return self.time_to_live_ns(now) / _NANOSECONDS
 
     def time_to_live_ns(self, now: Optional[Time] = None) -> int:
-        """Returns for how many nanoseconds the response stays fresh."""
+        """Returns for how many nanoseconds the response stays fresh, or 0 if it is stale."""
         return self._duration("hcs_time_to_live", now)
 
     def is_stale(self, now: Optional[Time] = None) -> bool:
-        """Returns whether no time to live is left."""
+        """Returns whether the response is stale."""
         return self.time_to_live_ns(now) == 0
 
     def before_request(self, request: RequestLike, now: Optional[Time] = None) -> Union[Fresh, Stale]:
-        """Returns what to do with a request: send what is stored, or a request (RFC 7234, section 4).
+        """Returns what to do with a request: send the stored response, or send a request (RFC 7234, section 4).
 
-        Raises `DateNotPrintable` if `now` is before 1900, besides what the constructor raises."""
+        Raises `DateNotPrintable` if `now` is before 1900, and what the constructor raises."""
         asked = request_of(request)
         return _decision(*self._filled("hcs_before", *_sized(asked.head()), time_struct(now)), asked)
 
     def after_response(
         self, request: RequestLike, response: ResponseLike, now: Optional[Time] = None
     ) -> Union[NotModified, Modified]:
-        """Returns what the response to a validating request means (RFC 7234, section 4.3.3).
+        """Returns what to store and send after the response to a validating request (RFC 7234, section 4.3.3).
 
-        `request` is the client's, for which `before_request` returned a `Stale` that matches. A `Modified` of a 304
-        means that the 304 selects another response: send the request again without its conditions."""
+        `request` is the client's request, for which `before_request` returned a `Stale` that matches. If a 304 yields
+        `Modified`, it selects another response: send the request again without its conditions."""
         heads = _sized(request_of(request).head()) + _sized(response_of(response).head())
         arguments = (*self._given(), *heads, time_struct(now))
         buffers = [Buffer(_USUAL_SIZE), Buffer(_USUAL_SIZE)]
@@ -240,26 +240,29 @@ class CachePolicy:
         return called("hcs_fresh_at", *self._given(), *_sized(request_of(request).head()), time_struct(now)) == 1
 
     def explain(self, request: RequestLike, name: str, now: Optional[Time] = None) -> str:
-        """Returns why the request would be answered or not, as a member of Cache-Status for the cache of that name
-        (RFC 9211), such as `ExampleCache; hit; ttl=7`."""
+        """Returns why the stored response answers the request or doesn't, as a member of Cache-Status (RFC 9211).
+
+        `name` is the name of the cache. A member is such as `ExampleCache; hit; ttl=7`."""
         arguments = (*_sized(request_of(request).head()), time_struct(now), *_sized(name.encode()))
         return self._filled("hcs_explain", *arguments)[1].decode()
 
     def stale_use(self, request: RequestLike, now: Optional[Time] = None) -> StaleUse:
-        """Returns which uses of the stale response are allowed: while it is validated, and after an error of the
-        origin server (RFC 5861, sections 3 and 4)."""
+        """Returns which uses of the stale response are allowed (RFC 5861, sections 3 and 4).
+
+        They are the use while it is validated, and the use after an error of the origin server."""
         bits = called("hcs_stale_use", *self._given(), *_sized(request_of(request).head()), time_struct(now))
         return StaleUse(bool(bits & 1), bool(bits & 2))
 
     def response_at(self, now: Optional[Time] = None) -> Response:
-        """Returns the head under which the stored body may be sent at that time, fresh or not: every field line that
-        may be sent on, and Age (RFC 9111, section 5.1)."""
+        """Returns the head under which the stored body may be sent at `now`, fresh or stale.
+
+        It has every field line that may be forwarded, and Age (RFC 9111, section 5.1)."""
         arguments = (*_sized(self._form), time_struct(now))
         _, [head] = filled(lambda *out: library().hcs_response_at(*arguments, *out), [Buffer(_USUAL_SIZE)])
         return response_from(head)
 
     def is_not_modified_for(self, request: RequestLike) -> bool:
-        """Returns whether a 304 answers the request's own conditions (RFC 9110, section 13.2.2)."""
+        """Returns whether a 304 answers the preconditions of the request (RFC 9110, section 13.2.2)."""
         return called("hcs_is_not_modified_for", *self._given(), *_sized(request_of(request).head())) == 1
 
     def is_confirmed_by(self, response: ResponseLike) -> bool:
@@ -281,10 +284,10 @@ class CachePolicy:
 
 
 def choose(policies: Sequence[CachePolicy], request: RequestLike, now: Optional[Time] = None) -> Optional[Choice]:
-    """Returns which of several stored responses is used for a request: the first that is fresh, else the first that is a
-    response to the request, which has to be validated, else None (RFC 7234, sections 4 and 4.1).
+    """Returns which of several stored responses is used for a request (RFC 7234, sections 4 and 4.1).
 
-    Raises what `before_request` does."""
+    It is the first fresh response to the request, else the first response to it, which has to be validated, else None. Raises
+    what `before_request` raises."""
     asked, forms = request_of(request), [policy.to_bytes() for policy in policies]
     struct, index = CacheOptions()._struct(), c_size_t()
     lengths = (c_size_t * len(forms))(*map(len, forms))
@@ -302,11 +305,12 @@ def _made(name: str, *heads: bytes) -> Response:
 
 
 def joined(response: ResponseLike) -> Response:
-    """Returns the response with one line for each field name (RFC 9110, section 5.3). A policy sends the last line of
-    each field, so a cache that keeps all of them joins them before it makes the policy."""
+    """Returns the response with one field line for each name (RFC 9110, section 5.3).
+
+    A policy sends only the last line of each field. A cache that keeps all lines joins them before it makes the policy."""
     return _made("hcs_joined", response_of(response).head())
 
 
 def updated(stored: ResponseLike, received: ResponseLike) -> Response:
-    """Returns the stored response with the fields of a received 304 in place of its own (RFC 9111, section 3.2)."""
+    """Returns the stored response updated with the fields of a received 304 (RFC 9111, section 3.2)."""
     return _made("hcs_updated", response_of(stored).head(), response_of(received).head())

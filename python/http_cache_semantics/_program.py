@@ -1,4 +1,4 @@
-"""The program `cacheserve`: where it is, and the words that it is started with."""
+"""Finds the program `cacheserve`, and returns the command that starts it."""
 from __future__ import annotations
 
 import os
@@ -14,15 +14,15 @@ _ROOT = Path(__file__).resolve().parent.parent.parent
 
 
 class ProgramNotFound(CacheError):
-    """There is no program `cacheserve`."""
+    """Raised if the program `cacheserve` isn't found or can't be started."""
 
 
 @dataclass(frozen=True)
 class ProcessOptions:
-    """How the process works. What is None is as `cacheserve` has it; docs/PROTOCOL.md and its README have the words.
+    """The options of the process, which docs/PROTOCOL.md and the README of `cacheserve` explain. None is its default.
 
-    `program` is the path of `cacheserve`. By default it is the one that the environment variable CACHESERVE names, else the
-    one beside this package, else the proved one of this repository, else the one on PATH.
+    `program` is the path of `cacheserve`. By default it is the value of the environment variable CACHESERVE. If that isn't set,
+    it is the first that is found: beside this package, the proved one of this repository, or the one on PATH.
     """
 
     program: Optional[str] = None

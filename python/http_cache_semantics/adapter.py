@@ -3,8 +3,8 @@
     session = requests.Session()
     session.mount("https://", CacheAdapter("cache.db"))
 
-The process `cacheserve --private` decides what is stored and what may be used again; the adapter sends what it asks for. If the
-process can't be used, requests are sent without it, and the logger `http_cache_semantics` says so.
+The process `cacheserve --private` decides what is stored and what may be used again, and the adapter sends its requests. If the
+process can't be used, requests are sent without it, and the logger `http_cache_semantics` warns.
 """
 from __future__ import annotations
 
@@ -27,11 +27,11 @@ from urllib3.exceptions import HTTPError
 
 from .process import Answer, Cache, CacheError, Outcome, ProcessOptions, Rest, Send, now_ms
 
-# A longer body isn't given to the process, but passed on while it is read.
+# A longer body isn't passed to the process, but streamed to the caller.
 _LONGEST_STORED = 8_388_608
 _PIECE = 65_536
 _SAFE = ("GET", "HEAD", "OPTIONS", "TRACE")
-# The fields that say how long a message is on its connection.
+# These fields frame a message on its connection.
 _LENGTHS = ("content-length", "transfer-encoding")
 _log = logging.getLogger("http_cache_semantics")
 
@@ -39,7 +39,7 @@ _log = logging.getLogger("http_cache_semantics")
 class CacheAdapter(HTTPAdapter):
     """An adapter of `requests` with a private cache, which sessions and threads may share.
 
-    Each response has `from_cache`: whether it is a stored one, validated or not.
+    Each response has `from_cache`: whether it is a stored response, validated or not.
     """
 
     def __init__(
@@ -48,10 +48,10 @@ class CacheAdapter(HTTPAdapter):
         process: ProcessOptions = ProcessOptions(private=True, name="requests"),
         **options: Any,
     ) -> None:
-        """Starts the process. With a file, what is stored outlives it.
+        """Starts the process. With a file, stored responses outlive it.
 
-        `options` are those of `HTTPAdapter`. Raises `ProgramNotFound`, or `StoreNotOpened` if the file can't be opened, as
-        while another process uses it.
+        `options` are the options of `HTTPAdapter`. Raises `ProgramNotFound`, or `StoreNotOpened` if the file can't be opened,
+        such as while another process uses it.
         """
         super().__init__(**options)
         self.cache = Cache(replace(process, file=file or process.file))
@@ -66,7 +66,7 @@ class CacheAdapter(HTTPAdapter):
         cert: Any = None,
         proxies: Any = None,
     ) -> Response:
-        """Returns the response to a request: a stored one, or the origin server's. Raises what `HTTPAdapter` raises."""
+        """Returns a stored response or the origin server's. Raises what `HTTPAdapter` raises."""
         how = {"timeout": timeout, "verify": verify, "cert": cert, "proxies": proxies}
         try:
             found: Union[Outcome, _Received] = self.cache.ask(_head_of(request), rest=True if request.body else None)
@@ -84,24 +84,24 @@ class CacheAdapter(HTTPAdapter):
         return self._response(request, found, received)
 
     def remove(self, url: str) -> int:
-        """Removes what is stored for a URL. Returns how many responses."""
+        """Removes what is stored for a URL. Returns how many responses it removes."""
         return self.cache.remove(url)
 
     def clear(self) -> None:
-        """Removes all that is stored, and the file."""
+        """Removes all stored responses, and the file."""
         self.cache.clear()
 
     def close(self) -> None:
-        """Ends the process and the connections. A later request starts them anew."""
+        """Ends the process and the connections. A later request starts them again."""
         super().close()  # type: ignore[no-untyped-call]
         self.cache.close()
 
     def _sent(
         self, send: Send, request: PreparedRequest, how: Dict[str, Any]
     ) -> Tuple[Union[Outcome, _Received], Optional[_Received]]:
-        """What the process says of the outcome of a `Send`, and the response.
+        """Sends a request, and returns what the process decides after it, and the response.
 
-        The outcome is the response if that was received and can't be given to the process.
+        If the process can't be used for the response, the response itself is returned in place of the decision.
         """
         try:
             received = self._fetched(_as_sent(request, send), how)
@@ -121,13 +121,13 @@ class CacheAdapter(HTTPAdapter):
             with contextlib.suppress(CacheError):
                 self.cache.failed(send, "invalid")
             if received.reply.status == 304:
-                # It may confirm what only the process knows.
+                # The 304 may be for a stored response, which only the process has.
                 raise
             return received, received
         return found, received
 
     def _fetched(self, request: PreparedRequest, how: Dict[str, Any]) -> _Received:
-        """Sends a request, and reads the response as far as the process is given it."""
+        """Sends a request, and reads the response, but of a long body only the start."""
         sent = now_ms()
         reply = super().send(request, stream=True, **how).raw
         received = _Received(reply, b"", None, sent, now_ms())
@@ -152,7 +152,7 @@ class CacheAdapter(HTTPAdapter):
                     received.reply.close()
 
     def _uncached(self, request: PreparedRequest, received: _Received) -> Response:
-        """A response of which the process doesn't know. After an unsafe request it removes what it stores for the target."""
+        """Returns a response that the process hasn't seen. After an unsafe request, removes what is stored for the target."""
         if request.method not in _SAFE:
             try:
                 self.cache.remove(request.url or "")
@@ -174,7 +174,7 @@ class CacheAdapter(HTTPAdapter):
             reason=REASONS.get(status, ""),
             preload_content=False,
             request_method=request.method,
-            # Cookies are taken from this, so they are only what the origin server has just sent.
+            # `requests` reads cookies from this, so only cookies that the origin server has just sent are set.
             original_response=received.reply._original_response if received else None,
         )
         response: Response = self.build_response(request, reply)  # type: ignore[no-untyped-call]
@@ -186,7 +186,7 @@ class CacheAdapter(HTTPAdapter):
 
 @dataclass(frozen=True)
 class _Received:
-    """A response of the origin server, and its body as far as it was read; with `rest` there is more."""
+    """A response of the origin server, and its body as far as it was read. With `rest` there is more of it."""
 
     reply: Any
     start: bytes
@@ -195,14 +195,14 @@ class _Received:
     at: int
 
     def head(self) -> bytes:
-        """The head, with the length of the body out of its chunks."""
+        """Returns the head without Transfer-Encoding, since the body isn't in chunks any more."""
         fields = [field for field in self.reply.headers.iteritems() if field[0].lower() not in _LENGTHS]
         fields += [("Content-Length", value) for value in set(self.reply.headers.getlist("content-length"))]
         return _head(f"HTTP/1.1 {self.reply.status} ", fields)
 
 
 class _Joined(io.RawIOBase):
-    """The whole body of a response that is read in pieces."""
+    """The whole body of a response: the start that was read, and the rest that is still to be read."""
 
     def __init__(self, received: _Received) -> None:
         self._start, self._reply = received.start, received.reply
@@ -238,7 +238,7 @@ def _fields_of(head: bytes) -> List[Tuple[str, str]]:
 
 
 def _head_of(request: PreparedRequest) -> bytes:
-    """The head of a request, with its whole URL as the target."""
+    """Returns the head of a request, with its whole URL as the target."""
     url = urlsplit(request.url or "")
     host = _text(request.headers.get("host") or url.netloc.rpartition("@")[2])
     path = (request.url or "").split("#")[0].partition("://")[2].partition("/")[2]
@@ -247,7 +247,7 @@ def _head_of(request: PreparedRequest) -> bytes:
 
 
 def _as_sent(request: PreparedRequest, send: Send) -> PreparedRequest:
-    """The request that the process asks for."""
+    """Returns the request as the process wants it sent."""
     copy = request.copy()
     copy.method = send.head.split(b" ", 1)[0].decode("latin-1")
     copy.body = request.body if send.rest else send.body or None

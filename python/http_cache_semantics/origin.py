@@ -1,4 +1,4 @@
-"""Requests to an origin server, on connections that are kept."""
+"""Sends requests to an origin server, on persistent connections."""
 from __future__ import annotations
 
 import asyncio
@@ -13,7 +13,7 @@ _IDEMPOTENT = (b"GET", b"HEAD", b"PUT", b"DELETE", b"OPTIONS", b"TRACE")
 
 @dataclass(frozen=True)
 class Origin:
-    """Where the origin server is, how many seconds it has, and how many idle connections to it are kept."""
+    """The address of the origin server, its time limits in seconds, and how many idle connections to it are kept."""
 
     host: str
     port: int
@@ -25,7 +25,7 @@ class Origin:
 
 @dataclass
 class Received:
-    """A response, and its body as far as it was read; with `rest` there is more."""
+    """A response, and its body as far as it was read. With `rest` there is more of it."""
 
     head: Head
     body: bytes
@@ -37,7 +37,7 @@ class Received:
 
 
 class OriginServer:
-    """Sends requests to the origin server, on connections that are kept."""
+    """Sends requests to the origin server, on persistent connections."""
 
     def __init__(self, origin: Origin, limits: WireLimits, longest_stored: int) -> None:
         self.origin, self.limits, self.longest_stored = origin, limits, longest_stored
@@ -49,20 +49,20 @@ class OriginServer:
         return Peer(*await asyncio.wait_for(opening, self.origin.connect), self.limits)
 
     async def _final_head(self, peer: Peer, client: Optional[Peer]) -> Head:
-        """Reads the head of the final response, and passes interim ones on."""
+        """Reads the head of the final response, and forwards interim responses to the client."""
         while True:
             head = await peer.head()
             if head is None:
-                raise ConnectionResetError("no response")
+                raise ConnectionResetError("the origin server closed the connection without a response")
             if not head.status or head.status == 101:
-                raise BadMessage(502, "no final status")
+                raise BadMessage(502, "the origin server's response has no final status")
             if head.status >= 200:
                 return head
             if client and head.status != 100:
                 client.writer.write(head.raw)
 
     async def _exchange(self, peer: Peer, send: Send, body: bytes, client: Optional[Peer]) -> Received:
-        """Sends a request, and reads the response as far as the process is given it."""
+        """Sends a request, and reads the response, but of a long body only the start."""
         sent = now_ms()
         peer.writer.write(send.head + (body if send.rest else send.body))
         head = await asyncio.wait_for(self._final_head(peer, client), self.origin.response)
@@ -93,7 +93,11 @@ class OriginServer:
             self.idle.append(peer)
 
     async def fetch(self, send: Send, body: bytes, client: Optional[Peer]) -> Received:
-        """Sends a request; on a kept connection only if it may be sent twice (RFC 9112, section 9.3.1)."""
+        """Sends a request, and returns the response.
+
+        An idle connection is used only for an idempotent method, since the request may have to be sent again (RFC 9112,
+        section 9.3.1).
+        """
         while True:
             is_kept = bool(self.idle) and send.head.split(b" ", 1)[0] in _IDEMPOTENT
             peer = self.idle.pop() if is_kept else await self._connect()

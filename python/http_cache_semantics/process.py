@@ -1,4 +1,4 @@
-"""A caching HTTP client as a process: starts `cacheserve` and exchanges frames with it (docs/PROTOCOL.md).
+"""A caching HTTP client in a process: starts `cacheserve` and exchanges frames with it (docs/PROTOCOL.md).
 
 The process decides what is stored and what may be used again. Its caller sends requests to origin servers, measures time
 and finds where messages end:
@@ -7,9 +7,9 @@ and finds where messages end:
     while isinstance(found, Send):
         found = cache.received(found, ..)         # or failed, if there is no response
 
-Each frame that is written gets one frame back, in order. `Cache` writes one and reads its reply under a lock, and
-`AsyncCache` reads whenever there is something to read, so neither waits for ever because both pipes are full. A process
-that has ended is started anew by the next request, with what its file stores; a `Send` of the old one is then refused.
+The process replies to each frame with one frame, in order. `Cache` writes a frame and reads its reply under a lock, and
+`AsyncCache` reads whenever it can, so full pipes never make both sides wait. If the process has ended, the next request starts
+another, with the responses of its file. A `Send` of the old process is then refused.
 """
 from __future__ import annotations
 
@@ -67,7 +67,7 @@ __all__ = [
 
 
 class Cache:
-    """A caching client in a process of its own, whose methods block. Threads may share it, but no forked process.
+    """A caching client in a process of its own, whose methods block. Threads may share it, but forked processes may not.
 
     Each method raises `CacheGone` if the process ends, and `CacheError` if it refuses the frame.
     """
@@ -83,7 +83,7 @@ class Cache:
 
     @property
     def pid(self) -> Optional[int]:
-        """The number of the process, None if it has ended."""
+        """Returns the process ID, or None if the process has ended."""
         child = self._child
         return child.pid if child else None
 
@@ -91,7 +91,7 @@ class Cache:
         pipe = subprocess.PIPE
         words = self.options.command()
         try:
-            # In a session of its own, so that a Ctrl-C is its caller's.
+            # In a session of its own, so that only the caller gets the SIGINT of a Ctrl-C.
             self._child = subprocess.Popen(words, stdin=pipe, stdout=pipe, stderr=pipe, start_new_session=True)
         except OSError as error:
             raise ProgramNotFound(f"{words[0]}: {error.strerror}") from error
@@ -125,16 +125,19 @@ class Cache:
 
     def _has_ended(self, child: subprocess.Popen[bytes]) -> CacheGone:
         assert child.stderr
-        said = child.stderr.read()
-        return gone(child.wait(), said)
+        stderr = child.stderr.read()
+        return gone(child.wait(), stderr)
 
     def exchange(self, line: Dict[str, Any], head: bytes = b"", body: bytes = b"", life: int = 0) -> Tuple[int, Frame]:
-        """Writes a frame, and returns the life of the process and its reply. With `life`, only to that process."""
+        """Writes a frame, and returns the number of the process and its reply.
+
+        With `life`, the frame is only for the process with that number.
+        """
         with self._lock:
             if self._child and self._owner != os.getpid():
-                raise CacheGone("cacheserve was started by another process; each needs its own")
+                raise CacheGone("cacheserve was started by another process; make a Cache in each process")
             if life and (life != self._life or not self._child):
-                raise CacheGone("cacheserve has ended since")
+                raise CacheGone("the cacheserve that this request belongs to has ended; ask again")
             child = self._child or self._start()
             assert child.stdin
             try:
@@ -146,12 +149,12 @@ class Cache:
                 self._end()
                 raise gone from error
             except BaseException:
-                # Else the next frame would get the reply to this one.
+                # Otherwise the next call would read the reply to this frame.
                 self._end()
                 raise
 
     def ask(self, head: bytes, body: bytes = b"", at: Optional[int] = None, rest: Rest = None) -> Outcome:
-        """Asks for the response to a request, received `at` a time. Returns an `Answer` or a `Send`."""
+        """Returns an `Answer` or a `Send` for a request that was received at the time `at`."""
         return outcome_of(*self.exchange(ask_line(at, rest), head, body))
 
     def received(
@@ -163,22 +166,25 @@ class Cache:
         at: Optional[int] = None,
         rest: Rest = None,
     ) -> Outcome:
-        """Hands over the response to a `Send`, which was sent and whose head was received at these times."""
+        """Passes the response to a `Send` to the process, and returns the next outcome.
+
+        `sent` is the time at which the request was sent, and `at` the time at which the head of the response was received.
+        """
         return outcome_of(*self.exchange(received_line(send, sent, at, rest), head, body, send.life))
 
     def failed(self, send: Send, why: str = "", at: Optional[int] = None) -> Outcome:
-        """Says that a `Send` has no response; `why` is "invalid" if what was received is no response.
+        """Reports that a `Send` has no response. `why` is "invalid" if the received bytes aren't a response.
 
-        Returns an `Answer` if something stored may be used instead. Raises `NoResponse`.
+        Returns an `Answer` if a stored response may be used instead, and raises `NoResponse` if none may.
         """
         return outcome_of(*self.exchange(failed_line(send.token, why, at), life=send.life))
 
     def remove(self, target: str) -> int:
-        """Removes what is stored for an absolute URL. Returns how many responses."""
+        """Removes what is stored for an absolute URL. Returns how many responses it removes."""
         return count_of(self.exchange({"remove": 0, "target": target})[1], "responses")
 
     def sweep(self, at: Optional[int] = None) -> int:
-        """Removes what can neither be used nor validated any more. Returns how many responses."""
+        """Removes responses that can neither be used nor validated any more. Returns how many it removes."""
         return count_of(self.exchange({"sweep": 0, "at": time_or_now(at)})[1], "removed")
 
     def stats(self) -> Dict[str, Any]:
@@ -186,7 +192,7 @@ class Cache:
         return self.exchange({"stats": 0})[1].line
 
     def clear(self) -> None:
-        """Removes all that is stored, and the file. Requests under way are lost."""
+        """Removes all stored responses, and the file. Requests under way are lost."""
         with self._lock:
             self._stop()
             for suffix in ("", "-journal", "-wal", "-shm") if self.options.file else ():
@@ -194,7 +200,7 @@ class Cache:
                     os.unlink(f"{self.options.file}{suffix}")
 
     def close(self) -> None:
-        """Ends the process, once its file is closed. The next request starts it anew."""
+        """Ends the process, once its file is closed. The next request starts another."""
         with self._lock:
             self._stop()
 
@@ -220,7 +226,7 @@ def _close(pipe: Optional[IO[bytes]]) -> None:
 
 
 class _Pipes(asyncio.SubprocessProtocol):
-    """The pipes of one process: reads frames, and hands each to who waits longest."""
+    """Reads frames from the pipes of one process, and passes each to the call that has waited longest."""
 
     def __init__(self) -> None:
         loop = asyncio.get_running_loop()
@@ -232,7 +238,7 @@ class _Pipes(asyncio.SubprocessProtocol):
         self.may_write.set()
         self._data = bytearray()
         self._line: Optional[Dict[str, Any]] = None
-        self._said = b""
+        self._stderr = b""
 
     def connection_made(self, transport: asyncio.BaseTransport) -> None:
         assert isinstance(transport, asyncio.SubprocessTransport)
@@ -252,7 +258,7 @@ class _Pipes(asyncio.SubprocessProtocol):
 
     def pipe_data_received(self, fd: int, data: bytes) -> None:
         if fd == 2:
-            self._said = (self._said + data)[-4096:]
+            self._stderr = (self._stderr + data)[-4096:]
             return
         self._data += data
         start = 0
@@ -277,7 +283,7 @@ class _Pipes(asyncio.SubprocessProtocol):
         if not future.done():
             future.set_result(found)
         elif "token" in found.line and "error" not in found.line and not self.is_gone:
-            # Who asked has been cancelled, and nobody else will send what the process waits for.
+            # The call was cancelled, so nobody else reports the outcome that the process waits for.
             self.write(failed_line(found.line["token"], "", None)).cancel()
 
     def pause_writing(self) -> None:
@@ -296,7 +302,7 @@ class _Pipes(asyncio.SubprocessProtocol):
         self.may_write.set()
         for future in self.waiting:
             if not future.done():
-                future.set_exception(gone(self.transport.get_returncode(), self._said))
+                future.set_exception(gone(self.transport.get_returncode(), self._stderr))
         self.waiting.clear()
         self.closed.set_result(None)
 
@@ -315,12 +321,12 @@ class AsyncCache:
 
     @property
     def pid(self) -> Optional[int]:
-        """The number of the process, None before the first start."""
+        """Returns the process ID, or None before the first start."""
         return self._pipes.transport.get_pid() if self._pipes else None
 
     async def start(self) -> None:
         """Starts the process if none is running. Raises `ProgramNotFound` or `StoreNotOpened`."""
-        # (made here, since before Python 3.10 a lock is of the loop that runs when it is made)
+        # Before Python 3.10 a lock belongs to the loop that runs when it is made, so it isn't made earlier.
         self._starting = self._starting or asyncio.Lock()
         async with self._starting:
             if self._pipes and not self._pipes.is_gone:
@@ -344,7 +350,7 @@ class AsyncCache:
         """Writes a frame, and returns the life of the process and its reply. With `life`, only to that process."""
         while True:
             if life and life != self._life:
-                raise CacheGone("cacheserve has ended since")
+                raise CacheGone("the cacheserve that this request belongs to has ended; ask again")
             pipes = self._pipes
             if pipes and not pipes.is_gone:
                 if pipes.may_write.is_set():
@@ -352,12 +358,12 @@ class AsyncCache:
                     return life, await pipes.write(line, head, body)
                 await pipes.may_write.wait()
             elif life:
-                raise CacheGone("cacheserve has ended since")
+                raise CacheGone("the cacheserve that this request belongs to has ended; ask again")
             else:
                 await self.start()
 
     async def ask(self, head: bytes, body: bytes = b"", at: Optional[int] = None, rest: Rest = None) -> Outcome:
-        """Asks for the response to a request, received `at` a time. Returns an `Answer` or a `Send`."""
+        """Returns an `Answer` or a `Send` for a request that was received at the time `at`."""
         return outcome_of(*await self.exchange(ask_line(at, rest), head, body))
 
     async def received(
@@ -369,22 +375,25 @@ class AsyncCache:
         at: Optional[int] = None,
         rest: Rest = None,
     ) -> Outcome:
-        """Hands over the response to a `Send`, which was sent and whose head was received at these times."""
+        """Passes the response to a `Send` to the process, and returns the next outcome.
+
+        `sent` is the time at which the request was sent, and `at` the time at which the head of the response was received.
+        """
         return outcome_of(*await self.exchange(received_line(send, sent, at, rest), head, body, send.life))
 
     async def failed(self, send: Send, why: str = "", at: Optional[int] = None) -> Outcome:
-        """Says that a `Send` has no response; `why` is "invalid" if what was received is no response.
+        """Reports that a `Send` has no response. `why` is "invalid" if the received bytes aren't a response.
 
-        Returns an `Answer` if something stored may be used instead. Raises `NoResponse`.
+        Returns an `Answer` if a stored response may be used instead, and raises `NoResponse` if none may.
         """
         return outcome_of(*await self.exchange(failed_line(send.token, why, at), life=send.life))
 
     async def remove(self, target: str) -> int:
-        """Removes what is stored for an absolute URL. Returns how many responses."""
+        """Removes what is stored for an absolute URL. Returns how many responses it removes."""
         return count_of((await self.exchange({"remove": 0, "target": target}))[1], "responses")
 
     async def sweep(self, at: Optional[int] = None) -> int:
-        """Removes what can neither be used nor validated any more. Returns how many responses."""
+        """Removes responses that can neither be used nor validated any more. Returns how many it removes."""
         return count_of((await self.exchange({"sweep": 0, "at": time_or_now(at)}))[1], "removed")
 
     async def stats(self) -> Dict[str, Any]:

@@ -1,8 +1,8 @@
 """A caching reverse proxy in front of one origin server, over the process `cacheserve --proxy`.
 
-It moves bytes between connections and measures time and lengths. What is stored and used again, and what each head says, the
-process decides. It speaks plain HTTP/1.1: TLS, X-Forwarded-For and X-Forwarded-Proto are for the server in front of it
-(docs/DEPLOY.md). SIGTERM and SIGINT let requests under way end.
+It moves bytes between connections and measures time and lengths. The process decides what is stored and used again, and writes
+the heads. The proxy speaks plain HTTP/1.1: the server in front of it does TLS, X-Forwarded-For and X-Forwarded-Proto
+(docs/DEPLOY.md). After SIGTERM or SIGINT it ends once the requests under way have ended.
 """
 from __future__ import annotations
 
@@ -23,16 +23,16 @@ from .process import Answer, AsyncCache, CacheError, CacheGone, Outcome, Process
 from .wire import BadMessage, Head, Peer, WireLimits
 
 _CACHE_STATUS = re.compile(rb"(?im)^cache-status:[ \t]*([^\r\n]*)")
-# A longer body isn't given to the process, but passed on while it is read.
+# A longer body isn't passed to the process, but streamed to the client.
 _LONGEST_STORED = 8_388_608
 _IDLE_SECONDS = 60.0
 _STOP_SECONDS = 30.0
-# What a client is answered if the process refuses its request; else 400.
+# The status of the response to a request that the process refuses. For other errors it is 400.
 _STATUS_OF = {"the head has too many fields": 431, "too many requests under way": 503, "out of memory": 503}
 
 
 class Proxy:
-    """Answers requests as the process says, and sends what it asks for to the origin server."""
+    """Answers requests as the process decides, and sends the requests of the process to the origin server."""
 
     def __init__(self, origin: OriginServer, cache: AsyncCache, limits: WireLimits, has_log: bool) -> None:
         self.origin, self.cache, self.limits, self.has_log = origin, cache, limits, has_log
@@ -41,7 +41,7 @@ class Proxy:
         self.tasks: Set[asyncio.Task[None]] = set()
 
     async def _sent(self, send: Send, body: bytes, client: Optional[Peer]) -> Tuple[Outcome, Optional[Received]]:
-        """Sends a request. Returns what the process says of the outcome, and a response whose body isn't all read."""
+        """Sends a request. Returns what the process decides after it, and the response if its body isn't read to the end."""
         received = None
         try:
             received = await self.origin.fetch(send, body, client)
@@ -66,7 +66,7 @@ class Proxy:
                 received.peer.close()
 
     async def _answer(self, request: Head, body: bytes, client: Optional[Peer]) -> Tuple[Answer, Optional[Received]]:
-        """Returns the answer to a request, and the response whose body it has if that isn't all read."""
+        """Returns the answer to a request, and the response with its body if that body isn't read to the end."""
         found = await self.cache.ask(request.raw, rest=len(body) if body else None)
         received = None
         while isinstance(found, Send):
@@ -79,7 +79,7 @@ class Proxy:
         return found, received if found.rest else None
 
     async def _answer_once(self, request: Head, body: bytes, client: Peer) -> Tuple[Answer, Optional[Received]]:
-        """Returns the answer. If the process ends meanwhile, only a safe request is asked again."""
+        """Returns what `_answer` returns. If the process ends meanwhile, only a GET or HEAD is tried again."""
         interim = client if request.is_1_1 else None
         try:
             try:
@@ -87,7 +87,7 @@ class Proxy:
             except CacheGone:
                 if request.first_line.startswith((b"GET ", b"HEAD ")) and not body:
                     return await self._answer(request, body, interim)
-                # The origin server may have done what the request asks for, and the new process doesn't know.
+                # The origin server may have changed the resource, so the new process must not use what is stored for it.
                 with contextlib.suppress(CacheError):
                     await self.cache.remove(request.target_uri())
                 raise
@@ -102,17 +102,17 @@ class Proxy:
         task.add_done_callback(self.tasks.discard)
 
     async def _body(self, client: Peer, request: Head) -> Optional[bytes]:
-        """Reads the body of a request. Returns None if it is cut."""
+        """Reads the body of a request. Returns None if it is incomplete."""
         length = request.length()
         if length and length > self.limits.body:
-            raise BadMessage(413, "body too long")
+            raise BadMessage(413, "the body is too long")
         if length != 0 and request.has(b"expect", b"100-continue"):
             client.writer.write(b"HTTP/1.1 100 Continue\r\n\r\n")
         body = await client.body(length)
         return None if length and len(body) < length else body
 
     async def _pass_on(self, client: Peer, received: Received, in_chunks: bool) -> Tuple[int, bool]:
-        """Sends a body while it is read. Returns its length, and whether it is whole."""
+        """Streams a body to the client. Returns its length, and whether it is complete."""
         length = 0
         try:
             async for piece in _all_of(received):
@@ -129,7 +129,7 @@ class Proxy:
             received.peer.close()
 
     async def _turn(self, client: Peer) -> bool:
-        """Answers one request. Returns whether the connection may have another."""
+        """Answers one request. Returns whether another request may follow on the connection."""
         self.waiting.add(client)
         try:
             with client.within(_IDLE_SECONDS):
@@ -181,7 +181,7 @@ class Proxy:
         await self._serve(Peer(reader, writer, self.limits))
 
     async def stop(self) -> None:
-        """Ends idle connections, and the others after the request that is under way."""
+        """Ends idle connections at once, and the others after their requests under way."""
         self.is_stopping = True
         for client in list(self.waiting):
             client.close()
@@ -198,11 +198,11 @@ async def _all_of(received: Received) -> AsyncIterator[bytes]:
 
 
 def _log_line(client: Peer, first_line: bytes, head: bytes, length: int) -> str:
-    """A line of the access log: the Common Log Format, and Cache-Status."""
+    """Returns a line of the access log: the Common Log Format, and Cache-Status."""
     address = (client.writer.get_extra_info("peername") or ["-"])[0]
     time = datetime.datetime.now(datetime.timezone.utc).strftime("%d/%b/%Y:%H:%M:%S +0000")
-    asked, cache_status = (_printable(text) for text in (first_line, b", ".join(_CACHE_STATUS.findall(head)) or b"-"))
-    return f'{address} - - [{time}] "{asked}" {head[9:12].decode()} {length} "{cache_status}"'
+    request, cache_status = (_printable(text) for text in (first_line, b", ".join(_CACHE_STATUS.findall(head)) or b"-"))
+    return f'{address} - - [{time}] "{request}" {head[9:12].decode()} {length} "{cache_status}"'
 
 
 def _printable(text: bytes) -> str:
@@ -224,21 +224,21 @@ async def run(proxy: Proxy, host: str, port: int) -> None:
 def _arguments() -> argparse.Namespace:
     assert __doc__
     parser = argparse.ArgumentParser(prog="python3 -m http_cache_semantics.proxy", description=__doc__)
-    parser.add_argument("--listen", default="127.0.0.1:8080", metavar="HOST:PORT", help="where it listens (127.0.0.1:8080)")
+    parser.add_argument("--listen", default="127.0.0.1:8080", metavar="HOST:PORT", help="its own address (127.0.0.1:8080)")
     parser.add_argument("--origin", required=True, metavar="URL", help="the origin server, such as http://127.0.0.1:8000")
-    parser.add_argument("--file", help="stores responses in this file, so that they outlive the process; else in memory")
-    parser.add_argument("--log", action="store_true", help="writes a line for each request to standard output")
-    parser.add_argument("--timeout", type=float, default=30.0, metavar="SECONDS", help="for the head of a response (30)")
-    parser.add_argument("--name", help="its name in Via and Cache-Status (cacheserve)")
-    parser.add_argument("--program", metavar="FILE", help="the program cacheserve, if it isn't the one that is found")
+    parser.add_argument("--file", help="store responses in this file, so that they outlive the process; default: in memory")
+    parser.add_argument("--log", action="store_true", help="write a line for each request to standard output")
+    parser.add_argument("--timeout", type=float, default=30.0, metavar="SECONDS", help="the wait for a response head (30)")
+    parser.add_argument("--name", help="the proxy's name in Via and Cache-Status (cacheserve)")
+    parser.add_argument("--program", metavar="FILE", help="the path of the program cacheserve")
     for limit in ("responses", "bytes", "stored-body", "variants", "batched"):
-        parser.add_argument("--" + limit, type=int, metavar="N", help="as of cacheserve")
+        parser.add_argument("--" + limit, type=int, metavar="N", help="the limit of cacheserve with this name")
     words = parser.parse_args()
     origin, (words.host, _, port) = urlsplit(words.origin), words.listen.rpartition(":")
     if origin.scheme not in ("http", "https") or not origin.hostname or origin.path not in ("", "/"):
-        parser.error("--origin is an http or https URL without a path")
+        parser.error(f"--origin must be an http or https URL without a path, not {words.origin!r}")
     if not port.isdigit():
-        parser.error("--listen is HOST:PORT")
+        parser.error(f"--listen must be HOST:PORT, not {words.listen!r}")
     words.port = int(port)
     is_tls = origin.scheme == "https"
     words.origin = Origin(origin.hostname, origin.port or (443 if is_tls else 80), is_tls, response=words.timeout)

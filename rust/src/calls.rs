@@ -1,4 +1,4 @@
-//! The calls of the C library, each as a safe function. This is the only file with unsafe code.
+//! Calls each function of the C library by a safe function. This is the only file with unsafe code.
 #![allow(unsafe_code)]
 use crate::error::Error;
 use std::collections::hash_map::RandomState;
@@ -43,7 +43,7 @@ const _: () =
 
 type Code = i32;
 const TOO_SMALL: Code = -5;
-// More than most results take, so that a call is seldom made again.
+// Most results are shorter, so a call is seldom repeated with a longer buffer.
 const USUAL_SIZE: usize = 2048;
 
 extern "C" {
@@ -162,7 +162,7 @@ extern "C" {
 }
 
 impl Cache {
-    /// The default options, with secrets that are drawn once per process.
+    /// Returns the default options, with secrets that are drawn once per process.
     pub(crate) fn with_secrets() -> Cache {
         static SECRETS: OnceLock<(u64, u64)> = OnceLock::new();
         let drawn = || RandomState::new().build_hasher().finish();
@@ -224,22 +224,24 @@ impl Out {
         }
     }
 
-    /// Makes room for what is needed.
+    /// Makes room for the bytes that the library needs.
     fn grow(&mut self) {
         self.bytes.reserve(self.needed);
     }
 
+    /// Returns the bytes that the library has written.
+    ///
     /// # Safety
     ///
-    /// The library has written `needed` bytes, which are no more than the capacity.
+    /// The library must have written `needed` bytes, and `needed` must be at most the capacity.
     unsafe fn filled(mut self) -> Vec<u8> {
-        // SAFETY: the caller's.
+        // SAFETY: the caller ensures that `needed` bytes are written within the capacity.
         unsafe { self.bytes.set_len(self.needed) };
         self.bytes
     }
 }
 
-/// Calls until the result fits.
+/// Calls with longer and longer buffers until the result fits, and returns the code and the result.
 fn filled(
     mut call: impl FnMut(*mut u8, usize, *mut usize) -> Code,
 ) -> Result<(Code, Vec<u8>), Error> {
@@ -252,7 +254,7 @@ fn filled(
         );
         if code != TOO_SMALL {
             let code = checked(code)?;
-            // SAFETY: a code of 0 or more says that `needed` bytes were written within the capacity.
+            // SAFETY: a code of 0 or more means that `needed` bytes are written within the capacity.
             return Ok((code, unsafe { out.filled() }));
         }
         out.grow();
@@ -265,7 +267,7 @@ pub(crate) fn new(
     response: &[u8],
     received: Time,
 ) -> Result<Vec<u8>, Error> {
-    // SAFETY: each pointer is of a borrowed slice and its length, or of a value; `out` is of its capacity.
+    // SAFETY: each pointer is to a borrowed slice of the length after it, or to a value; `out` has room for `len`.
     let (_, form) = filled(|out, len, needed| unsafe {
         hcs_new(
             cache,
@@ -304,7 +306,7 @@ pub(crate) fn before(
     })
 }
 
-/// The code, the next stored form, and the head for the client.
+/// Returns the code, the next stored form, and the head for the client.
 pub(crate) fn after(
     cache: &Cache,
     stored: &[u8],
@@ -314,7 +316,7 @@ pub(crate) fn after(
 ) -> Result<(Code, Vec<u8>, Vec<u8>), Error> {
     let (mut form, mut head) = (Out::new(), Out::new());
     loop {
-        // SAFETY: as in `new`; the two buffers are apart.
+        // SAFETY: as in `new`; the two buffers don't overlap.
         let code = unsafe {
             hcs_after(
                 cache,
@@ -335,7 +337,7 @@ pub(crate) fn after(
         };
         if code != TOO_SMALL {
             let code = checked(code)?;
-            // SAFETY: a code of 0 or more says that both were written within their capacities.
+            // SAFETY: a code of 0 or more means that both are written within their capacities.
             return Ok(unsafe { (code, form.filled(), head.filled()) });
         }
         form.grow();
@@ -369,7 +371,7 @@ pub(crate) fn explain(
     Ok(text)
 }
 
-/// The code of what allows to store the response, or 0, and the bits of what forbids it.
+/// Returns the code of what allows the response to be stored, or 0, and the bits of what forbids it.
 pub(crate) fn storability(stored: &[u8]) -> Result<(Code, u32), Error> {
     let mut obstacles = 0;
     // SAFETY: as in `new`.
@@ -377,7 +379,7 @@ pub(crate) fn storability(stored: &[u8]) -> Result<(Code, u32), Error> {
     Ok((code, obstacles))
 }
 
-/// The lifetime, and the code of what it comes from.
+/// Returns the freshness lifetime, and the code of what decides it.
 pub(crate) fn freshness(stored: &[u8]) -> Result<(Duration, Code), Error> {
     let mut lifetime = Length {
         seconds: 0,

@@ -1,7 +1,7 @@
-//! Why a call has no result.
+//! The error type of the crate.
 use std::fmt;
 
-/// Why a call has no result. Nothing has changed.
+/// An error of a call. After an error nothing has changed.
 #[derive(Clone, Copy, Debug, PartialEq, Eq)]
 #[non_exhaustive]
 pub enum Error {
@@ -18,7 +18,7 @@ pub enum Error {
 }
 
 impl Error {
-    /// The error of a code of `enum hcs_error`.
+    /// Returns the error for a code of `enum hcs_error`.
     pub(crate) fn of_code(code: i32) -> Error {
         match code {
             -1 => Error::OutOfMemory,

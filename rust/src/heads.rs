@@ -1,4 +1,4 @@
-//! Heads of HTTP/1.1 messages (RFC 9112, sections 2 to 5): written for the library, and read from it.
+//! Writes heads of HTTP/1.1 messages for the library, and reads the heads that it writes (RFC 9112, sections 2 to 5).
 use crate::error::Error;
 use http::header::{HeaderMap, HeaderName, HeaderValue};
 use http::{request, response, Method, Request, Response, StatusCode, Uri};
@@ -25,7 +25,7 @@ pub(crate) fn of_response(status: StatusCode, headers: &HeaderMap) -> Vec<u8> {
     head
 }
 
-/// A part up to a separator, and what follows it.
+/// Returns the bytes before the first separator, and the bytes after it.
 fn split<'a>(bytes: &'a [u8], separator: &[u8]) -> Result<(&'a [u8], &'a [u8]), Error> {
     let at = bytes
         .windows(separator.len())
@@ -49,7 +49,7 @@ fn fields_of(mut lines: &[u8]) -> Result<HeaderMap, Error> {
     }
 }
 
-/// The status and the fields of a response that the library wrote.
+/// Returns the status and the fields of a response whose head the library wrote.
 pub(crate) fn response_parts(head: &[u8]) -> Result<response::Parts, Error> {
     let (line, fields) = split(head, b"\r\n")?;
     let (_, status) = split(line, b" ")?;
@@ -60,7 +60,7 @@ pub(crate) fn response_parts(head: &[u8]) -> Result<response::Parts, Error> {
     Ok(parts)
 }
 
-/// The method, the target and the fields of a request that the library wrote.
+/// Returns the method, the target and the fields of a request whose head the library wrote.
 pub(crate) fn request_parts(head: &[u8]) -> Result<request::Parts, Error> {
     let (line, fields) = split(head, b"\r\n")?;
     let (method, rest) = split(line, b" ")?;

@@ -1,7 +1,7 @@
 //! Decides when a stored HTTP response may be used again (RFC 7234, sections 3 to 5).
 //!
-//! The names and types are those of the Rust crate http-cache-semantics 3.0.0. Each decision is a call of
-//! the proved library; README.md lists what differs.
+//! It has the names and types of the Rust crate http-cache-semantics 3.0.0. Each decision is a call of the
+//! proved library; README.md lists what differs.
 //!
 //! ```
 //! use http::{Request, Response};

@@ -1,4 +1,4 @@
-//! What a policy reads of requests and responses.
+//! The traits by which a policy reads requests and responses.
 use http::{request, response, HeaderMap, Method, Request, Response, StatusCode, Uri};
 
 /// A request that a policy can read.
@@ -7,7 +7,7 @@ use http::{request, response, HeaderMap, Method, Request, Response, StatusCode, 
 pub trait RequestLike {
     /// Returns a copy of the target URI.
     fn uri(&self) -> Uri;
-    /// Returns whether the target URI is `other`, as far as this cache tells them apart.
+    /// Returns whether the target URI is `other`, as this cache compares URIs.
     fn is_same_uri(&self, other: &Uri) -> bool;
     /// Returns the method.
     fn method(&self) -> &Method;

@@ -1,4 +1,4 @@
-//! Options of a cache.
+//! The options of a cache.
 use crate::calls::Cache;
 use std::time::Duration;
 
@@ -7,15 +7,15 @@ use std::time::Duration;
 pub struct CacheOptions {
     /// Whether the cache serves more than one user. Default: `true`.
     pub shared: bool,
-    /// The part of the time from Last-Modified to Date that is the lifetime where none is stated
+    /// The fraction of the time from Last-Modified to Date that is the lifetime of a response that states none
     /// (RFC 7234, section 4.2.2). Default: 0.1.
     ///
-    /// The library takes the simplest fraction that rounds to this number, as 1/10 for 0.1.
+    /// The library uses the simplest fraction that rounds to this number, such as 1/10 for 0.1.
     pub cache_heuristic: f32,
     /// The least lifetime of a response with `immutable` and no `max-age` or `s-maxage`. Default: 24 hours.
     pub immutable_min_time_to_live: Duration,
-    /// Whether a response with both `pre-check` and `post-check` is kept without these and without
-    /// `no-cache`, `no-store`, `must-revalidate`, Expires and Pragma. Default: `false`.
+    /// Whether a response with both `pre-check` and `post-check` loses these directives, `no-cache`,
+    /// `no-store`, `must-revalidate`, Expires and Pragma. Default: `false`.
     pub ignore_cargo_cult: bool,
 }
 
@@ -44,8 +44,9 @@ impl CacheOptions {
     }
 }
 
-/// The fraction with the least denominator that rounds to a number, of the convergents of its continued
-/// fraction. What isn't positive is 0, and what is too great for a numerator is the greatest one.
+/// Returns the convergent of a number's continued fraction with the least denominator that rounds to the number.
+///
+/// A number that isn't positive yields 0, and a number that is too great for a numerator yields the greatest one.
 fn simplest_fraction(number: f32) -> (u32, u32) {
     if number.is_nan() || number <= 0.0 {
         return (0, 1);

@@ -11,8 +11,8 @@ const FRESH: i32 = 0;
 const VALIDATE: i32 = 1;
 const NOT_MODIFIED: i32 = 0;
 
-// The words for each value of `enum hcs_permission`, from 1, for each bit of `enum hcs_obstacle`, and for each
-// value of `enum hcs_source`.
+// The words for the values of `enum hcs_permission` from 1, for the bits of `enum hcs_obstacle`, and for the
+// values of `enum hcs_source`.
 const PERMISSIONS: [&str; 5] = ["Expires", "max-age", "s-maxage", "public", "status"];
 const OBSTACLES: [&str; 7] = [
     "no-store of the request",
@@ -42,13 +42,13 @@ const SOURCES: [&str; 13] = [
 /// Decides for one stored response: whether it may be stored, how long it stays fresh, and which requests it
 /// answers (RFC 7234, sections 3 to 5).
 ///
-/// It stands for its stored form, `to_bytes`, to be kept beside the stored body.
+/// Keep its stored form, `to_bytes`, beside the stored body.
 ///
 /// # Panics
 ///
-/// A call with no `Result` panics where the `try_` call of its name returns an error: out of memory, a time
-/// before 1900 that a date is written of, a time out of the years -9999 to 9999, and a message that isn't one of
-/// HTTP/1.1 or that has too many fields.
+/// A call without a `Result` panics if its `try_` call would return an error. The errors are: out of memory, a
+/// Date before 1900, a time out of the years -9999 to 9999, a message that HTTP/1.1 can't send, and too many
+/// fields.
 #[derive(Clone, Debug)]
 pub struct CachePolicy {
     form: Vec<u8>,
@@ -63,9 +63,9 @@ pub enum BeforeRequest {
     Fresh(response::Parts),
     /// Send a request to the origin server.
     Stale {
-        /// The request to send. Where it matches, it validates the stored response.
+        /// The request to send. If `matches` is true, it validates the stored response.
         request: request::Parts,
-        /// Whether the stored response is one for the request: then hand what is received to `after_response`.
+        /// Whether the stored response is one for the request: then pass the received response to `after_response`.
         matches: bool,
     },
 }
@@ -77,16 +77,16 @@ impl BeforeRequest {
     }
 }
 
-/// What the response to a validating request means, with the next policy and the fields for the client.
+/// What to store after the response to a validating request, with the next policy and the fields for the client.
 #[derive(Debug)]
 pub enum AfterResponse {
     /// The stored body is kept under the new policy.
     NotModified(CachePolicy, response::Parts),
-    /// The received body replaces it, to be stored if the new policy is storable.
+    /// The received body replaces the stored one. Store it if the new policy is storable.
     Modified(CachePolicy, response::Parts),
 }
 
-/// Whether a response may be stored, and why.
+/// Whether a response may be stored, and what decides that.
 #[derive(Clone, Debug, PartialEq, Eq)]
 pub struct Storability {
     /// Whether it may be stored.
@@ -95,12 +95,12 @@ pub struct Storability {
     pub reasons: Vec<&'static str>,
 }
 
-/// A freshness lifetime, and what it comes from.
+/// A freshness lifetime, and what decides it.
 #[derive(Clone, Debug, PartialEq, Eq)]
 pub struct Freshness {
     /// The lifetime.
     pub lifetime: Duration,
-    /// What it comes from, such as `max-age` or `Last-Modified`.
+    /// What decides the lifetime, such as `max-age` or `Last-Modified`.
     pub source: &'static str,
 }
 
@@ -187,7 +187,7 @@ impl CachePolicy {
         &self.form
     }
 
-    /// The head of a request that has the stored target, if the request says that it is the same, else another.
+    /// Returns the head of a request. Its target is the stored one if `is_same_uri` says so, else another target.
     pub(crate) fn head_for<Req: RequestLike>(&self, req: &Req) -> Vec<u8> {
         let stored = self.uri.to_string();
         let target = match (req.is_same_uri(&self.uri), stored.as_str()) {
@@ -203,7 +203,7 @@ impl CachePolicy {
         self.storability().storable
     }
 
-    /// Returns whether the response may be stored, with what allows that or all that forbids it.
+    /// Returns whether the response may be stored, and what allows it, or all that forbids it.
     pub fn storability(&self) -> Storability {
         let (permission, obstacles) = expected(calls::storability(&self.form));
         let allowing = usize::try_from(permission - 1)
@@ -223,7 +223,7 @@ impl CachePolicy {
         }
     }
 
-    /// Returns the freshness lifetime, and what it comes from (RFC 7234, section 4.2.1).
+    /// Returns the freshness lifetime, and what decides it (RFC 7234, section 4.2.1).
     pub fn freshness(&self) -> Freshness {
         let (lifetime, source) = expected(calls::freshness(&self.form));
         let source = usize::try_from(source)
@@ -240,12 +240,12 @@ impl CachePolicy {
         expected(Time::of(now).and_then(|now| calls::age(&self.form, now)))
     }
 
-    /// Returns for how long the response stays fresh after `now`; zero if it is stale.
+    /// Returns for how long the response stays fresh after `now`, or zero if it is stale.
     pub fn time_to_live(&self, now: SystemTime) -> Duration {
         expected(Time::of(now).and_then(|now| calls::time_to_live(&self.form, now)))
     }
 
-    /// Returns whether no time to live is left at `now`.
+    /// Returns whether the response is stale at `now`.
     pub fn is_stale(&self, now: SystemTime) -> bool {
         self.time_to_live(now) == Duration::ZERO
     }
@@ -259,7 +259,7 @@ impl CachePolicy {
     ///
     /// # Errors
     ///
-    /// Returns `DateNotPrintable` if `now` is before 1900, and else as `try_new_options` does.
+    /// Returns `DateNotPrintable` if `now` is before 1900, and the errors of `try_new_options`.
     pub fn try_before_request<Req: RequestLike>(
         &self,
         req: &Req,
@@ -282,7 +282,7 @@ impl CachePolicy {
         })
     }
 
-    /// Returns what the response to a validating request means (RFC 7234, section 4.3.3).
+    /// Returns what to store and send after the response to a validating request (RFC 7234, section 4.3.3).
     pub fn after_response<Req: RequestLike, Res: ResponseLike>(
         &self,
         request: &Req,
@@ -292,11 +292,11 @@ impl CachePolicy {
         expected(self.try_after_response(request, response, response_time))
     }
 
-    /// Returns what the response to a validating request means (RFC 7234, section 4.3.3).
+    /// Returns what to store and send after the response to a validating request (RFC 7234, section 4.3.3).
     ///
     /// # Errors
     ///
-    /// Returns errors as `try_before_request` does.
+    /// Returns the errors of `try_before_request`.
     pub fn try_after_response<Req: RequestLike, Res: ResponseLike>(
         &self,
         request: &Req,
@@ -334,8 +334,8 @@ impl CachePolicy {
         )
     }
 
-    /// Returns why a request would be answered or not at `now`, as a member of Cache-Status (RFC 9211) for the
-    /// cache of that name, such as `ExampleCache; hit; ttl=7`.
+    /// Returns why the stored response answers a request at `now` or doesn't, as a member of Cache-Status
+    /// (RFC 9211). `name` is the name of the cache. A member is such as `ExampleCache; hit; ttl=7`.
     pub fn explain<Req: RequestLike>(
         &self,
         req: &Req,
@@ -370,13 +370,13 @@ impl CachePolicy {
         })
     }
 
-    /// Returns the fields under which the stored body may be sent at `now`, fresh or not: every field line that
-    /// may be sent on, and Age (RFC 9111, section 5.1).
+    /// Returns the head under which the stored body may be sent at `now`, fresh or stale. It has every field line
+    /// that may be forwarded, and Age (RFC 9111, section 5.1).
     pub fn response_at(&self, now: SystemTime) -> Result<response::Parts, Error> {
         heads::response_parts(&calls::response_at(&self.form, Time::of(now)?)?)
     }
 
-    /// Returns whether a 304 answers the request's own conditions (RFC 9110, section 13.2.2).
+    /// Returns whether a 304 answers the preconditions of the request (RFC 9110, section 13.2.2).
     pub fn is_not_modified_for<Req: RequestLike>(&self, req: &Req) -> Result<bool, Error> {
         calls::is_not_modified_for(&self.options.cache(), &self.form, &self.head_for(req))
     }

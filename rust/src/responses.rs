@@ -1,4 +1,4 @@
-//! Calls on responses that have no policy.
+//! Functions on responses that have no policy.
 use crate::calls;
 use crate::error::Error;
 use crate::heads;
@@ -7,8 +7,10 @@ use crate::options::CacheOptions;
 use crate::policy::head_of_response;
 use http::response;
 
-/// Returns a response with one line for each field name (RFC 9110, section 5.3). A policy sends the last line of
-/// each field, so a cache that keeps all of them joins them before it makes the policy.
+/// Returns a response with one field line for each name (RFC 9110, section 5.3).
+///
+/// A policy sends only the last line of each field. A cache that keeps all lines joins them before it makes the
+/// policy.
 ///
 /// # Errors
 ///
@@ -20,11 +22,11 @@ pub fn joined<Res: ResponseLike>(response: &Res) -> Result<response::Parts, Erro
     )?)
 }
 
-/// Returns a stored response with the fields of a received 304 in place of its own (RFC 9111, section 3.2).
+/// Returns a stored response updated with the fields of a received 304 (RFC 9111, section 3.2).
 ///
 /// # Errors
 ///
-/// Returns `HeaderMapFull` if there is no room for the fields of both.
+/// Returns `HeaderMapFull` if there are too many fields in both together.
 pub fn updated<Res: ResponseLike, Received: ResponseLike>(
     stored: &Res,
     received: &Received,

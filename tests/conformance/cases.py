@@ -1,4 +1,4 @@
-"""The cases: their requests, what the origin server would answer, and answers on a connection."""
+"""Loads the cases, makes their requests and the responses of the origin server, and reads answers from a connection."""
 import email.utils
 import json
 import re
@@ -8,30 +8,29 @@ from pathlib import Path
 
 FOLDER = Path(__file__).resolve().parent / "cases"
 HOST = "conf.test"
-# Each case begins at 2026-01-01T00:00:00Z, unless it has a start of its own, and a step comes so many seconds after the one
-# before it.
+# A case without a start of its own begins at 2026-01-01T00:00:00Z. Its steps are so many seconds apart.
 START = 1_767_225_600
 BETWEEN_STEPS = 0.03
 WEEKDAYS = ["Monday", "Tuesday", "Wednesday", "Thursday", "Friday", "Saturday", "Sunday"]
-# The one case that fails though it is a caching client's: docs/CONFORMANCE.md says why.
+# The only case that fails though it is a case for a caching client: docs/CONFORMANCE.md explains why.
 KNOWN = "fresh-max-age-33-digits"
-# Answers that never have a body.
+# The statuses of answers that never have a body.
 BODILESS = (204, 304)
 
 
 def load():
-    """All cases, in the order of their files."""
+    """Returns all cases, in the order of their files."""
     return [case for path in sorted(FOLDER.glob("*.json")) for case in json.loads(path.read_text())]
 
 
 def needs_bytes(case):
-    """Whether a case needs bytes on a connection: interim responses, or chunks that are cut off."""
+    """Returns whether a case needs bytes on a connection: interim responses, or incomplete chunks."""
     origins = [step.get("origin") or {} for step in case["steps"]]
     return any(it.get("informational") or it.get("chunked") and it.get("cut_after") is not None for it in origins)
 
 
 def kind_of(case):
-    """What a case counts as: must, should, reuse (a should that no RFC demands) or optional."""
+    """Returns the kind of a case: must, should, reuse (a should that no RFC demands) or optional."""
     return "reuse" if case["basis"] == "reuse" else case["level"]
 
 
@@ -54,7 +53,7 @@ def has(headers, name):
 
 
 def date_text(seconds, form=None):
-    """A date as IMF-fixdate, or in another form: 850, asc, lower, or with another zone."""
+    """Returns a date as IMF-fixdate, or in another form: 850, asc, lower, or with another zone."""
     fixdate = email.utils.formatdate(int(seconds), usegmt=True)
     parts = time.gmtime(int(seconds))
     month, clock = fixdate[8:11], fixdate[17:25]
@@ -72,7 +71,7 @@ def date_text(seconds, form=None):
 
 
 def expand(text, case, now):
-    """A text with its words in braces replaced: {start+60}, {now-5|850}, {base}, {host} and {id}."""
+    """Returns a text with its words in braces replaced: {start+60}, {now-5|850}, {base}, {host} and {id}."""
     words = {"base": base_of(case), "host": HOST, "id": case["id"]}
 
     def meaning(found):
@@ -103,7 +102,7 @@ def base_of(case):
 
 
 def times(case):
-    """The time of each step, in seconds since 1970."""
+    """Yields the time of each step, in seconds since 1970."""
     at = start_of(case)
     for number, step in enumerate(case["steps"]):
         at += step.get("pause", 0)
@@ -132,7 +131,7 @@ def request_of(case, step, now):
 
 
 def raw_request(request):
-    """A request as it is sent on a connection. A body without a length is sent in chunks."""
+    """Returns a request as it is sent on a connection. A body without a length is sent in chunks."""
     body = bytes.fromhex(request["body_hex"])
     head = [f"{request['method']} {request['target']} HTTP/1.1"]
     head += [f"{name}: {value}" for name, value in request["headers"]]
@@ -145,7 +144,7 @@ def raw_request(request):
 
 
 def body_of(case, number):
-    """The body of the origin's own answer in a step."""
+    """Returns the body of the origin server's own answer in a step."""
     origin = case["steps"][number].get("origin")
     if not origin:
         return b""
@@ -153,7 +152,7 @@ def body_of(case, number):
 
 
 def finished(case, origin, status, headers, body, now):
-    """An answer with the Date and Content-Length that the origin adds."""
+    """Returns an answer with the Date and Content-Length that the origin server adds."""
     headers = expand_headers(headers, case, now)
     if not origin.get("no_date") and not has(headers, "date"):
         headers.insert(0, ["Date", date_text(now)])
@@ -168,25 +167,25 @@ def own_answer(case, number, origin, now):
     status = origin.get("status", 200)
     body = b"" if status in BODILESS and "body" not in origin else body_of(case, number)
     answer = finished(case, origin, status, origin.get("headers", []), body, now)
-    # A body that is shorter than its Content-Length was cut off.
+    # A body that is shorter than its Content-Length is incomplete.
     answer["body_hex"] = body[: origin.get("cut_after")].hex()
     return answer
 
 
 def origin_of(case, number, now):
-    """What the origin would answer in a step, to each kind of request; None where it gives no response."""
+    """Returns the origin server's answers in a step, to each kind of request, or None if it sends no response."""
     origin = case["steps"][number].get("origin")
     if origin is None:
         return None
-    came = now + origin.get("delay", 0)
-    answer = own_answer(case, number, origin, came)
+    received = now + origin.get("delay", 0)
+    answer = own_answer(case, number, origin, received)
     answer["delay_ns"] = int(origin.get("delay", 0) * 1e9)
     for name, status in (("conditional", 304), ("range", 206)):
         rule = origin.get(name)
         if not rule:
             continue
         body = rule.get("body", "").encode("latin-1")
-        answer[name] = finished(case, origin, rule.get("status", status), rule.get("headers", []), body, came)
+        answer[name] = finished(case, origin, rule.get("status", status), rule.get("headers", []), body, received)
         answer[name]["force"] = bool(rule.get("force"))
         answer[name]["etag"] = rule.get("etag", "")
         answer[name]["date"] = expand(rule.get("date", ""), case, now)
@@ -197,7 +196,7 @@ def origin_of(case, number, now):
 
 
 def answer_on(connection, method):
-    """The next answer on a connection. Interim responses are passed over."""
+    """Returns the next answer on a connection. Interim responses are skipped."""
     answer = HTTPResponse(connection, method=method)
     try:
         answer.begin()

@@ -1,4 +1,4 @@
-"""Whether what a program did in a case is what the case expects (README.md, "What a step expects")."""
+"""Judges whether a program did in a case what the case expects (README.md, "What a step expects")."""
 import re
 
 from cases import BODILESS, body_of, expand, has, joined, method_of, times, values
@@ -21,11 +21,11 @@ BARE_ITEMS = [
 
 
 class NoList(Exception):
-    """A text that is no list of structured fields."""
+    """Raised if a text is no list of structured fields."""
 
 
 def bare_item(text, at):
-    """The item that begins at an index, and the index after it."""
+    """Returns the item that begins at an index, and the index after it."""
     for form, meaning in BARE_ITEMS:
         found = form.match(text, at)
         if found:
@@ -34,7 +34,7 @@ def bare_item(text, at):
 
 
 def member(text, at):
-    """The member of a list that begins at an index, with its parameters, and the index after it."""
+    """Returns the list member that begins at an index, with its parameters, and the index after it."""
     name, at = bare_item(text, at)
     parameters = {}
     while found := KEY.match(text, at):
@@ -46,7 +46,7 @@ def member(text, at):
 
 
 def cache_status_members(text):
-    """The members of a value of Cache-Status, each a name and its parameters."""
+    """Returns the members of a Cache-Status value, each as a name and its parameters."""
     members = []
     rest = text.strip(" \t")
     while True:
@@ -64,11 +64,11 @@ def cache_status_members(text):
 
 
 class Untested(Exception):
-    """The subject does nothing of what the case is about."""
+    """Raised if the subject does nothing that the case is about."""
 
 
 class Wrong(Exception):
-    """What was done isn't what is expected."""
+    """Raised if the subject did something else than the case expects."""
 
 
 def demand(holds, why):
@@ -81,7 +81,7 @@ def one_or_more(wanted):
 
 
 class Step:
-    """One step of a case: what it expects, and what was done in it and before it."""
+    """One step of a case: what it expects, and what was observed in it and before it."""
 
     def __init__(self, case, number, observations, now):
         self.case = case
@@ -96,7 +96,7 @@ class Step:
         return [expand(text, self.case, self.now) for text in one_or_more(wanted)]
 
     def check_headers(self, where, headers, wanted):
-        """What both requests and answers are asked of their headers."""
+        """Checks what is expected of the headers of a request or an answer."""
         for name in wanted.get("present", []):
             demand(has(headers, name), f"{where} has no {name}")
         for name in wanted.get("absent", []):
@@ -134,7 +134,7 @@ class Step:
                 self.check_framing(request["headers"], request["body"])
 
     def check_framing(self, headers, body):
-        """One Content-Length at most, that of the body, and none only where there is no body or a coding."""
+        """Checks that a body has a transfer coding, or one Content-Length that is right."""
         lengths = values(headers, "content-length")
         is_coded = has(headers, "transfer-encoding")
         demand(len(lengths) <= 1, f"Content-Length {len(lengths)} times")
@@ -184,13 +184,13 @@ class Step:
         demand(can_have_body or not body, f"a body where there can be none: {shown}")
         if "body_of" in wanted and self.method != "HEAD":
             bodies = [body_of(self.case, number) for number in one_or_more(wanted["body_of"])]
-            demand(body in bodies, f"the body is {shown}, not that of step {wanted['body_of']}")
+            demand(body in bodies, f"the body is {shown}, not the body of step {wanted['body_of']}")
         if "body" in wanted:
             bodies = [text.encode("latin-1") for text in one_or_more(wanted["body"])]
             demand(body in bodies, f"the body is {shown}")
         if "body_not_of" in wanted:
             bodies = [body_of(self.case, number) for number in one_or_more(wanted["body_not_of"])]
-            demand(body not in bodies, f"the body is that of an earlier step: {shown}")
+            demand(body not in bodies, f"the body is the body of an earlier step: {shown}")
         if wanted.get("sound"):
             lengths = values(self.answer["headers"], "content-length")
             demand(len(lengths) <= 1, f"Content-Length {len(lengths)} times")
@@ -198,7 +198,7 @@ class Step:
                 demand(lengths[0].strip() == str(len(body)), f"Content-Length {lengths[0]} over {len(body)} bytes")
 
     def check_cache_status(self, wanted):
-        """What the last member says, which is the subject's own."""
+        """Checks the last member of Cache-Status, which the subject has added."""
         text = joined(self.answer["headers"], "cache-status")
         if not text:
             raise Untested("no Cache-Status")
@@ -212,26 +212,26 @@ class Step:
         demand(members[0][0] == wanted.get("first", members[0][0]), f"the first member isn't the origin's: {text!r}")
         self.check_parameters(wanted, members[-1][1], text)
 
-    def check_parameters(self, wanted, told, text):
-        is_hit = told.get("hit") is True
-        demand(not (told.get("hit") and "fwd" in told), f"hit and fwd: {text!r}")
+    def check_parameters(self, wanted, parameters, text):
+        is_hit = parameters.get("hit") is True
+        demand(not (parameters.get("hit") and "fwd" in parameters), f"hit and fwd: {text!r}")
         demand(wanted.get("hit", is_hit) == is_hit, f"hit is {is_hit}: {text!r}")
         if "fwd" in wanted:
-            demand(told.get("fwd") in one_or_more(wanted["fwd"]), f"fwd: {text!r}")
+            demand(parameters.get("fwd") in one_or_more(wanted["fwd"]), f"fwd: {text!r}")
         if "fwd_not" in wanted:
-            demand(told.get("fwd") not in one_or_more(wanted["fwd_not"]), f"fwd: {text!r}")
+            demand(parameters.get("fwd") not in one_or_more(wanted["fwd_not"]), f"fwd: {text!r}")
         if "fwd_status" in wanted:
-            demand(told.get("fwd-status") == wanted["fwd_status"], f"fwd-status: {text!r}")
-        if "fwd_status_if_any" in wanted and "fwd-status" in told:
-            demand(told["fwd-status"] == wanted["fwd_status_if_any"], f"fwd-status: {text!r}")
+            demand(parameters.get("fwd-status") == wanted["fwd_status"], f"fwd-status: {text!r}")
+        if "fwd_status_if_any" in wanted and "fwd-status" in parameters:
+            demand(parameters["fwd-status"] == wanted["fwd_status_if_any"], f"fwd-status: {text!r}")
         if "stored" in wanted:
-            demand((told.get("stored") is True) == wanted["stored"], f"stored: {text!r}")
-        if "ttl" in wanted or "ttl_if_any" in wanted and "ttl" in told:
+            demand((parameters.get("stored") is True) == wanted["stored"], f"stored: {text!r}")
+        if "ttl" in wanted or "ttl_if_any" in wanted and "ttl" in parameters:
             low, high = wanted.get("ttl") or wanted["ttl_if_any"]
-            ttl = told.get("ttl")
+            ttl = parameters.get("ttl")
             demand(isinstance(ttl, int) and low <= ttl <= high, f"ttl: {text!r}")
 
-    # -- all of it
+    # -- the whole step
 
     def check(self, wanted):
         if "any_of" in wanted:
@@ -253,7 +253,7 @@ class Step:
             demand(wanted.get("any_body") or not self.answer["is_cut_off"], "the answer is cut off")
 
     def check_any(self, wanted):
-        """One of several holds, beside the rest."""
+        """Checks that one of several expectations holds, together with the others of the step."""
         rest = {name: it for name, it in wanted.items() if name not in ("any_of", "setup")}
         reasons = []
         for one in wanted["any_of"]:
@@ -266,7 +266,7 @@ class Step:
 
 
 def judge(case, observations):
-    """What became of a case, pass, fail or untested, and at which step and why."""
+    """Returns the outcome of a case: pass, fail or untested, and the step and the reason."""
     for number, (step, now) in enumerate(zip(case["steps"], times(case))):
         if number >= len(observations):
             return "fail", f"step {number}: not run"

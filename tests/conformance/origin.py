@@ -1,9 +1,9 @@
-"""The origin server of the cases on a connection (README.md, "The origin")."""
+"""Reads requests and writes responses as the origin server of the cases (README.md, "The origin")."""
 from cases import has, values
 
 
 def head_of(pipe):
-    """The lines of a head, without their ends, or None at the end of the input."""
+    """Returns the lines of a head, without their ends, or None at the end of the input."""
     lines = []
     while line := pipe.readline():
         if line == b"\r\n":
@@ -13,7 +13,7 @@ def head_of(pipe):
 
 
 def received_request(pipe):
-    """The next request on a pipe, or None at its end."""
+    """Returns the next request on a pipe, or None at its end."""
     lines = head_of(pipe)
     if lines is None:
         return None
@@ -24,7 +24,7 @@ def received_request(pipe):
 
 
 def chosen(answer, headers):
-    """Which of the origin's answers a request gets (tests/conformance/README.md, "The origin")."""
+    """Returns the origin server's answer to a request with these headers (README.md, "The origin")."""
     tags, date = ", ".join(values(headers, "if-none-match")), ", ".join(values(headers, "if-modified-since"))
     rule = answer.get("conditional")
     if rule and (rule["force"] and (tags or date)
@@ -38,7 +38,7 @@ def chosen(answer, headers):
 
 
 def raw_response(answer, method):
-    """An answer as it is sent. A body of unknown length is sent in chunks."""
+    """Returns an answer as it is sent. A body of unknown length is sent in chunks."""
     body = bytes.fromhex(answer["body_hex"])
     headers = [f"{name}: {value}" for name, value in answer["headers"] if name.lower() != "transfer-encoding"]
     if answer["status"] not in (204, 304) and not has(answer["headers"], "content-length"):

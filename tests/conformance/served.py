@@ -1,4 +1,4 @@
-"""The cases through frames of `cacheserve` (docs/PROTOCOL.md), in virtual time: the program is told each time."""
+"""Runs the cases by frames of `cacheserve` (docs/PROTOCOL.md), in virtual time: each frame states its time."""
 import sys
 from pathlib import Path
 
@@ -8,12 +8,12 @@ from cases import BODILESS, has, origin_of, request_of, times
 from http_cache_semantics.process import Cache, CacheError, NoResponse, ProcessOptions, Send
 from origin import chosen
 
-# What a client answers if there is no response (RFC 9110, section 15.6.5).
+# The answer if there is no response (RFC 9110, section 15.6.5).
 NO_RESPONSE = {"status": 504, "headers": [["Cache-Status", 'ours; detail="no response"']], "body": b"", "is_cut_off": False}
 
 
 def without_chunks(headers):
-    """Fields of a message whose body was read: its length is that of the frame."""
+    """Returns the fields without Transfer-Encoding, since a frame states the length of the body."""
     return [field for field in headers if field[0].lower() != "transfer-encoding"]
 
 
@@ -22,20 +22,20 @@ def head_of(first, headers):
 
 
 def fields_of(head):
-    """The first line of a head, and its fields."""
+    """Returns the first line of a head, and its fields."""
     first, *lines = head.decode("latin-1").split("\r\n")[:-2]
     return first, [line.split(": ", 1) for line in lines]
 
 
 def seen(send):
-    """A request that is sent to the origin server, as the judge sees it."""
+    """Returns a request to the origin server in the form that the judge reads."""
     first, headers = fields_of(send.head)
     method, target, _ = first.split(" ")
     return {"method": method, "target": target, "headers": headers, "body": send.body}
 
 
 def answered(answer, method):
-    """An answer as the judge sees it. A Content-Length above the body's length means that it was cut off."""
+    """Returns an answer in the form that the judge reads. It is cut off if Content-Length exceeds the body's length."""
     first, headers = fields_of(answer.head)
     status = int(first.split(" ")[1])
     lengths = [value for name, value in headers if name.lower() == "content-length"]
@@ -45,7 +45,7 @@ def answered(answer, method):
 
 
 class Step:
-    """One step of a case: what it asks, what the origin server would answer, and what that saw."""
+    """One step of a case: its request, the origin server's answers, and the requests that the origin server saw."""
 
     def __init__(self, cache, case, number, now):
         self.cache, self.case, self.number, self.now = cache, case, number, now
@@ -55,7 +55,7 @@ class Step:
         return int(round(self.now * 1000 + delay * 1000))
 
     def outcome_of(self, send):
-        """What comes of a request that is sent to the origin server."""
+        """Sends a request to the origin server, and returns the next outcome."""
         request = seen(send)
         self.saw.append(request)
         origin = origin_of(self.case, self.number, self.now)
@@ -93,7 +93,7 @@ class Step:
 
 
 def observed_by(options, cases):
-    """What the program does in each step of the cases, by their ids."""
+    """Returns what the program does in each step of the cases, by their ids."""
     with Cache(options) as cache:
         return {
             case["id"]: [Step(cache, case, number, now).observed() for number, now in enumerate(times(case))]

@@ -1,7 +1,7 @@
-/* bench FOLDER KIND COUNT: each call so many times on the messages in a folder, with stored forms of a kind.
-   Prints of each call its name, its requests for memory, and the most bytes that it holds.
+/* bench FOLDER KIND COUNT: makes each call COUNT times on the messages in a folder, with stored forms of a kind.
+   Prints for each call its name, its requests for memory, and the most bytes that it holds.
 
-   The calls are made in `measured`, which callgrind counts by itself. */
+   The function `measured` makes the calls, so that callgrind can count only them. */
 #include "calls.h"
 #include <malloc.h>
 #include <stdio.h>

@@ -27,7 +27,7 @@ static int32_t after_200(PARAMETERS) {
   return hcs_after(c, IN(FORM), IN(REQUEST), IN(RESPONSE), &stale, OUT(r->form), OUT(r->text));
 }
 
-/* Chooses between the form of another target and that of the exchange. */
+/* Chooses between the form of another target and the form of the exchange. */
 static int32_t choose(PARAMETERS) {
   enum { MOST = 16384 };
   uint8_t forms[FORMS * MOST];
@@ -116,7 +116,7 @@ static int32_t fresh_at(PARAMETERS) {
 #define DATED(age, second) "age: " age "\r\n", "date: Mon, 01 Jan 2024 00:00:" second " +0000\r\n"
 #define BIT(input) (1u << (input))
 
-/* Of several lines of a field a policy sends the last one, in hcs_before and hcs_after. */
+/* In hcs_before and hcs_after a policy sends only the last of several lines of a field. */
 const struct call calls[] = {
     {"hcs_new", new_, BIT(REQUEST) | BIT(RESPONSE), 0, 1, 1, 0, {0}},
     {"hcs_before, fresh", before_fresh, BIT(FORM) | BIT(REQUEST), 1, 0, FRESH, 0,
@@ -150,7 +150,7 @@ static struct text text_of(const char *at) {
   return text;
 }
 
-/* Makes the stored form of the response to a request. */
+/* Makes the stored form of the response to a request. Returns whether the response may be stored. */
 static int make_form(const struct hcs_cache *cache, const char *asked, uint8_t *form, struct text *made) {
   size_t len = 0;
   struct text q = text_of(asked), r = text_of(response);

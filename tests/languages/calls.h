@@ -1,9 +1,9 @@
-/* Each call of the library on one exchange, with the result that it has by RFC 7234. */
+/* Each call of the library on one exchange, with its result by RFC 7234. */
 #ifndef CALLS_H
 #define CALLS_H
 #include <http_cache_semantics.h>
 
-/* What calls return: the numbers are part of the interface. */
+/* The results of calls. They are written here as numbers, since the numbers are part of the interface. */
 enum { OUT_OF_MEMORY = -1, MALFORMED = -2, TOO_SMALL = -5, BAD_ARGUMENT = -6 };
 enum { FRESH, VALIDATE, NO_MATCH };
 enum { NOT_MODIFIED, MODIFIED, MODIFIED_NOT_STORABLE };
@@ -40,18 +40,19 @@ struct call {
 extern const struct call calls[];
 extern const size_t call_count;
 
-/* When the response is received, and when it is fresh and stale. */
+/* The time at which the response is received, and times at which it is fresh and stale. */
 extern struct hcs_time start, fresh, stale;
 
 enum { FORM_SIZE = 4096, FORMS = 2 };
 
-/* The exchange, with stored forms of a kind, which are kept in a buffer of FORMS times FORM_SIZE. */
+/* Writes the stored forms of a kind to a buffer of FORMS times FORM_SIZE, and sets the inputs of the exchange.
+   Returns whether that succeeds. */
 int make_exchange(uint8_t kind, uint8_t *forms, struct text *inputs);
 
-/* The bytes of a call's lines. */
+/* Returns the number of bytes of a call's lines. */
 size_t length_of(const struct call *call);
 
-/* Whether a result is that of a call on the exchange. */
+/* Returns whether a code and results are the expected ones of a call on the exchange. */
 int is_expected(const struct call *call, int32_t code, const struct results *results);
 
 #endif

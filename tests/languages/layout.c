@@ -1,4 +1,4 @@
-/* Prints the sizes of the structs and the offsets of their members, a line each. */
+/* Prints the sizes of the structs and the offsets of their members, each on a line. */
 #include <http_cache_semantics.h>
 #include <stdio.h>
 

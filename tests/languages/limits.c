@@ -1,7 +1,7 @@
-/* limits KIND: the calls at their limits, with stored forms of a kind (0 compact, 1 JSON): buffers of 0 to 4,096 bytes,
-   every prefix of every input, 100,000 changed bytes, every request for memory refused, and arguments out of range.
+/* limits KIND: tests the calls at their limits, with stored forms of a kind (0 compact, 1 JSON). It tries buffers of 0 to
+   4,096 bytes, every prefix of every input, 100,000 changed bytes, refused memory, and arguments out of range.
 
-   Inputs and buffers end where a page without access begins, so that a byte read or written past them ends the run.
+   A page without access follows each input and buffer, so a read or write past its end ends the run.
    Prints what is wrong, and ends with 0 if nothing is. */
 #define _DEFAULT_SOURCE
 #include "calls.h"
@@ -24,7 +24,7 @@ static void fail(const char *what, const struct call *call, size_t at, int32_t c
     printf("%s: %s at %zu: %d\n", what, call->name, at, (int)code);
 }
 
-/* The end of a buffer of BUFFER bytes, which a page without access follows. */
+/* Returns the end of a buffer of BUFFER bytes, which a page without access follows. */
 static uint8_t *guarded(void) {
   size_t page = (size_t)sysconf(_SC_PAGESIZE), size = (BUFFER + page - 1) / page * page;
   uint8_t *start = mmap(NULL, size + page, PROT_READ | PROT_WRITE, MAP_PRIVATE | MAP_ANONYMOUS, -1, 0);
@@ -35,7 +35,7 @@ static uint8_t *guarded(void) {
   return start + size;
 }
 
-/* The first bytes of an input, against its guard. */
+/* Copies the first bytes of an input to the end of its buffer, and returns them. */
 static struct text placed(int input, size_t len) {
   struct text text = {len ? input_end[input] - len : NULL, len};
   if (len)
@@ -56,7 +56,7 @@ static struct results empty_results(size_t text_len, size_t form_len) {
   return results;
 }
 
-/* Whether every byte of a buffer from an index on is as it was. */
+/* Returns whether the bytes of a buffer from an index on, and the bytes before the buffer, are unchanged. */
 static int is_untouched(const uint8_t *end, const struct out *out, size_t from) {
   for (const uint8_t *at = end - BUFFER; at < end - out->len; at++)
     if (*at != UNTOUCHED)
@@ -71,7 +71,7 @@ static int writes_nothing(const struct results *results) {
   return is_untouched(text_end, &results->text, 0) && is_untouched(form_end, &results->form, 0);
 }
 
-/* Whether nothing is written and no length is needed, as after every error but TOO_SMALL. */
+/* Returns whether nothing is written and no length is needed, as after every error but TOO_SMALL. */
 static int is_without_result(const struct results *results) {
   return writes_nothing(results) && results->text.needed == 0 && results->form.needed == 0;
 }
@@ -100,10 +100,10 @@ static void short_buffers_of(const struct call *call, int of_form, size_t needed
   for (size_t len = 0; len <= BUFFER; len++) {
     struct results results = empty_results(of_form ? BUFFER : len, of_form ? len : BUFFER);
     int32_t code = run(call, in, &results);
-    size_t told = of_form ? results.form.needed : results.text.needed;
+    size_t reported = of_form ? results.form.needed : results.text.needed;
     int is_right = len < needed ? code == TOO_SMALL && writes_nothing(&results)
                                 : is_expected(call, code, &results) && writes_no_more(call, &results);
-    if (!is_right || told != needed)
+    if (!is_right || reported != needed)
       fail(of_form ? "form's buffer" : "buffer", call, len, code);
   }
 }
@@ -138,7 +138,7 @@ static void prefixes(const struct call *call) {
       prefixes_of(call, input);
 }
 
-/* Whether a text is a head: lines that end in CRLF, no other CR or LF, and an empty line at its end only. */
+/* Returns whether a text is a head: its lines end in CRLF, it has no other CR or LF, and only its last line is empty. */
 static int is_head(const struct out *out) {
   size_t line = 0;
   for (size_t at = 0; at < out->needed; at++) {
@@ -155,8 +155,7 @@ static int is_head(const struct out *out) {
   return 0;
 }
 
-/* Whether a call has written a head, if it is one that writes heads. Where none of several responses is for the request,
-   hcs_choose writes none. */
+/* Returns whether a call has written a head, if it has to. hcs_choose writes none if no response is for the request. */
 static int is_head_of(const struct call *call, int32_t code, const struct out *out) {
   int is_none = call->reads & 1u << OTHER && code == NO_MATCH;
   return is_none ? out->needed == 0 : !call->writes_text || call->lines[1] == NULL || is_head(out);
@@ -239,7 +238,7 @@ static void refused_memory(const struct call *call) {
 
 enum { OUT_OF_RANGE = 7 };
 
-/* The caches and the time of hcs_new, of which one thing each is out of range. */
+/* Sets pairs of options and times for hcs_new. In each pair one member is out of range. */
 static void out_of_range(struct hcs_cache *caches, struct hcs_time *times) {
   for (int i = 0; i < OUT_OF_RANGE; i++) {
     struct hcs_time start_of_2024 = {1704067200, 0};
@@ -283,7 +282,7 @@ static void time_out_of_range(const struct call *call, struct hcs_time *time) {
   wrong_times += code == BAD_ARGUMENT;
 }
 
-/* Each call that takes a time takes one of these three. */
+/* Each call with a time uses one of these three. */
 static void times_out_of_range(void) {
   wrong_times = 0;
   for (size_t i = 0; i < call_count; i++) {
@@ -305,7 +304,7 @@ static void a_name_that_is_no_text(void) {
     fail("a name that is no text", &calls[0], 0, code);
 }
 
-/* hcs_choose for forms whose lengths don't add up, for none, and for one that isn't for the request. */
+/* Tests hcs_choose on forms whose lengths don't add up, on no form, and on a form that isn't for the request. */
 static void lengths_of_forms(void) {
   struct text in[INPUTS];
   place_all(in);

@@ -1,4 +1,4 @@
-"""The Python package: its messages, times, errors and policies. Results follow from RFC 7234."""
+"""Tests the messages, times, errors and policies of the Python package. The expected results follow from RFC 7234."""
 import copy
 import datetime
 import doctest
@@ -167,7 +167,7 @@ class Policies(unittest.TestCase):
         self.assertEqual(policy().explain(PAGE, "Example Cache", START), '"Example Cache"; hit; ttl=10')
 
     def test_choice(self):
-        """RFC 7234, sections 4 and 4.1: a fresh one before a stale one, the first of several, and only what matches."""
+        """Tests RFC 7234, sections 4 and 4.1: only matching responses, fresh ones before stale ones, the first of several."""
 
         def varied(language, fields):
             asked = Request("GET", "/a", {"Accept-Language": language})

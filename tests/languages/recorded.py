@@ -1,6 +1,6 @@
-"""The recorded scripts of crates/vectors/stdin, run through the shared library and through the Rust crate.
+"""Runs the recorded scripts of crates/vectors/stdin by the shared library and by the Rust crate.
 
-A field value of a head has no blanks at its ends, so these are left out of what is sent, of the recorded answers and of
+A field value of a head has no blanks at its ends. So such blanks are removed from messages, from the recorded answers and from
 the answers that are compared with them."""
 import json
 import subprocess
@@ -13,7 +13,7 @@ from http_cache_semantics._messages import request_from
 
 ROOT = Path(__file__).resolve().parent.parent.parent
 BLANKS = " \t"
-# Their answers go by a blank at an end of a value, as of an Age, so a head can't ask for them.
+# The numbers of scripts whose answers depend on a blank at an end of a value, such as of an Age. No head can have it.
 BY_BLANKS = {118, 144, 174, 176, 179, 234, 263}
 
 
@@ -31,7 +31,7 @@ def has_blank_ends(script):
 
 
 def recorded():
-    """Each script that a head can say, with its number and its answer."""
+    """Returns each script whose messages can be sent as heads, with its number and its answer."""
     lines = (ROOT / "crates/vectors/stdin").read_text(encoding="utf-8").splitlines()
     every = [(number, json.loads(line)) for number, line in enumerate(lines, 1)]
     assert all(has_blank_ends(it["script"]) for number, it in every if number in BY_BLANKS)
@@ -61,18 +61,18 @@ def response_in(message):
     return hcs.Response(message["status"], fields_of(message))
 
 
-def exact(moment):
-    return Fraction(moment[0]) + Fraction(moment[1], 10**9)
+def exact(time):
+    return Fraction(time[0]) + Fraction(time[1], 10**9)
 
 
 def field_lines(message):
-    """The lines of a message's fields, in the order of their names."""
+    """Returns the lines of a message's fields, in the order of their names."""
     in_order = sorted(message.headers, key=lambda pair: pair[0])
     return [f"  {name}: {value.encode('latin-1').hex()}" for name, value in in_order]
 
 
 class Replay:
-    """A script, run through the Python package. Before each step the policy is stored and read back."""
+    """A run of a script by the Python package. Before each step the policy is stored and read back."""
 
     def __init__(self, script, form):
         chosen = script["options"]
@@ -120,7 +120,7 @@ class Replay:
         self.lines.append(f"  state storable {storable} age {age} ttl {left} stale {stale}")
 
     def unmatched(self, request, now):
-        """The request that the library writes where nothing matches; the package returns the one that was asked."""
+        """Returns the request that the library writes if nothing matches. The package returns the client's request instead."""
         head, at = request.head(), hcs._options.time_struct(now)
         code, out = self.policy._filled("hcs_before", head, len(head), at)
         return request_from(out) if code == 2 else None
@@ -144,7 +144,7 @@ class Replay:
 
 
 def difference(number, got, wanted):
-    """What to say of a script, if it has another answer than the recorded one."""
+    """Returns a list with a message if an answer differs from the recorded one, else an empty list."""
     got, wanted = trimmed(got), trimmed(wanted)
     if got == wanted:
         return []
@@ -153,7 +153,7 @@ def difference(number, got, wanted):
 
 
 def through_the_library(form):
-    """The scripts that differ, through the shared library and with stored forms of one kind."""
+    """Returns the differences of scripts by the shared library, with stored forms of one kind."""
     assert library().hcs_version() > 0
     differ = []
     for number, script, answer in recorded():
@@ -179,12 +179,12 @@ def response_commands(message):
     return commands_of(message, f"response {message['status']}")
 
 
-def time_command(moment):
-    return f"time {moment[0]} {moment[1]}"
+def time_command(time):
+    return f"time {time[0]} {time[1]}"
 
 
 def rust_commands(script):
-    """A script for rust/examples/replay.rs."""
+    """Yields the commands of a script for rust/examples/replay.rs."""
     chosen = script["options"]
     numbers = [chosen["shared"], chosen["ignore_cargo_cult"], *chosen["cache_heuristic"]]
     numbers += chosen["immutable_min_time_to_live"]
@@ -203,7 +203,7 @@ def rust_commands(script):
 
 
 def after_restarts(script, answer):
-    """The recorded lines with a restart before each step that is none."""
+    """Yields the recorded lines with a restart before each step that isn't a restart."""
     lines = [line for line in answer if line != "restarted"]
     steps = iter(script["steps"])
     for line in lines:
@@ -221,7 +221,7 @@ def restarts_before(steps):
 
 
 def through_rust(program):
-    """The scripts that differ, through the Rust crate."""
+    """Returns the differences of scripts by the Rust crate."""
     differ = []
     for number, script, answer in recorded():
         given = "\n".join(rust_commands(script)) + "\n"

@@ -1,6 +1,6 @@
-/* threads COUNT ROUNDS: every call, so many times in so many threads at once, each with its own form and buffers. Then
-   JSON that is nested deep takes the place of the form. The threads have the stack that docs/C.md says is enough.
-   Prints what is wrong, and ends with 0 if nothing is. */
+/* threads COUNT ROUNDS: makes every call ROUNDS times in each of COUNT threads, which have their own forms and buffers.
+   Then the form is deeply nested JSON. The threads have the stack that is enough by docs/C.md.
+   Prints how many calls are wrong, and ends with 0 if none is. */
 #include "calls.h"
 #include <pthread.h>
 #include <stdio.h>
@@ -15,7 +15,7 @@ struct work {
   uint8_t kind;
 };
 
-/* Every depth, to that at which a reader of JSON has to stop. */
+/* Calls with JSON of every depth up to DEEPEST, beyond the limit of the reader. Each call has to fail. */
 static void nested_forms(const struct hcs_cache *cache, const struct text *exchange, struct work *work) {
   uint8_t text[BUFFER], next[BUFFER], deep[DEEPEST];
   struct text in[INPUTS];

@@ -1,6 +1,8 @@
-"""times.py SCENE: microseconds of each call of the Python package on a scene, and of CacheControl where it is there.
+"""Prints the microseconds of each call of the Python package on a scene, and of CacheControl if it is installed.
 
-Each is the least of eleven runs."""
+    times.py SCENE
+
+Each number is the least of eleven runs."""
 import io
 import json
 import sys

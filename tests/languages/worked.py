@@ -1,6 +1,6 @@
-"""The worked cases of tests/cases/calls, whose results were worked out by hand, through the Python package.
+"""Runs the worked cases of tests/cases/calls, whose results were worked out by hand, by the Python package.
 
-tests/calls says how a table is read. The calls that the library doesn't have are left out."""
+tests/calls explains the tables. Calls that the library doesn't have are left out."""
 import re
 from fractions import Fraction
 from pathlib import Path
@@ -10,14 +10,14 @@ import http_cache_semantics as hcs
 CASES = Path(__file__).resolve().parent.parent / "cases/calls"
 START = 1704067200
 NO_CALLS = {"directives", "forbids_stale", "format_cache_control", "http_date", "member", "read_date", "stored_directives"}
-# How a table shows the lifetime behind the words for what it comes from.
+# What a table writes between the words for what decides a lifetime and the lifetime.
 SECONDS_AFTER = {"max-age": "=", "s-maxage": "="}
 SECONDS_AFTER.update(dict.fromkeys(("Expires isn't after Date", "Expires", "Last-Modified", "immutable"), ", "))
 REFUSED = {hcs.HeaderMapFull: "header map full"}
 
 
 def rows(name):
-    """The rows of a table, each as its fields, of which the last is the result."""
+    """Yields the cases of a table as lists of fields, of which the last is the result."""
     text = (CASES / f"{name}.txt").read_text(encoding="utf-8")
     text = "\n".join(line for line in text.splitlines() if not line.startswith("#"))
     for line in re.sub(r" *\n +", " ", text).split("\n"):
@@ -31,7 +31,7 @@ def fields_in(text):
 
 
 def lines_of(message):
-    """The field lines of a message as a table has them, in the order of their names: `?` is a value that is no text."""
+    """Returns the field lines of a message as a table has them, in order. `?` is a value that isn't ASCII."""
     shown = [(name, value if value.isascii() else "?") for name, value in message.headers]
     return sorted(f"{name}: {value}".strip() for name, value in shown)
 
@@ -129,10 +129,10 @@ def result(name, row):
 
 
 def wrong_rows():
-    """The number of rows, and what to say of those with another result."""
+    """Returns the number of cases, and a message for each with another result."""
     count, wrong = 0, []
     tables = {path.stem for path in CASES.glob("*.txt")}
-    assert tables == set(CALLS) | NO_CALLS, "a table of calls is new or gone"
+    assert tables == set(CALLS) | NO_CALLS, "a table of calls was added or removed; change CALLS or NO_CALLS"
     for name in sorted(CALLS):
         for row in rows(name):
             count += 1

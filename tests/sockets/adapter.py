@@ -1,4 +1,4 @@
-"""The module adapter of the Python package, over the program that $CACHESERVE names."""
+"""Tests the module adapter of the Python package, with the program that $CACHESERVE names."""
 import logging
 import os
 import re
@@ -21,7 +21,7 @@ LONG = 9 * 1_048_576
 
 
 def answer(request, number):
-    """What the origin server answers a request; the first one has the number 1."""
+    """Returns the origin server's answer to a request. The first request has the number 1."""
     path, tag = request["target"], b'"%d"' % number
     if path == "/gone":
         return None
@@ -100,7 +100,7 @@ class Adapters(unittest.TestCase):
         self.assertEqual(got.status_code, 200)
         self.assertIn(b"y" * 100_000, self.origin.asked[0]["body"])
 
-    def test_cookies_are_those_that_the_origin_server_sends(self):
+    def test_only_cookies_that_the_origin_server_sends_are_set(self):
         got, _ = self.get("/cookie")
         self.assertEqual((got.cookies.get_dict(), self.session.cookies.get_dict()), ({"a": "1", "b": "2"},) * 2)
         self.session.cookies.set("a", "newer", domain="127.0.0.1", path="/")
@@ -123,7 +123,7 @@ class Adapters(unittest.TestCase):
         with self.get("/long", stream=True)[0] as got:
             self.assertEqual(got.raw.read(10), b"l" * 10)
 
-    def test_errors_are_those_of_requests(self):
+    def test_errors_are_errors_of_requests(self):
         with self.assertRaises(requests.exceptions.ChunkedEncodingError):
             self.get("/cut")
         with self.assertRaises(requests.ConnectionError):
@@ -132,7 +132,7 @@ class Adapters(unittest.TestCase):
             self.session.get("http:///x")
         self.assertEqual(self.adapter.cache.stats()["under_way"], 0)
 
-    def test_a_stale_response_is_validated_behind_it(self):
+    def test_a_stale_response_is_validated_after_the_answer(self):
         self.get("/stale")
         got, from_cache = self.get("/stale")
         self.assertEqual((got.text, from_cache), ("page 1", True))

@@ -1,7 +1,7 @@
-"""Runs the cases for a private cache through CacheAdapter, over real sockets; the program is $CACHESERVE.
+"""Runs the cases for a private cache by CacheAdapter, over real sockets, with the program that $CACHESERVE names.
 
-Left out are the cases that requests can't write: another form of target, bytes on the connection, an empty query; and those
-about what an intermediary does."""
+Cases that `requests` can't send are left out: other forms of target, bytes on the connection, an empty query. So are the cases
+of what an intermediary does."""
 import sys
 
 sys.dont_write_bytecode = True
@@ -43,7 +43,7 @@ def main():
         try:
             got = session.request(request["method"], url, headers=encoded, data=body, allow_redirects=False, timeout=20)
         except requests.RequestException:
-            # So requests says that there is no response, where a proxy answers 504.
+            # `requests` raises an exception if there is no response. A proxy answers 504 then.
             return {"status": 504, "headers": [], "body": b"", "is_cut_off": False}
         fields = [[name, value] for name, value in got.raw.headers.iteritems()]
         return {"status": got.status_code, "headers": fields, "body": got.content, "is_cut_off": False}

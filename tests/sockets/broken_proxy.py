@@ -1,4 +1,5 @@
-"""The proxy with a fault, for the load to notice: the first word is `clock` (its clock stands) or `vary` (it drops Vary)."""
+"""Runs the proxy with a fault that the load has to notice. The first argument is `clock`, which stops the clock, or `vary`,
+which removes Vary from responses."""
 import re
 import sys
 

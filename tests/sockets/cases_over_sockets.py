@@ -1,4 +1,4 @@
-"""Runs the cases of tests/conformance over real sockets: an origin server, and clients that ask in real time."""
+"""Runs the cases of tests/conformance over real sockets, with an origin server and with clients in real time."""
 import socketserver
 import sys
 import threading
@@ -14,15 +14,15 @@ from cases import expand_headers, has, kind_of, origin_of
 from judge import judge
 from origin import chosen, raw_response, received_request
 
-# What the client of a case adds to each request, so that the origin server knows the case and the step.
+# The client adds this field to each request, so that the origin server knows the case and the step.
 STEP = "X-Conf-Step"
 AT_ONCE = 60
-# How long a validation may take that is sent after the answer.
+# How many seconds a validation that is sent after the answer may take.
 AFTERWARDS = 0.1
 
 
 class OriginServer(socketserver.ThreadingTCPServer):
-    """The origin server of all cases, and what it gets in each step."""
+    """The origin server of all cases, and the requests that it saw in each step."""
 
     daemon_threads = True
     allow_reuse_address = True
@@ -36,7 +36,7 @@ class OriginServer(socketserver.ThreadingTCPServer):
         threading.Thread(target=self.serve_forever, daemon=True).start()
 
     def handle_error(self, *_):
-        """A proxy may close a connection at any time."""
+        """Ignores errors, since a proxy may close a connection at any time."""
 
 
 class Connection(socketserver.StreamRequestHandler):
@@ -46,7 +46,7 @@ class Connection(socketserver.StreamRequestHandler):
                 return
 
     def answer(self, request):
-        """Answers a request, and returns whether the connection may have another."""
+        """Answers a request, and returns whether another request may follow on the connection."""
         [step] = [value for name, value in request["headers"] if name.lower() == STEP.lower()]
         name, _, number = step.rpartition(".")
         case = self.server.cases[name]
@@ -76,7 +76,7 @@ class Connection(socketserver.StreamRequestHandler):
 
 
 class Stream:
-    """What HTTPResponse takes for a socket."""
+    """An object that HTTPResponse uses as a socket."""
 
     def __init__(self, file):
         self.file = file
@@ -86,11 +86,11 @@ class Stream:
 
 
 def received_answer(file, method):
-    """The final response on a connection, as the judge sees it."""
+    """Returns the final response on a connection in the form that the judge reads."""
     answers = []
     try:
         while not answers or answers[-1].status < 200:
-            # One that is let go of closes the file.
+            # An HTTPResponse that is garbage collected closes the file, so the list keeps all of them.
             answer = HTTPResponse(Stream(file), method=method)
             answers.append(answer)
             answer.begin()
@@ -104,7 +104,7 @@ def received_answer(file, method):
 
 
 def run_case(origin, case, ask):
-    """The outcome of a case, and why. `ask` returns what a client receives in a step."""
+    """Returns the outcome of a case, and the reason. `ask` returns what a client receives in a step."""
     case = {**case, "start": int(time.time())}
     origin.cases[case["id"]] = case
     observations = []
@@ -117,7 +117,7 @@ def run_case(origin, case, ask):
 
 
 def run_cases(origin, cases, ask):
-    """How many cases of each kind pass, and a line for each that doesn't."""
+    """Returns how many cases of each kind pass, and a line for each other case that isn't optional."""
     passed, wrong = {}, []
     with ThreadPoolExecutor(AT_ONCE) as pool:
         outcomes = pool.map(lambda case: run_case(origin, case, ask), cases)

@@ -1,6 +1,6 @@
-"""The configurations of examples/deploy: a unit of systemd, and nginx and HAProxy in front of two nodes.
+"""Tests the configurations of examples/deploy: a unit of systemd, and nginx and HAProxy in front of two nodes.
 
-Prints `left out` for what isn't on this machine, and what is wrong."""
+Prints `left out` for each program that isn't installed, and what is wrong."""
 import contextlib
 import http.client
 import shutil
@@ -14,7 +14,7 @@ from cases import values
 from started import ROOT, free_port, proxy, wait_for
 
 EXAMPLES = ROOT / "examples/deploy"
-# Odd, so that one node after the other would be noticed.
+# The number is odd, so that the test fails if the nodes just take turns.
 PAGES = 41
 
 
@@ -31,7 +31,7 @@ def haproxy(folder, port, nodes):
 
 
 def written(folder, name, port, nodes):
-    """The path of an example in which its three ports are others."""
+    """Writes a copy of an example with other ports. Returns its path."""
     text = (EXAMPLES / name).read_text()
     for known, other in zip((8080, 8081, 8082), (port, *nodes)):
         assert f"127.0.0.1:{known}" in text
@@ -54,7 +54,7 @@ class Client:
 
 
 def wrongs(port, origin):
-    """What is wrong behind a balancer, a line each."""
+    """Yields a line for each fault of two nodes behind a balancer."""
     client = Client(port)
     first = [client.cache_status("GET", page) for page in range(PAGES)]
     again = [client.cache_status("GET", page) for page in range(PAGES)]

@@ -1,8 +1,9 @@
-"""Load on a caching proxy: an origin server whose pages change, and clients that know which responses are right.
+"""Puts load on a caching proxy, with an origin server whose pages change, and clients that know which responses are right.
 
-Each page has versions: the next one comes by a POST, and now and then by itself. A page is fresh for a second and has an
-ETag, so that most of what isn't a hit is a validation. A response is wrong if its body isn't that of the page, of the language
-that was asked for and of the version that its ETag names, or if that version was replaced longer ago than a page is fresh."""
+Each page has versions: a POST makes the next version, and now and then one is made without a POST. A page is fresh for a second
+and has an ETag, so most requests that aren't hits are validations. A response is wrong if its body differs from the page in the
+requested language and in the version of its ETag. It is also wrong if that version was replaced longer ago than a page is
+fresh."""
 import asyncio
 import random
 import re
@@ -11,7 +12,7 @@ from collections import Counter
 
 LANGUAGES = ("en", "de", "fr")
 FRESH = 1
-# How long messages may take besides, in seconds.
+# How many seconds messages may take in addition.
 SLACK = 2
 POSTS = 0.01
 
@@ -28,7 +29,7 @@ async def read_head(reader):
 
 
 class Origin:
-    """The origin server."""
+    """An origin server with pages that change. It counts its requests."""
 
     def __init__(self, pages, random_numbers):
         self.pages, self.random = pages, random_numbers
@@ -80,7 +81,7 @@ class Origin:
 
 
 class Load:
-    """The clients, and what they have counted."""
+    """The clients, and their counts of responses and faults."""
 
     def __init__(self, port, origin, requests, seed, pause):
         self.port, self.origin, self.left, self.seed, self.pause = port, origin, requests, seed, pause
@@ -88,7 +89,7 @@ class Load:
         self.reasons = Counter()
 
     def wrong(self, number, language, status, fields, body, began, known):
-        """Why a response is wrong, or None."""
+        """Returns why a response is wrong, or None."""
         if status == 304:
             return None if known and fields.get(b"etag") == known else "a 304 for what the client hasn't"
         if status != 200:
@@ -98,7 +99,7 @@ class Load:
             return f"ETag {fields.get(b'etag')} for page {number} in {language}"
         version = int(tag[2])
         if body != page(number, version, language):
-            return f"the body isn't that of version {version}"
+            return f"the body isn't the body of version {version}"
         replaced = self.origin.replaced.get((number, version))
         if replaced and began - replaced > FRESH + SLACK:
             return f"version {version} was replaced {began - replaced:.1f} s before"
@@ -122,7 +123,7 @@ class Load:
                 connection = None
 
     async def ask(self, reader, writer, numbers, known):
-        """Sends one request and judges the response. Returns whether the connection is over."""
+        """Sends one request and judges the response. Returns whether the connection ends."""
         is_usual = numbers.random() < 0.5
         number = min(int(numbers.paretovariate(0.6)) - 1, self.origin.pages - 1) if is_usual else numbers.randrange(self.origin.pages)
         if numbers.random() < POSTS:
@@ -153,13 +154,15 @@ class Load:
 
 
 async def loaded(port, origin_port, requests, seconds, seed=1, meanwhile=None, connections=50, pages=200):
-    """What the clients count of a number of requests in some seconds, and why responses are wrong. `meanwhile` runs beside."""
+    """Sends so many requests in so many seconds, while `meanwhile` runs.
+
+    Returns the clients' counts, the reasons why responses are wrong, and the origin server's counts of requests."""
     origin = Origin(pages, random.Random(seed))
     server = await asyncio.start_server(origin.serve, "127.0.0.1", origin_port, backlog=512)
-    beside = [asyncio.create_task(origin.change_some())] + ([asyncio.create_task(meanwhile())] if meanwhile else [])
+    tasks = [asyncio.create_task(origin.change_some())] + ([asyncio.create_task(meanwhile())] if meanwhile else [])
     load = Load(port, origin, requests, seed, seconds * connections / requests)
     await asyncio.gather(*(load.client(number) for number in range(connections)))
-    for task in beside:
+    for task in tasks:
         task.cancel()
     server.close()
     return load.counts, load.reasons, origin.asked

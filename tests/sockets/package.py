@@ -1,4 +1,4 @@
-"""The modules process, wire and proxy of the Python package, over the program that $CACHESERVE names."""
+"""Tests the modules process, wire and proxy of the Python package, with the program that $CACHESERVE names."""
 import asyncio
 import contextlib
 import os
@@ -45,7 +45,7 @@ def get(path):
 
 
 def store(cache, path, body=b"page"):
-    """Has a page stored, as its answer."""
+    """Has the process store a page, and returns the answer."""
     send = cache.ask(get(path), at=START)
     return cache.received(send, PAGE, body, START, START)
 
@@ -109,7 +109,7 @@ class Processes(unittest.TestCase):
                 cache.ask(get(b"/secret"), at=START)
             self.assertIsInstance(cache.ask(get(b"/other"), at=START), Send)
 
-    def test_a_forked_process_has_no_part_in_it(self):
+    def test_a_forked_process_may_not_use_it(self):
         with Cache() as cache:
             child = os.fork()
             if child == 0:
@@ -120,7 +120,7 @@ class Processes(unittest.TestCase):
             self.assertEqual(os.waitpid(child, 0)[1], 0)
             self.assertIsInstance(cache.ask(get(b"/a")), Send)
 
-    def test_a_closed_process_is_started_anew(self):
+    def test_a_closed_process_is_started_again(self):
         cache = Cache()
         store(cache, b"/a")
         cache.close()
@@ -345,7 +345,7 @@ class Bodies(unittest.IsolatedAsyncioTestCase):
 
 
 def answer(request, _):
-    """What the origin server answers a request: three paths have a long body, one takes a second, one gets no response."""
+    """Returns the origin server's answer: three paths have a long body, one takes a second, and one gets no response."""
     path, long = request["target"], 9 * MEGABYTE
     if path == "/gone":
         return None
@@ -371,8 +371,8 @@ class Proxies(unittest.TestCase):
         with proxy(PROGRAM, self.origin.port, *words, **how) as (run, self.port):
             yield run
 
-    def said(self, data, closes=True):
-        """All that the proxy writes on a connection."""
+    def reply(self, data, closes=True):
+        """Returns all that the proxy writes on a connection."""
         with socket.create_connection(("127.0.0.1", self.port), 20) as connection:
             connection.sendall(data)
             if closes:
@@ -381,17 +381,17 @@ class Proxies(unittest.TestCase):
 
     def test_several_requests_on_a_connection(self):
         with self.proxy():
-            said = self.said(get(b"/a") + get(b"/a") + get(b"/a").replace(b"\r\n\r\n", b"\r\nConnection: close\r\n\r\n"), False)
-        self.assertEqual((said.count(b"HTTP/1.1 200 "), said.count(b"\r\n\r\npage")), (3, 3))
-        self.assertEqual((len(self.origin.asked), said.count(b"cacheserve; hit")), (1, 2))
+            got = self.reply(get(b"/a") + get(b"/a") + get(b"/a").replace(b"\r\n\r\n", b"\r\nConnection: close\r\n\r\n"), False)
+        self.assertEqual((got.count(b"HTTP/1.1 200 "), got.count(b"\r\n\r\npage")), (3, 3))
+        self.assertEqual((len(self.origin.asked), got.count(b"cacheserve; hit")), (1, 2))
 
     def test_bodies_that_are_too_long_to_store(self):
         with self.proxy():
             for path, letter in ((b"/known", b"k"), (b"/chunks", b"c"), (b"/open", b"o")):
-                head, _, body = self.said(get(path).replace(b"1.1", b"1.0")).partition(b"\r\n\r\n")
+                head, _, body = self.reply(get(path).replace(b"1.1", b"1.0")).partition(b"\r\n\r\n")
                 self.assertEqual((path, len(body), set(body)), (path, 9 * MEGABYTE, set(letter)))
                 self.assertNotIn(b"transfer-encoding", head.lower())
-            self.assertIn(b"\r\ntransfer-encoding: chunked\r\n", self.said(get(b"/open")))
+            self.assertIn(b"\r\ntransfer-encoding: chunked\r\n", self.reply(get(b"/open")))
         self.assertEqual(len(self.origin.asked), 4)
 
     def test_unclear_framing_reaches_nobody(self):
@@ -412,25 +412,25 @@ class Proxies(unittest.TestCase):
                 (413, post + b"Content-Length: 99999999999\r\n\r\n"),
                 (431, b"GET /a HTTP/1.1\r\nX: " + b"x" * 70_000 + b"\r\n\r\n"),
             ):
-                said = self.said(data)
-                self.assertEqual((data[:90], said[9:12]), (data[:90], b"%d" % status))
-                self.assertEqual(said.count(b"HTTP/1.1"), 1)
+                reply = self.reply(data)
+                self.assertEqual((data[:90], reply[9:12]), (data[:90], b"%d" % status))
+                self.assertEqual(reply.count(b"HTTP/1.1"), 1)
         self.assertEqual(self.origin.asked, [])
 
     def test_a_body_is_forwarded_out_of_its_chunks(self):
         head = b"POST /a HTTP/1.1\r\nHost: a.test\r\nExpect: 100-continue\r\nTransfer-Encoding: chunked\r\n\r\n"
         with self.proxy():
-            said = self.said(head + b"3\r\nabc\r\n1\r\nd\r\n0\r\n\r\n")
-        self.assertTrue(said.startswith(b"HTTP/1.1 100 Continue\r\n\r\nHTTP/1.1 200"))
+            reply = self.reply(head + b"3\r\nabc\r\n1\r\nd\r\n0\r\n\r\n")
+        self.assertTrue(reply.startswith(b"HTTP/1.1 100 Continue\r\n\r\nHTTP/1.1 200"))
         [request] = self.origin.asked
         self.assertEqual((request["body"], values(request["headers"], "content-length")), (b"abcd", ["4"]))
         self.assertEqual(values(request["headers"], "transfer-encoding"), [])
 
-    def test_the_origin_server_gives_no_response(self):
+    def test_the_origin_server_sends_no_response(self):
         with self.proxy():
-            self.assertEqual(self.said(get(b"/gone"))[:12], b"HTTP/1.1 504")
+            self.assertEqual(self.reply(get(b"/gone"))[:12], b"HTTP/1.1 504")
         with proxy(PROGRAM, free_port()) as (_, self.port):
-            self.assertEqual(self.said(get(b"/a"))[:12], b"HTTP/1.1 504")
+            self.assertEqual(self.reply(get(b"/a"))[:12], b"HTTP/1.1 504")
 
     @unittest.skipUnless(shutil.which("openssl"), "no openssl")
     def test_an_origin_server_with_tls(self):
@@ -444,9 +444,9 @@ class Proxies(unittest.TestCase):
             self.origin.socket = context.wrap_socket(self.origin.socket, server_side=True)
             there = f"--origin=https://localhost:{self.origin.port}"
             with mock.patch.dict(os.environ, SSL_CERT_FILE=certificate), self.proxy(there):
-                self.assertTrue(self.said(get(b"/a")).endswith(b"\r\n\r\npage"))
+                self.assertTrue(self.reply(get(b"/a")).endswith(b"\r\n\r\npage"))
             with self.proxy(there):
-                self.assertEqual(self.said(get(b"/a"))[9:12], b"504")
+                self.assertEqual(self.reply(get(b"/a"))[9:12], b"504")
 
     def test_a_request_under_way_ends_before_the_proxy(self):
         with self.proxy() as run:
@@ -457,16 +457,16 @@ class Proxies(unittest.TestCase):
                 time.sleep(0.3)
                 run.send_signal(signal.SIGTERM)
                 self.assertEqual(idle.recv(100), b"")
-                said = b"".join(iter(lambda: slow.recv(65_536), b""))
-            self.assertTrue(said.startswith(b"HTTP/1.1 200 ") and said.endswith(b"\r\n\r\npage"))
-            self.assertIn(b"connection: close", said)
+                reply = b"".join(iter(lambda: slow.recv(65_536), b""))
+            self.assertTrue(reply.startswith(b"HTTP/1.1 200 ") and reply.endswith(b"\r\n\r\npage"))
+            self.assertIn(b"connection: close", reply)
             self.assertEqual(run.wait(10), 0)
 
     def test_the_access_log(self):
         with self.proxy("--log", "--name=edge", stdout=subprocess.PIPE, text=True) as run:
-            self.said(b"nothing\r\n\r\n")
-            self.said(get(b"/a?\\b"))
-            self.said(get(b"/b") + get(b"/b"))
+            self.reply(b"nothing\r\n\r\n")
+            self.reply(get(b"/a?\\b"))
+            self.reply(get(b"/b") + get(b"/b"))
         lines = [re.sub(r"\[.*?\]|ttl=(59|60)", "[]", line) for line in run.stdout.read().splitlines()]
         run.stdout.close()
         self.assertEqual(
@@ -481,16 +481,16 @@ class Proxies(unittest.TestCase):
 
     def test_an_unsafe_request_whose_process_is_killed(self):
         with tempfile.TemporaryDirectory() as folder, self.proxy(f"--file={folder}/c.db", stderr=subprocess.DEVNULL) as run:
-            self.said(get(b"/slow"))
-            self.assertIn(b"; hit", self.said(get(b"/slow")))
+            self.reply(get(b"/slow"))
+            self.assertIn(b"; hit", self.reply(get(b"/slow")))
             with socket.create_connection(("127.0.0.1", self.port), 20) as connection:
                 connection.sendall(b"POST /slow HTTP/1.1\r\nHost: a.test\r\nContent-Length: 0\r\nConnection: close\r\n\r\n")
                 time.sleep(0.3)
                 for process in children(run.pid):
                     os.kill(process, signal.SIGKILL)
                 self.assertEqual(connection.recv(12), b"HTTP/1.1 502")
-            # It may have changed the page, so what was stored in the file isn't used any more.
-            self.assertNotIn(b"; hit", self.said(get(b"/slow")))
+            # The POST may have changed the page, so the response in the file must not be used any more.
+            self.assertNotIn(b"; hit", self.reply(get(b"/slow")))
 
     def words_of(self, *words, program=PROGRAM):
         command = [sys.executable, "-m", "http_cache_semantics.proxy", *words]

@@ -1,4 +1,4 @@
-"""A small origin server for tests, whose responses a function makes."""
+"""A small origin server for tests, with a function that makes its responses."""
 import socketserver
 import sys
 import threading
@@ -12,7 +12,7 @@ from origin import received_request
 class SmallOrigin(socketserver.ThreadingTCPServer):
     """Answers each request with the bytes that `answer` returns for it and for the number of requests so far.
 
-    After None the connection ends, and after a response whose end isn't seen otherwise, as one that is cut.
+    It closes the connection after None, and after a response whose end can't be found otherwise, such as an incomplete one.
     """
 
     daemon_threads = True
@@ -23,7 +23,7 @@ class SmallOrigin(socketserver.ThreadingTCPServer):
         threading.Thread(target=self.serve_forever, args=(0.05,), daemon=True).start()
 
     def handle_error(self, *_):
-        """A proxy may close a connection at any time."""
+        """Ignores errors, since a proxy may close a connection at any time."""
 
     def stop(self):
         self.shutdown()

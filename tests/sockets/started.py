@@ -1,4 +1,4 @@
-"""Starts the proxy of the Python package, and finds what it has started."""
+"""Starts the proxy of the Python package, and finds its child processes."""
 import contextlib
 import os
 import signal
@@ -23,7 +23,7 @@ def with_package(program):
 
 @contextlib.contextmanager
 def proxy(program, origin_port, *words, command=("-m", "http_cache_semantics.proxy"), **how):
-    """A proxy that runs, as its process and its port."""
+    """Runs a proxy, as a context of its process and its port."""
     port = free_port()
     there = [f"--listen=127.0.0.1:{port}", f"--origin=http://127.0.0.1:{origin_port}"]
     command = [sys.executable, *command, *there, *words]
@@ -45,11 +45,11 @@ def wait_for(port, run):
         if run.poll() is not None:
             break
         time.sleep(0.05)
-    raise SystemExit(f"the proxy doesn't listen: status {run.poll()}")
+    raise SystemExit(f"started.py: nothing listens on port {port}: the process has status {run.poll()}")
 
 
 def children(pid):
-    """The processes that a process has started."""
+    """Returns the IDs of the child processes of a process."""
     found = []
     for path in Path("/proc").glob("[0-9]*/stat"):
         with contextlib.suppress(OSError):
@@ -59,6 +59,6 @@ def children(pid):
 
 
 def memory(pid):
-    """How many kilobytes a process has in memory."""
+    """Returns the resident memory of a process in kilobytes."""
     lines = Path(f"/proc/{pid}/status").read_text().splitlines()
     return int(next(line for line in lines if line.startswith("VmRSS")).split()[1])
