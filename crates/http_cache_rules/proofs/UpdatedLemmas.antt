@@ -12,7 +12,7 @@ use Rattle.http_header.specs.HeaderMap.{Entries, keys}
 use Rattle.http_cache_fields.specs.Headers.{Headers, headers_of, values, with_further_value, contains_key, ChangesUnder}
 use Rattle.http_cache_fields.proofs.HeadersLemmas.{ties}
 use Rattle.http_cache_rules.specs.Updated.{updated_values, HasNoRoom, StopsAt}
-use Rattle.http_cache_rules.proofs.SweepLemmas.{IsFinal, IsSwept, get-missing}
+use Rattle.http_cache_rules.proofs.SweepLemmas.{IsSwept, get-missing}
 
 abbrev pub adds : Headers → List ℕ → Option (List (List ℕ)) → Option (List (List ℕ))
 adds stored name o = option_or o (fin.get stored name)
