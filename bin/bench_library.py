@@ -1,7 +1,10 @@
 """Prints what each call of the library in out/c costs on two scenes, for bin/bench --library.
 
 From C it prints instructions (by valgrind's callgrind), requests for memory, and the most bytes held, with compact and with
-JSON stored forms. From Python it prints microseconds, also for CacheControl if python3-cachecontrol is installed."""
+JSON stored forms. From Python it prints microseconds, also for CacheControl if python3-cachecontrol is installed. Then it prints
+how the instructions from C grow with the fields of each message, with compact forms. The number after them is how many times
+those of the size before they are."""
+import copy
 import json
 import os
 import re
@@ -16,6 +19,9 @@ HERE = ROOT / "tests/languages"
 LIBRARY = ROOT / "out/c"
 FORMS = ["compact", "JSON"]
 COUNT = 20
+SIZES = [10, 100, 1000, 10000]
+# How many of the first calls are made with larger messages.
+GROWING = 4
 
 
 def run(*command, **how):
@@ -48,14 +54,14 @@ def compiled(folder):
     return program
 
 
-def instructions(program, folder, kind):
+def instructions(program, folder, kind, count=COUNT, calls=()):
     """Returns the instructions of each call in turn: callgrind writes a file whenever `measured` returns."""
     out = folder / f"counts{kind}"
     counted = ["--toggle-collect=measured", "--dump-after=measured", f"--callgrind-out-file={out}"]
-    run("valgrind", "--tool=callgrind", *counted, program, folder, kind, COUNT)
+    run("valgrind", "--tool=callgrind", *counted, program, folder, kind, count, *calls)
     files = sorted(folder.glob(f"{out.name}.*"), key=lambda file: int(file.suffix[1:]))
     totals = [int(re.search(r"^(?:summary|totals): (\d+)", file.read_text(), re.MULTILINE)[1]) for file in files]
-    return [total // COUNT for total in totals]
+    return [total // count for total in totals]
 
 
 def from_c(program, folder):
@@ -69,6 +75,28 @@ def from_c(program, folder):
     print(f"  {'':26}" + "".join(f"{form + ' forms':>23}" for form in FORMS))
     for name, both in costs.items():
         print(f"  {name:26}" + "".join(f"{it:>23}" for it in both))
+
+
+def with_fields(scene, size):
+    """Returns the scene with so many further fields in each message."""
+    scene = copy.deepcopy(scene)
+    for message in (scene["request"], scene["response"], scene["steps"][2]["response"]):
+        message["headers"] += [[f"X-{i}", "1"] for i in range(size)]
+    return scene
+
+
+def growth(scene):
+    """Prints a row for each number of further fields."""
+    before = {}
+    for size in SIZES:
+        with tempfile.TemporaryDirectory() as folder:
+            write_messages(with_fields(scene, size), Path(folder))
+            program = compiled(Path(folder))
+            names = [line.split("|")[0] for line in run(program, folder, 0, 1, GROWING).splitlines()]
+            counts = dict(zip(names, instructions(program, Path(folder), 0, 2, [GROWING])))
+        cells = [f"{name} {counts[name]}" + (f" {counts[name] / before[name]:.1f}" if before else "") for name in names]
+        print(f"  {size}: " + "; ".join(cells), flush=True)
+        before = counts
 
 
 def from_python(scene):
@@ -88,6 +116,9 @@ def main():
             from_c(compiled(Path(folder)), Path(folder))
         print(f"{scene.stem}, from Python: microseconds")
         from_python(scene)
+    if shutil.which("valgrind"):
+        print("from C, with so many further fields in each message: instructions")
+        growth(json.loads((HERE / "scenes/explicit.json").read_text()))
 
 
 if __name__ == "__main__":

@@ -80,7 +80,7 @@ def lines_of(text, count):
 
 def calls(text, count):
     means = [int(mean) for name, mean in lines_of(text, count) if not name.startswith("choose")]
-    created, copied, verdict, fresh, _, stale, after = means
+    created, _, copied, verdict, fresh, _, stale, after = means
     return [created, copied, verdict, fresh, stale, after]
 
 

@@ -1,5 +1,5 @@
-/* bench FOLDER KIND COUNT: makes each call COUNT times on the messages in a folder, with stored forms of a kind.
-   Prints for each call its name, its requests for memory, and the most bytes that it holds.
+/* bench FOLDER KIND COUNT [CALLS]: makes each call, or the first CALLS, COUNT times on the messages in a folder, with stored
+   forms of a kind. Prints for each call its name, its requests for memory, and the most bytes that it holds.
 
    The function `measured` makes the calls, so that callgrind can count only them. */
 #include "calls.h"
@@ -8,7 +8,7 @@
 #include <stdlib.h>
 #include <string.h>
 
-enum { SIZE = 16384 };
+enum { SIZE = 4 << 20 };
 
 static uint8_t files[INPUTS][SIZE], text[SIZE], next[SIZE];
 static size_t requests, held, most;
@@ -87,8 +87,9 @@ __attribute__((noinline)) int32_t measured(const struct call *call, const struct
 int main(int argc, char **argv) {
   struct text in[INPUTS];
   struct hcs_cache cache;
-  if (argc != 4)
+  if (argc != 4 && argc != 5)
     return 2;
+  size_t last = argc == 5 ? (size_t)atol(argv[4]) : call_count;
   load(argv[1], "request", REQUEST, in);
   load(argv[1], "response", RESPONSE, in);
   load(argv[1], "received", RECEIVED, in);
@@ -102,7 +103,7 @@ int main(int argc, char **argv) {
   in[FORM].at = files[FORM];
   in[FORM].len = results.form.needed;
   in[OTHER] = in[FORM];
-  for (size_t i = 0; i < call_count; i++) {
+  for (size_t i = 0; i < call_count && i < last; i++) {
     requests = held = most = 0;
     int32_t code = measured(&calls[i], &cache, in, atol(argv[3]));
     if (code < 0)

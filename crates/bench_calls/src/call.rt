@@ -11,6 +11,8 @@ use std::alloc::Global;
 #[derive(Clone, Copy)]
 pub enum TimedCall<'a> {
     NewOptions,
+    /// `new_options`, then `is_storable` and `time_to_live` at this time.
+    MakeAndAsk(Timestamp),
     TryClone,
     FreshAt(&'a request::Parts, Timestamp),
     BeforeRequest(&'a request::Parts, Timestamp),
@@ -22,6 +24,7 @@ impl TimedCall<'_> {
     pub fn name(&self) -> &'static str {
         match self {
             TimedCall::NewOptions => "new_options",
+            TimedCall::MakeAndAsk(_) => "new_options, is_storable, time_to_live",
             TimedCall::TryClone => "try_clone",
             TimedCall::FreshAt(..) => "fresh_at",
             TimedCall::BeforeRequest(..) => "before_request",
@@ -72,6 +75,11 @@ fn weight_of<T: Weight + Drop>(made: Result<T, CacheError>) -> Result<u64, Cache
     Ok(made?.weight())
 }
 
+fn asked(made: Result<CachePolicy, CacheError>, now: Timestamp) -> Result<u64, CacheError> {
+    let policy = made?;
+    Ok(u64::from(policy.is_storable()).wrapping_add(policy.time_to_live(now).as_secs()))
+}
+
 #[inline(never)]
 fn once(
     alloc: Global,
@@ -81,6 +89,7 @@ fn once(
 ) -> Result<u64, CacheError> {
     match call {
         TimedCall::NewOptions => weight_of(script.policy(alloc)),
+        TimedCall::MakeAndAsk(now) => asked(script.policy(alloc), *now),
         TimedCall::TryClone => weight_of(policy.try_clone(alloc)),
         TimedCall::FreshAt(request, now) => Ok(u64::from(policy.fresh_at(*request, *now))),
         TimedCall::BeforeRequest(request, now) => {

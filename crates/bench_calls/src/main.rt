@@ -152,7 +152,9 @@ fn tell_all(
     policy: &CachePolicy,
     count: u64,
 ) -> io::Result<bool> {
+    let made = TimedCall::MakeAndAsk(script.received);
     let mut reported = tell(rt, script, policy, &TimedCall::NewOptions, count)?
+        && tell(rt, script, policy, &made, count)?
         && tell(rt, script, policy, &TimedCall::TryClone, count)?;
     for step in script.steps.as_slice() {
         reported = reported && tell_step(rt, script, policy, step, count)?;
