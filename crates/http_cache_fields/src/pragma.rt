@@ -21,5 +21,6 @@ pub fn pragma_forbids(headers: &HeaderMap) -> bool
 pub fn pragma_stands_in(res: &HeaderMap) -> bool
     ensures { result ≡ pragma_stands_in (headers_of res.now) }
 {
-    !contains_key(res, CACHE_CONTROL) && pragma_forbids(res)
+    // Few responses have a Pragma.
+    pragma_forbids(res) && !contains_key(res, CACHE_CONTROL)
 }
