@@ -35,23 +35,23 @@ pub struct NextPolicy {
     pub policy: CachePolicy,
 }
 
-fn answer_with(alloc: Global, next: NextPolicy, now: Timestamp) -> Result<AfterResponse, CacheError>
-    ensures selected { IfOk result (λ answer. is_not_modified answer ≡ next.not_modified) }
-    ensures policy { IfOk result (λ answer. policy_in answer ≡ next.policy) }
-    ensures parts { IfOk result (λ answer.
-        IsFreshParts next.policy now.nanosecond (parts_in answer)) }
+fn answer_with(
+    alloc: Global,
+    selected: bool,
+    policy: CachePolicy,
+    now: Timestamp,
+) -> Result<AfterResponse, CacheError>
+    ensures selected { IfOk result (λ answer. is_not_modified answer ≡ selected) }
+    ensures policy { IfOk result (λ answer. policy_in answer ≡ policy) }
+    ensures parts { IfOk result (λ answer. IsFreshParts policy now.nanosecond (parts_in answer)) }
     ensures full { IsErrOf result CacheError.HeaderMapFull
-        → RefusesFreshHeaders next.policy now.nanosecond }
+        → RefusesFreshHeaders policy now.nanosecond }
     ensures unprintable { IsErrOf result CacheError.DateNotPrintable
-        → HasNoDate next.policy now.nanosecond }
+        → HasNoDate policy now.nanosecond }
     ensures no_other { result ≢ Err CacheError.Malformed }
 {
-    let NextPolicy {
-        not_modified,
-        policy,
-    } = next;
     let parts = policy.cached_response(alloc, now, policy.age(now))?;
-    Ok(if not_modified {
+    Ok(if selected {
         AfterResponse::NotModified(policy, parts)
     } else {
         AfterResponse::Modified(policy, parts)
@@ -102,8 +102,9 @@ impl CachePolicy {
             (Res.seen response.now) response_time.nanosecond) response_time.nanosecond }
         ensures no_other { result ≢ Err CacheError.Malformed }
     {
-        let next = self.next_policy(alloc, request, response, response_time)?;
-        answer_with(alloc, next, response_time)
+        let selected = self.is_confirmed_by(response);
+        let policy = self.policy_after(alloc, selected, request, response, response_time)?;
+        answer_with(alloc, selected, policy, response_time)
     }
 
     /// Returns the policy that `after_response` stores, without headers for a client (RFC 7234,

@@ -1,6 +1,6 @@
 -- After a 304 the stored status and the body's fields stay, and no name is new. One Age and one
 -- Date are sent.
-use Rattle.std.proofs.Common.{◌≡◌, Bool, true, List, ℕ, ℤ, Result, Ok, Err, IfOk, length, sym, ap, subst, ◌∙◌}
+use Rattle.std.proofs.Common.{◌≡◌, true, List, ℕ, ℤ, Result, Ok, Err, IfOk, length, sym, ap, subst, ◌∙◌}
 use Rattle.std.proofs.lemmas.Result.{IfOk-weaker}
 use Rattle.http_cache_fields.specs.Headers.{headers_of, values, IsAbsent}
 use Rattle.http_cache_rules.specs.Renewed.{is_of_body}
@@ -32,14 +32,11 @@ module _ (g : given.Over) (c : goal.After-answer_with g) where
   abbrev now : ℤ
   now = c.args.response_time.nanosecond
 
-  abbrev chosen : Bool
-  chosen = c.in_ok-next.next.not_modified
+  policy-is : c.in_ok-policy.policy ≡ next_exchange e request response now
+  policy-is = c.in_ok-policy.ensures.value ∙ ap (λ b. next_where b e request response now) c.is_confirmed_by-selected.ensures
 
-  policy-is : c.in_ok-next.next.policy ≡ next_exchange e request response now
-  policy-is = c.in_ok-next.ensures.policy
-
-  renewed-is : chosen ≡ true → c.in_ok-next.next.policy ≡ next_where true e request response now
-  renewed-is h = policy-is ∙ ap (λ b. next_where b e request response now) (sym c.in_ok-next.ensures.selected ∙ h)
+  renewed-is : c.is_confirmed_by-selected.result ≡ true → c.in_ok-policy.policy ≡ next_where true e request response now
+  renewed-is h = c.in_ok-policy.ensures.value ∙ ap (λ b. next_where b e request response now) h
 
   -- what holds of the exchange after a selected response holds of the answer
   where_selected : (P : Exchange → Type 0) → P (next_where true e request response now)
@@ -47,6 +44,10 @@ module _ (g : given.Over) (c : goal.After-answer_with g) where
   where_selected P p =
       both_ok c.answer_with.result c.answer_with.ensures.selected c.answer_with.ensures.policy
       (λ answer which is yes. subst P (sym (is ∙ renewed-is (sym which ∙ yes))) p)
+
+pub returns-clause-selected : goal.returns-clause-selected
+returns-clause-selected g c =
+    IfOk-weaker c.answer_with.result _ _ (λ answer is. is ∙ c.is_confirmed_by-selected.ensures) c.answer_with.ensures.selected
 
 pub returns-clause-policy : goal.returns-clause-policy
 returns-clause-policy g c =
