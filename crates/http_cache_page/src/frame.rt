@@ -93,8 +93,8 @@ const NAVIGATION: &str = r##"<nav aria-label="sections"><a href="#s1">Change fir
 
 const FOOTER: &str = r##"</main>
 <footer><p>kB is 1000 bytes. A request costs nothing while what is stored is fresh, its headers where a 304
-answers, else all of it. This page asks for nothing and runs nothing but its own script; texts of the recording
-are only text in it, and [U+202E] and the like stand for characters that aren't seen.</p>
+answers, else all of it. This page asks for nothing and runs nothing but its own script; texts of the
+recording are only text in it, and [U+202E] and the like stand for characters that aren't seen.</p>
 <p>Each request as a line: <code>--lines</code>. What a changed header gives:
 <code>--with 'PATTERN: HEADER: VALUE'</code>. For tools: <code>--json</code>.
 As a CDN's cache: <code>--shared</code>.</p></footer>
