@@ -152,7 +152,8 @@ int32_t hcs_new(const struct hcs_cache *cache, const uint8_t *request, size_t re
 
 /* Returns what a cache with the stored response does with a request at `now` (RFC 7234, section 4).
    An enum hcs_verdict; out has the head of the response for the client if it is HCS_FRESH, else
-   the head of the request that validates what is stored (answer).
+   the head of a request for the origin server (answer). With HCS_VALIDATE it validates what is
+   stored; with HCS_FORWARD send the client's request in its place.
    HCS_MALFORMED only if stored is no stored form, or request no head of a request (malformed).
    HCS_FULL only if a header map can't hold the fields of the request, or of what is sent (full).
    HCS_UNDATED only if the response is fresh and its Date would be before 1900 (undated).
