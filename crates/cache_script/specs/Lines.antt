@@ -4,7 +4,7 @@ use Rattle.std.specs.Prelude.{if◌then◌else◌, codes, decimal, IsSome, IsSom
 use Rattle.std.specs.List.{AllZip, concat}
 use Rattle.http_cache_policy.specs.Headers.{first_text}
 use Rattle.http_cache_policy.specs.Exchange.{Exchange}
-use Rattle.http_cache_policy.specs.Storing.{is_storable}
+use Rattle.http_cache_policy.specs.Storability.{is_storable}
 use Rattle.http_cache_policy.specs.Age.{time_to_live_at}
 use Rattle.http_cache_policy.specs.Steps.{OutcomeSeen, uses, sends, renews, replaces, restarted}
 

@@ -1,5 +1,5 @@
 -- What a full response means when a stored one was to be validated.
-use Rattle.std.specs.Prelude.{ℕ, Bool, true, false, ◌==◌, ◌&&◌, ◌||◌, not, nat_le, List, codes, bytes_eq, take, drop}
+use Rattle.std.specs.Prelude.{ℕ, ℤ, Bool, true, false, ◌==◌, ◌&&◌, ◌||◌, not, nat_le, List, codes, bytes_eq, take, drop}
 use Rattle.std.specs.Prelude.{Option, Some, None, option_map, option_and_then, if◌then◌else◌}
 use Rattle.std.specs.Option.{option_or}
 use Rattle.http_cache_fields.specs.Headers.{Headers, first_text, contains_key}
@@ -46,10 +46,10 @@ is_same e body r received =
     else option_or (are_same_bodies body received) (is_same_validator e.response_headers r.headers))
 
 -- the headers have a validator for the request's condition (RFC 9110, section 13.2.2)
-unfoldable pub is_conditional_on : Headers → Headers → Bool
-is_conditional_on request h =
+unfoldable pub is_conditional_on : Headers → Headers → ℤ → Bool
+is_conditional_on request h received =
     (contains_key request (codes "if-none-match") || contains_key h (codes "last-modified"))
-    && has_stored_already h request
+    && has_stored_already h received request
 
 abbrev pub again_if : Option Bool → Bool → Again
 again_if None conditional = Unknown
@@ -59,7 +59,7 @@ again_if (Some true) false = Unasked
 
 unfoldable pub again_of : Exchange → Option BodySeen → EntrySeen → ResponseSeen → Again
 again_of e body entry r =
-    again_if (is_same e body r entry.body) (is_conditional_on entry.headers e.response_headers)
+    again_if (is_same e body r entry.body) (is_conditional_on entry.headers e.response_headers e.response_time)
 
 -- the response has the validator that the condition names
 abbrev pub has_its_validator : Headers → Headers → Bool
@@ -68,9 +68,9 @@ has_its_validator request h =
     else contains_key h (codes "last-modified")
 
 -- by the response's validators, for the client's own condition
-unfoldable pub again_by_own : Headers → ResponseSeen → Again
-again_by_own request r =
+unfoldable pub again_by_own : Headers → ResponseSeen → ℤ → Again
+again_by_own request r received =
     if nat_le 500 r.status then Unknown
     else (if not (r.status == 200) then Changed
-    else (if is_conditional_on request r.headers then InFull
+    else (if is_conditional_on request r.headers received then InFull
     else (if has_its_validator request r.headers then Changed else Unknown)))

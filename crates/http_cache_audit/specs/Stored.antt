@@ -12,7 +12,7 @@ use Rattle.http_cache_semantics.specs.Messages.{ResponseSeen}
 use Rattle.http_cache_semantics.specs.Options.{Options}
 use Rattle.http_cache_semantics.specs.Exchange.{Exchange, exchange_of}
 use Rattle.http_cache_semantics.specs.Kept.{kept_exchange}
-use Rattle.http_cache_semantics.specs.Storing.{is_storable}
+use Rattle.http_cache_semantics.specs.Storability.{is_storable}
 use Rattle.http_cache_semantics.specs.Storability.{obstacles}
 use Rattle.http_cache_semantics.specs.Age.{age_at, time_to_live_at, is_stale_at}
 use Rattle.http_cache_semantics.specs.Explain.{explanation}

@@ -234,7 +234,7 @@ replaced_own k sent a r =
     let receipt = receipt_of k sent a sent.entry.answer None [] in (
       record (verdict_with Validate receipt.1) {
         demand = Some Condition;
-        again = Some (again_by_own sent.entry.headers r);
+        again = Some (again_by_own sent.entry.headers r sent.entry.received);
         seeded = true;
       },
       receipt.0,

@@ -15,6 +15,7 @@ use http_cache_fields::headers::{contains_key, first_text};
 use http_cache_recording::{Body, Entry};
 use http_cache_rules::conditions::has_stored_already;
 use http_cache_semantics::CachePolicy;
+use jiff::Timestamp;
 
 /// Returns an entity tag without its mark of weakness (RFC 9110, section 8.8.3.2).
 pub(crate) fn opaque(tag: &str) -> &[u8]
@@ -98,11 +99,12 @@ fn is_same(
 
 // RFC 9110, section 13.2.2.
 #[tactic(auto, unfolding(crate::specs::Again::is_conditional_on))]
-fn is_conditional_on(request: &HeaderMap, headers: &HeaderMap) -> bool
-    ensures { result ≡ is_conditional_on (headers_of request.now) (headers_of headers.now) }
+fn is_conditional_on(request: &HeaderMap, headers: &HeaderMap, received: Timestamp) -> bool
+    ensures { result ≡ is_conditional_on (headers_of request.now) (headers_of headers.now)
+        received.nanosecond }
 {
     (contains_key(request, IF_NONE_MATCH) || contains_key(headers, LAST_MODIFIED))
-        && has_stored_already(headers, request)
+        && has_stored_already(headers, received, request)
 }
 
 /// Returns what a full response means when a stored one was to be validated.
@@ -119,7 +121,11 @@ pub(crate) fn again_of(
     match is_same(policy, body, response, entry.body.as_ref()) {
         None => Again::Unknown,
         Some(false) => Again::Changed,
-        Some(true) => if is_conditional_on(&entry.headers, policy.stored_headers()) {
+        Some(true) => if is_conditional_on(
+            &entry.headers,
+            policy.stored_headers(),
+            policy.stored_response_time(),
+        ) {
             Again::InFull
         } else {
             Again::Unasked
@@ -139,15 +145,20 @@ fn has_its_validator(request: &HeaderMap, headers: &HeaderMap) -> bool
 
 /// Returns what a full response to the client's own condition means, by its validators.
 #[tactic(auto, unfolding(crate::specs::Again::again_by_own))]
-pub(crate) fn again_by_own(request: &HeaderMap, response: &response::Parts) -> Again
-    ensures { result ≡ again_by_own (headers_of request.now) (response_seen response.now) }
+pub(crate) fn again_by_own(
+    request: &HeaderMap,
+    response: &response::Parts,
+    received: Timestamp,
+) -> Again
+    ensures { result ≡ again_by_own (headers_of request.now) (response_seen response.now)
+        received.nanosecond }
 {
     let status = response.status.as_u16();
     if status >= 500 {
         Again::Unknown
     } else if status != 200 {
         Again::Changed
-    } else if is_conditional_on(request, &response.headers) {
+    } else if is_conditional_on(request, &response.headers, received) {
         Again::InFull
     } else if has_its_validator(request, &response.headers) {
         Again::Changed

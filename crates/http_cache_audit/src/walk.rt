@@ -507,7 +507,7 @@ impl<'a> Walk<'a> {
         let received = self.receive(stored, sent, asked, None)?;
         Ok(AuditVerdict {
             demand: Some(Demand::Condition),
-            again: Some(again_by_own(&sent.entry.headers, response)),
+            again: Some(again_by_own(&sent.entry.headers, response, sent.entry.received)),
             seeded: true,
             ..verdict_with(self.alloc, Outcome::Validate, received)
         })

@@ -9,7 +9,7 @@ use Rattle.http_cache_semantics.specs.Options.{Options}
 use Rattle.http_cache_semantics.specs.Messages.{request_seen, response_seen}
 use Rattle.http_cache_semantics.specs.Exchange.{Exchange, exchange_of}
 use Rattle.http_cache_semantics.specs.Kept.{kept_exchange}
-use Rattle.http_cache_semantics.specs.Storing.{is_storable}
+use Rattle.http_cache_semantics.specs.Storability.{is_storable}
 use Rattle.http_cache_semantics.specs.Stored.{Reads, ReadsBack, with_target}
 use Rattle.http_cache_compact.specs.Compact.{IsCompactOf}
 use Rattle.http_cache_bytes.specs.declared.form.Stored.{Stored}

@@ -1,7 +1,7 @@
 //! Decides whether a response is worth storing, and a stored one worth keeping.
 ghost use Rattle.std.specs.Prelude.{◌≡◌, true};
 ghost use Rattle.http_cache_fields.specs.Headers.{headers_of};
-ghost use Rattle.http_cache_rules.specs.Storing.{is_storable};
+ghost use Rattle.http_cache_rules.specs.Storability.{is_storable};
 ghost use Rattle.http_cache_messages.specs.Worth.{has_validator, varies_by_all, can_be_used_again};
 
 use crate::quoted::is_misread;

@@ -1,18 +1,20 @@
 -- The request's limits on the age are one bound, and what follows for the verdict.
 use Rattle.std.proofs.Common.{◌≡◌, ℕ, ℤ, ◌+◌, ◌*◌, ◌-◌, ◌≤◌, ◌<◌, ◌≤ℤ◌, Bool, true, false}
-use Rattle.std.proofs.Common.{not, ◌&&◌, ◌||◌, true≢false, nat_lt, nat_le, codes, List}
+use Rattle.std.proofs.Common.{not, ◌&&◌, ◌||◌, true≢false, nat_lt, nat_le, codes, List, drop}
 use Rattle.std.proofs.Common.{Option, Some, None, option_map, option_and_then, unwrap_or}
 use Rattle.std.proofs.Common.{if◌then◌else◌, zero, suc, refl, sym, ap, ◌∙◌, arith}
 use Rattle.std.proofs.Math.Bool.{and_assoc, and_comm}
 use Rattle.std.proofs.lemmas.Bool.{lt-ltb, ltb-true, and_parts, and_from, or_parts}
-use Rattle.std.proofs.lemmas.Bool.{not-false, not-true, cond-true, false_from_ne_true}
+use Rattle.std.proofs.lemmas.Bool.{not-false, not-true, false_from_ne_true}
 use Rattle.std.proofs.lemmas.Bool.Decides.{nat_tests}
 use Rattle.http_cache_fields.specs.Directives.{Directive, has}
 use Rattle.http_cache_rules.specs.Asks.{Asks, asks_of, asked_directives, has_no_cache, number_under, takes_stale}
 use Rattle.http_cache_rules.specs.Messages.{RequestSeen}
 use Rattle.http_cache_policy.specs.Exchange.{Exchange, stored_directives}
-use Rattle.http_cache_rules.specs.Storing.{is_storable}
-use Rattle.http_cache_rules.specs.Lifetimes.{lifetime}
+use Rattle.http_cache_rules.specs.Storability.{is_storable}
+use Rattle.http_cache_rules.specs.FirstRow.{first_said}
+use Rattle.http_cache_rules.specs.Freshness.{Sourced, freshness_rows, floor_source, freshness, lifetime}
+use Rattle.http_cache_rules.specs.declared.freshness.LifetimeSource.TheVariants.{NotStorable, NoCache}
 use Rattle.http_cache_policy.specs.Age.{age_at}
 use Rattle.http_cache_policy.specs.Match.{request_matches}
 use Rattle.http_cache_policy.specs.Verdict.{lets_stale_out, is_let_through, meets, is_fresh_for}
@@ -97,10 +99,18 @@ is_fresh_for-later e request now later after unmet =
     false_from_ne_true (is_fresh_for e request later)
     (λ met. absurd (true≢false (sym (is_fresh_for-earlier e request now later after met) ∙ unmet)))
 
+first-zero : (a b : Bool) (rest : Option Sourced) (otherwise : Sourced) → (a || b) ≡ true
+    → (unwrap_or (if a then Some (NotStorable, 0) else (if b then Some (NoCache, 0) else rest)) otherwise).1 ≡ 0
+first-zero true b rest otherwise h = refl
+first-zero false true rest otherwise h = refl
+first-zero false false rest otherwise h = absurd (true≢false (sym h))
+
 lifetime-none : (e : Exchange)
     → (not (is_storable e) || has (stored_directives e) (codes "no-cache")) ≡ true → lifetime e ≡ 0
-unfolding lifetime
-lifetime-none e h = cond-true _ 0 _ h
+unfolding freshness
+lifetime-none e =
+    first-zero (not (is_storable e)) (has (stored_directives e) (codes "no-cache"))
+    (first_said (drop 2 (freshness_rows e))) (floor_source (stored_directives e) e.options)
 
 -- a response that may not be stored, or has no-cache, has no lifetime
 alive-storable : (e : Exchange) → 0 < lifetime e

@@ -12,8 +12,8 @@ use Rattle.http_cache_fields.specs.Headers.{Headers, first, first_under}
 use Rattle.http_cache_fields.specs.Directives.{has, same_value}
 use Rattle.http_cache_rules.specs.FirstRow.{first_said}
 use Rattle.http_cache_rules.proofs.FirstRowLemmas.{first_said-append, none-said, all-said, none-kind}
-use Rattle.http_cache_rules.specs.Storing.{is_storable}
-use Rattle.http_cache_rules.specs.Lifetimes.{lifetime}
+use Rattle.http_cache_rules.specs.Storability.{is_storable}
+use Rattle.http_cache_rules.specs.Freshness.{lifetime}
 use Rattle.http_cache_rules.specs.Asks.{Asks, asks_of, asked_directives, number_under, is_young_enough}
 use Rattle.http_cache_rules.specs.Asks.{lasts_long_enough}
 use Rattle.http_cache_reasons.specs.Reason.{ReasonSeen, other_target, other_host, other_of_get_and_head}

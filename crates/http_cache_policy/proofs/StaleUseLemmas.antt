@@ -8,9 +8,9 @@ use Rattle.http_cache_fields.specs.Directives.{Directive, value_under}
 use Rattle.http_cache_rules.specs.Asks.{Asks, asks_of, asked_directives, has_no_cache, number_under, is_young_enough}
 use Rattle.http_cache_rules.specs.Asks.{lasts_long_enough}
 use Rattle.http_cache_rules.specs.DeltaSeconds.{said_by_number, said_by_value, delta_seconds_under, number_in}
-use Rattle.http_cache_rules.specs.Lifetimes.{lifetime}
+use Rattle.http_cache_rules.specs.Freshness.{lifetime}
 use Rattle.http_cache_rules.specs.Messages.{RequestSeen}
-use Rattle.http_cache_rules.specs.Storing.{is_storable}
+use Rattle.http_cache_rules.specs.Storability.{is_storable}
 use Rattle.http_cache_policy.specs.Exchange.{Exchange, stored_directives}
 use Rattle.http_cache_policy.specs.Age.{age_at, is_stale_at}
 use Rattle.http_cache_policy.specs.Match.{request_matches}

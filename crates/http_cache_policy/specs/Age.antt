@@ -4,7 +4,7 @@ use Rattle.std.specs.Duration.{max_nanos}
 use Rattle.http_cache_rules.specs.Dates.{elapsed_time}
 use Rattle.http_cache_rules.specs.ReceivedAge.{received_age_of}
 use Rattle.http_cache_policy.specs.Exchange.{Exchange}
-use Rattle.http_cache_rules.specs.Lifetimes.{lifetime}
+use Rattle.http_cache_rules.specs.Freshness.{lifetime}
 
 -- in seconds (RFC 7234, section 5.1)
 unfoldable pub received_age : Exchange → ℕ

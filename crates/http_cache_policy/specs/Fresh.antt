@@ -8,7 +8,7 @@ use Rattle.http_cache_rules.specs.Filter.{is_hop_by_hop, filtered_headers}
 use Rattle.http_cache_rules.specs.Dates.{IsPrintable, IsDateText}
 use Rattle.http_cache_rules.specs.Storing.{has_explicit_expiration}
 use Rattle.http_cache_policy.specs.Exchange.{Exchange}
-use Rattle.http_cache_rules.specs.Lifetimes.{lifetime}
+use Rattle.http_cache_rules.specs.Freshness.{lifetime}
 use Rattle.http_cache_policy.specs.Age.{age_at}
 
 -- in nanoseconds

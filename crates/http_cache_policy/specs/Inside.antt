@@ -6,8 +6,8 @@ use Rattle.http_cache_rules.specs.StoredDirectives.{stored_directives_of}
 use Rattle.http_cache_rules.specs.Exchange.{Exchange, exchange_in}
 use Rattle.http_cache_policy.specs.Exchange.{stored_directives, request_directives}
 use Rattle.http_cache_policy.specs.Kept.{kept_exchange}
-use Rattle.http_cache_rules.specs.Storing.{is_storable}
-use Rattle.http_cache_rules.specs.Lifetimes.{lifetime}
+use Rattle.http_cache_rules.specs.Storability.{is_storable}
+use Rattle.http_cache_rules.specs.Freshness.{lifetime}
 use Rattle.http_cache_rules.specs.Freshness.{freshness}
 use Rattle.http_cache_policy.specs.Age.{received_age}
 use Rattle.http_cache_policy.specs.declared.policy.Findings.{Findings}

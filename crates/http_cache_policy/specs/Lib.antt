@@ -19,6 +19,7 @@ pub mod Verdict
 pub mod Bound
 pub mod StaleUse
 pub mod NotModified
+pub mod Lookup
 pub mod Explain
 pub mod Fresh
 pub mod Stale

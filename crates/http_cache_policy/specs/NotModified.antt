@@ -9,4 +9,4 @@ unfoldable pub is_not_modified_for : Exchange → RequestSeen → Bool
 is_not_modified_for e request =
     (bytes_eq request.method (codes "GET") || bytes_eq request.method (codes "HEAD"))
     && e.status == 200
-    && has_stored_already e.response_headers request.headers
+    && has_stored_already e.response_headers e.response_time request.headers

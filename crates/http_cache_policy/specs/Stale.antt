@@ -11,7 +11,7 @@ use Rattle.http_cache_fields.specs.Pieces.{pieces_under, join}
 use Rattle.http_cache_rules.specs.Filter.{filtered_headers}
 use Rattle.http_cache_rules.specs.Messages.{RequestSeen}
 use Rattle.http_cache_policy.specs.Exchange.{Exchange}
-use Rattle.http_cache_rules.specs.Storing.{is_storable}
+use Rattle.http_cache_rules.specs.Storability.{is_storable}
 use Rattle.http_cache_policy.specs.Match.{validates_for}
 
 -- without If-Range, which a cache doesn't understand

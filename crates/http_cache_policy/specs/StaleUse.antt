@@ -4,9 +4,10 @@ use Rattle.std.specs.Prelude.{unwrap_or}
 use Rattle.http_cache_fields.specs.Directives.{Directive, has}
 use Rattle.http_cache_rules.specs.Asks.{asks_of, asked_directives, has_no_cache, number_under}
 use Rattle.http_cache_rules.specs.Asks.{is_young_enough, lasts_long_enough}
-use Rattle.http_cache_rules.specs.Lifetimes.{lifetime, has_own_cookies}
+use Rattle.http_cache_rules.specs.Lifetimes.{has_own_cookies}
+use Rattle.http_cache_rules.specs.Freshness.{lifetime}
 use Rattle.http_cache_rules.specs.Messages.{RequestSeen}
-use Rattle.http_cache_rules.specs.Storing.{is_storable}
+use Rattle.http_cache_rules.specs.Storability.{is_storable}
 use Rattle.http_cache_policy.specs.Exchange.{Exchange, stored_directives}
 use Rattle.http_cache_policy.specs.Age.{age_at, is_stale_at}
 use Rattle.http_cache_policy.specs.Match.{request_matches}

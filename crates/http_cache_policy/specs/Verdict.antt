@@ -5,8 +5,8 @@ use Rattle.http_cache_rules.specs.Asks.{Asks, asks_of, asked_directives, has_no_
 use Rattle.http_cache_rules.specs.Asks.{lasts_long_enough, takes_stale}
 use Rattle.http_cache_rules.specs.Messages.{RequestSeen}
 use Rattle.http_cache_policy.specs.Exchange.{Exchange, stored_directives}
-use Rattle.http_cache_rules.specs.Storing.{is_storable}
-use Rattle.http_cache_rules.specs.Lifetimes.{lifetime}
+use Rattle.http_cache_rules.specs.Storability.{is_storable}
+use Rattle.http_cache_rules.specs.Freshness.{lifetime}
 use Rattle.http_cache_policy.specs.Age.{age_at}
 use Rattle.http_cache_policy.specs.Match.{NamedParts, named_parts, matches}
 

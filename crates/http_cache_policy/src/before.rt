@@ -3,7 +3,7 @@ ghost use Rattle.std.specs.Prelude.{◌≡◌, ◌≢◌, ◌≤ℤ◌, ℤ, tru
 ghost use Rattle.http_cache_fields.specs.Headers.{headers_of};
 ghost use Rattle.http_cache_fields.specs.Directives.{has};
 ghost use Rattle.http_cache_policy.specs.Exchange.{stored_directives};
-ghost use Rattle.http_cache_rules.specs.Storing.{is_storable};
+ghost use Rattle.http_cache_rules.specs.Storability.{is_storable};
 ghost use Rattle.http_cache_policy.specs.Match.{request_matches, IsForStored};
 ghost use Rattle.http_cache_policy.specs.Verdict.{is_fresh_for};
 ghost use Rattle.http_cache_policy.specs.Bound.{is_fresh_by_bound};

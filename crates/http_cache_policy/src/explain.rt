@@ -3,7 +3,7 @@ ghost use Rattle.std.specs.Prelude.{◌≡◌, ◌∷◌, [], ℤ, true, false, 
 ghost use Rattle.std.specs.Option.{option_map_or};
 ghost use Rattle.http_cache_fields.specs.Headers.{headers_of};
 ghost use Rattle.http_cache_fields.specs.Directives.{Directive, has};
-ghost use Rattle.http_cache_rules.specs.Storing.{is_storable};
+ghost use Rattle.http_cache_rules.specs.Storability.{is_storable};
 ghost use Rattle.http_cache_rules.specs.Storability.{storability, is_allowed};
 ghost use Rattle.http_cache_rules.specs.FirstRow.{first_said};
 ghost use Rattle.http_cache_rules.specs.Asks.{asks_of, asked_directives};

@@ -5,6 +5,7 @@
 pub mod after;
 pub mod before;
 pub mod explain;
+pub mod lookup;
 pub mod policy;
 pub mod response_at;
 pub mod run;

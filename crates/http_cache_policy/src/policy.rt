@@ -110,9 +110,9 @@ impl CachePolicy {
     ghost use Rattle.http_cache_policy.specs.Exchange.{exchange_of, stored_directives, request_directives};
     ghost use Rattle.http_cache_policy.specs.Kept.{kept_exchange};
     ghost use Rattle.http_cache_rules.specs.Storing.{has_explicit_expiration};
-    ghost use Rattle.http_cache_rules.specs.Storing.{is_storable};
+    ghost use Rattle.http_cache_rules.specs.Storability.{is_storable};
     ghost use Rattle.http_cache_rules.specs.StoredDirectives.{stored_directives_of};
-    ghost use Rattle.http_cache_rules.specs.Lifetimes.{lifetime};
+    ghost use Rattle.http_cache_rules.specs.Freshness.{lifetime};
     ghost use Rattle.http_cache_rules.specs.Freshness.{freshness_seen, freshness};
     ghost use Rattle.http_cache_policy.specs.Age.{age_at, time_to_live_at, is_stale_at};
     ghost use Rattle.http_cache_policy.specs.Verdict.{lets_stale_out};

@@ -1,13 +1,13 @@
 -- The texts between the quotes of a line, tag by tag.
 use Rattle.std.proofs.Common.{◌≡◌, ℕ, ◌<◌, List, [], ◌∷◌, length, refl, sym, ap, subst, ◌∙◌, arith, length-append}
-use Rattle.std.proofs.Common.{get_or, Option, Some, None, MatchOption, Bool, true, false, ◌||◌, if◌then◌else◌}
+use Rattle.std.proofs.Common.{ℤ, get_or, Option, Some, None, MatchOption, Bool, true, false, ◌||◌, if◌then◌else◌}
 use Rattle.std.specs.Borrow.{Bor}
 use native.Mathlib.Numerals.{unary_clauses}
 use Rattle.std.specs.List.{list_any, slice_split, position_or_len, before_first, after_first}
 use Rattle.std.proofs.lemmas.List.Splits.{slice_split_first, length-slice_split}
 use Rattle.std.proofs.lemmas.List.Sums.{split_at_first}
 use Rattle.std.specs.Option.{option_and_then}
-use Rattle.httpdate.specs.Date.{parse_secs}
+use Rattle.http_cache_rules.specs.Dates.{any_date}
 use Rattle.http_cache_fields.specs.Text.{is_quote, is_text, text_of}
 use Rattle.http_cache_fields.specs.Headers.{Headers, values, first_text, contains_key}
 use Rattle.http_cache_fields.specs.Pieces.{text_lines}
@@ -104,22 +104,23 @@ pub any-hidden : (names : List ℕ → Bool) (value : List ℕ) → is_text valu
     → false ≡ list_any names (text_lines (value ∷ []))
 any-hidden names value hidden = ap (λ b. list_any names (if b then value ∷ [] else [])) (sym hidden)
 
-since-there : (dates : List (List ℕ)) (changed : Option ℕ)
-    → is_unchanged changed (option_and_then parse_secs (option_and_then text_of (only dates))) ≡ true
+since-there : (dates : List (List ℕ)) (changed : Option ℤ)
+    → is_unchanged changed (option_and_then any_date (option_and_then text_of (only dates))) ≡ true
     → is_some (slice_get dates 0) ≡ true
 since-there [] None h = absurd (true≢false (sym h))
-since-there [] (Some second) h = absurd (true≢false (sym h))
+since-there [] (Some moment) h = absurd (true≢false (sym h))
 since-there (date ∷ dates) changed h = refl
 
-pub stored-conditional : (stored request : Headers) → has_stored_already stored request ≡ true
+pub stored-conditional : (stored : Headers) (received : ℤ) (request : Headers)
+    → has_stored_already stored received request ≡ true
     → is_conditional request ≡ true
 unfolding has_stored_already
-stored-conditional stored request = by (contains_key request (codes "if-none-match"))
+stored-conditional stored received request = by (contains_key request (codes "if-none-match"))
   where
     named : Bool
     named = list_any (names_stored (first_text stored (codes "etag"))) (text_lines (values request (codes "if-none-match")))
 
-    by : (b : Bool) → (if b then named else is_unchanged (last_change stored) (asked_since request)) ≡ true
+    by : (b : Bool) → (if b then named else is_unchanged (last_change stored received) (asked_since request)) ≡ true
         → (b || contains_key request (codes "if-modified-since")) ≡ true
     by true h = refl
-    by false h = since-there (values request (codes "if-modified-since")) (last_change stored) h
+    by false h = since-there (values request (codes "if-modified-since")) (last_change stored received) h

@@ -1,17 +1,14 @@
 -- Which row of the table of lifetimes decides.
-use Rattle.std.proofs.Common.{◌≡◌, ℕ, ◌*◌, Bool, true, false, ◌&&◌, ◌||◌, not, List, [], ◌∷◌, ◌++◌, map, drop, codes}
+use Rattle.std.proofs.Common.{◌≡◌, ℕ, ◌*◌, Bool, true, false, ◌&&◌, List, [], ◌∷◌, ◌++◌}
 use Rattle.std.proofs.Common.{Option, Some, None, is_some, option_map, unwrap_or, if◌then◌else◌, refl, sym, ap, ◌∙◌}
 use Rattle.std.specs.Option.{option_or}
 use Rattle.http_cache_fields.specs.Number.{number}
-use Rattle.http_cache_fields.specs.Directives.{has}
 use Rattle.http_cache_rules.specs.DeltaSeconds.{said_by_number, said_by_value, seconds_in}
 use Rattle.http_cache_rules.specs.Exchange.{Exchange, stored_directives}
-use Rattle.http_cache_rules.specs.Storing.{is_storable}
-use Rattle.http_cache_rules.specs.Lifetimes.{Row, first_row, lifetime, lifetime_rows}
 use Rattle.http_cache_rules.specs.Lifetimes as table
 use Rattle.http_cache_rules.specs.FirstRow.{first_said}
 use Rattle.http_cache_rules.specs.Freshness.{Sourced, zero_sources, seconds_sources, date_sources}
-use Rattle.http_cache_rules.specs.Freshness.{freshness_rows, floor_source, freshness}
+use Rattle.http_cache_rules.specs.Freshness.{floor_source, freshness}
 use Rattle.http_cache_rules.proofs.FirstRowLemmas.{first_said-append}
 use Rattle.http_cache_rules.specs.declared.freshness.LifetimeSource.{LifetimeSource}
 
@@ -48,30 +45,6 @@ module _ (e : Exchange) where
       → found ≡ freshness e
   freshness-dates found zero seconds dates =
       dates ∙ (λ i. by_group (zero i) (seconds i) (first_said (date_sources e))) ∙ sym by_groups
-
--- a row without its source
-abbrev bare : Bool × Sourced → Row
-bare row = (row.0, row.1.1)
-
-first_row-bare : (rows : List (Bool × Sourced)) (otherwise : Sourced)
-    → (unwrap_or (first_said rows) otherwise).1 ≡ first_row (map bare rows) otherwise.1
-first_row-bare [] otherwise = refl
-first_row-bare ((true, what) ∷ rows) otherwise = refl
-first_row-bare ((false, what) ∷ rows) otherwise = first_row-bare rows otherwise
-
--- two rows with one lifetime are one row
-first_row-joined : (a b : Bool) (said : ℕ) (rows : List Row) (otherwise : ℕ)
-    → first_row ((a, said) ∷ (b, said) ∷ rows) otherwise ≡ first_row ((a || b, said) ∷ rows) otherwise
-first_row-joined true b said rows otherwise = refl
-first_row-joined false b said rows otherwise = refl
-
-pub freshness-lifetime : (e : Exchange) → (freshness e).1 ≡ lifetime e
-unfolding freshness lifetime
-freshness-lifetime e =
-    let otherwise = floor_source (stored_directives e) e.options in
-    first_row-bare (freshness_rows e) otherwise
-    ∙ first_row-joined (not (is_storable e)) (has (stored_directives e) (codes "no-cache")) 0
-    (drop 1 (lifetime_rows e)) otherwise.1
 
 abbrev pub nanos : ℕ → ℕ
 nanos seconds = seconds * 1_000_000_000

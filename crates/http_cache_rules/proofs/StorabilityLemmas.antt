@@ -5,7 +5,8 @@ use Rattle.http_cache_fields.specs.Headers.{contains_key}
 use Rattle.http_cache_fields.specs.Directives.{has}
 use Rattle.http_cache_rules.specs.Exchange.{Exchange, stored_directives, request_directives}
 use Rattle.http_cache_rules.specs.Storing.{has_explicit_expiration, is_method_cacheable, is_status_understood}
-use Rattle.http_cache_rules.specs.Storing.{is_status_cacheable_by_default, allows_authorized, is_storable}
+use Rattle.http_cache_rules.specs.Storing.{is_status_cacheable_by_default, allows_authorized, is_withheld_from_shared}
+use Rattle.http_cache_rules.specs.Storability.{is_storable}
 use Rattle.http_cache_rules.specs.FirstRow.{first_said}
 use Rattle.http_cache_rules.specs.Storability.{permission, obstacles, is_any, storability_by, storability, is_allowed}
 use Rattle.http_cache_rules.specs.declared.storability.Permission.{Permission}
@@ -64,9 +65,21 @@ none-forbids false true true false true true withheld none = refl
 none-forbids false true true false true false true none = refl
 none-forbids false true true false true false false none = refl
 
-pub storability-storable : (e : Exchange) → is_allowed (storability e) ≡ is_storable e
-unfolding storability is_storable
-storability-storable e =
+-- the conditions of which all hold, in the order of the sections
+abbrev pub conditions : Exchange → Bool
+conditions e =
+    not (has (request_directives e) (codes "no-store"))
+    && is_method_cacheable e.method (has_explicit_expiration e)
+    && is_status_understood e.status
+    && not (has (stored_directives e) (codes "no-store"))
+    && not (e.options.shared && is_withheld_from_shared e.request_headers (stored_directives e))
+    && (has_explicit_expiration e
+    || has (stored_directives e) (codes "public")
+    || is_status_cacheable_by_default e.status)
+
+pub storable-conditions : (e : Exchange) → is_storable e ≡ conditions e
+unfolding storability
+storable-conditions e =
     let ds = stored_directives e in
     let withheld = contains_key e.request_headers (codes "authorization") && not (allows_authorized ds) in
     allowed-by (permission e) (obstacles e) refl

@@ -1,12 +1,12 @@
 -- The conditions of a request, for a stored response (RFC 9110, sections 13.1 and 13.2.2).
 use Rattle.std.specs.Prelude.{ℕ, ◌-◌, Bool, false, ◌||◌, List, [], ◌∷◌, length, take, slice_get, codes, bytes_eq}
-use Rattle.std.specs.Prelude.{nat_le, Option, Some, None, option_map, option_and_then, unwrap_or, if◌then◌else◌}
+use Rattle.std.specs.Prelude.{ℤ, int_le, Option, Some, None, option_map, option_and_then, unwrap_or, if◌then◌else◌}
 use Rattle.std.specs.List.{list_any, slice_split}
 use Rattle.std.specs.Option.{option_or}
-use Rattle.httpdate.specs.Date.{parse_secs}
 use Rattle.http_cache_fields.specs.Text.{is_quote, trim, text_of}
 use Rattle.http_cache_fields.specs.Headers.{Headers, values, first_text, contains_key}
 use Rattle.http_cache_fields.specs.Pieces.{text_lines}
+use Rattle.http_cache_rules.specs.Dates.{any_date}
 
 -- the elements at odd indices
 abbrev pub at_odd : List (List ℕ) → List (List ℕ)
@@ -44,31 +44,37 @@ only (value ∷ further ∷ values) = None
 abbrev pub only_text : Headers → List ℕ → Option (List ℕ)
 only_text h name = option_and_then text_of (only (values h name))
 
--- the second of If-Modified-Since; several values make it unreadable (RFC 9110, sections 5.6.7 and
+-- the time of If-Modified-Since; several values make it unreadable (RFC 9110, sections 5.6.7 and
 -- 13.1.3)
-abbrev pub asked_since : Headers → Option ℕ
-asked_since request = option_and_then parse_secs (only_text request (codes "if-modified-since"))
+abbrev pub asked_since : Headers → Option ℤ
+asked_since request = option_and_then any_date (only_text request (codes "if-modified-since"))
 
--- the second of the stored Last-Modified, or of Date if it is missing (RFC 9111, section 4.3.2)
-abbrev pub last_change : Headers → Option ℕ
-last_change stored =
+-- the time of a date, or of receipt if there is none
+abbrev pub date_or_receipt : Option (List ℕ) → ℤ → Option ℤ
+date_or_receipt None received = Some received
+date_or_receipt (Some date) received = any_date date
+
+-- the time of the stored Last-Modified, of Date if it is missing, or of receipt if both are (RFC
+-- 9111, section 4.3.2)
+abbrev pub last_change : Headers → ℤ → Option ℤ
+last_change stored received =
     let modified = first_text stored (codes "last-modified") in
-    option_and_then parse_secs (option_or modified (first_text stored (codes "date")))
+    date_or_receipt (option_or modified (first_text stored (codes "date"))) received
 
 -- both dates are readable, and the change isn't later (RFC 9110, section 13.1.3)
-abbrev pub is_unchanged : Option ℕ → Option ℕ → Bool
+abbrev pub is_unchanged : Option ℤ → Option ℤ → Bool
 is_unchanged None since = false
 is_unchanged (Some changed) None = false
-is_unchanged (Some changed) (Some since) = nat_le changed since
+is_unchanged (Some changed) (Some since) = int_le changed since
 
 -- the client has the stored response, by If-None-Match, or by If-Modified-Since if there is none
 -- (RFC 9110, section 13.2.2)
-unfoldable pub has_stored_already : Headers → Headers → Bool
-has_stored_already stored request =
+unfoldable pub has_stored_already : Headers → ℤ → Headers → Bool
+has_stored_already stored received request =
     if contains_key request (codes "if-none-match")
     then list_any (names_stored (first_text stored (codes "etag")))
     (text_lines (values request (codes "if-none-match")))
-    else is_unchanged (last_change stored) (asked_since request)
+    else is_unchanged (last_change stored received) (asked_since request)
 
 abbrev pub is_conditional : Headers → Bool
 is_conditional request =

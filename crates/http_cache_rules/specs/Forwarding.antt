@@ -5,13 +5,14 @@ use Rattle.http_cache_fields.specs.Headers.{Headers}
 use Rattle.http_cache_fields.specs.Pieces.{pieces_under}
 use Rattle.http_cache_rules.specs.Filter.{is_listed}
 
--- always connection-specific (RFC 7230, section 6.1; for the two `proxy-` ones, RFC 7235, sections
--- 4.3 and 4.4)
+-- always connection-specific (RFC 7230, section 6.1; for the ones of authentication, RFC 7235,
+-- sections 4.3 and 4.4, and RFC 9111, section 3.1)
 abbrev pub connection_fields : List (List ℕ)
 connection_fields =
     codes "connection"
     ∷ codes "keep-alive"
     ∷ codes "proxy-authenticate"
+    ∷ codes "proxy-authentication-info"
     ∷ codes "proxy-authorization"
     ∷ codes "proxy-connection"
     ∷ codes "te"

@@ -1,4 +1,4 @@
--- The freshness lifetime and its source (RFC 7234, section 4.2.1).
+-- The table of lifetimes, each with its source (RFC 7234, section 4.2.1).
 use Rattle.std.specs.Prelude.{ℕ, ℤ, ◌-ℤ◌, max, nat_lt, int_le, Bool, not, ◌&&◌, List, [], ◌∷◌, ◌++◌, codes, is_some, Option, Some, None}
 use Rattle.std.specs.Prelude.{unwrap_or, if◌then◌else◌}
 use Rattle.std.specs.Duration.{as_nanos}
@@ -8,7 +8,7 @@ use Rattle.http_cache_rules.specs.Ratio.{Ratio}
 use Rattle.http_cache_rules.specs.Options.{Options}
 use Rattle.http_cache_rules.specs.Exchange.{Exchange, stored_directives}
 use Rattle.http_cache_rules.specs.Dates.{first_date, elapsed_time, from_1970}
-use Rattle.http_cache_rules.specs.Storing.{is_storable}
+use Rattle.http_cache_rules.specs.Storability.{is_storable}
 use Rattle.http_cache_rules.specs.Lifetimes.{seconds_in, has_own_cookies, varies_always, immutable_floor, server_date}
 use Rattle.http_cache_rules.specs.Lifetimes.{time_until, is_by, seconds_since, fraction_of}
 use Rattle.http_cache_rules.specs.FirstRow.{first_said}
@@ -27,23 +27,33 @@ Sourced = LifetimeSource × ℕ
 abbrev pub freshness_seen : Freshness → Sourced
 freshness_seen f = (f.source, as_nanos f.lifetime)
 
--- the rows of `zero_rows`, the first of them split in two
+-- a row of the table applies
+abbrev pub applies : Bool × Sourced → Bool
+applies row = row.0
+
+-- the rows that yield zero, whatever else the response says
 abbrev pub zero_sources : Exchange → List (Bool × Sourced)
 zero_sources e =
     let ds = stored_directives e in
+    -- RFC 7234, section 3
     (not (is_storable e), (NotStorable, 0))
+    -- no-cache asks for validation each time (RFC 7234, section 5.2.2.2)
     ∷ (has ds (codes "no-cache"), (NoCache, 0))
+    -- not the RFC's: one user's cookies are withheld from another
     ∷ (e.options.shared && has_own_cookies e.response_headers ds, (OwnCookies, 0))
+    -- no request is known to match (RFC 7234, section 4.1, and RFC 7231, section 7.1.4)
     ∷ (varies_always e.response_headers, (VaryAny, 0))
+    -- stricter than RFC 7234, section 5.2.2.7, which only forbids stale responses
     ∷ (e.options.shared && has ds (codes "proxy-revalidate"), (ProxyRevalidate, 0))
     ∷ []
 
--- s-maxage, then max-age (RFC 7234, section 4.2.1)
 abbrev pub seconds_sources : Exchange → List (Bool × Sourced)
 seconds_sources e =
     let shared_age = text_under (stored_directives e) (codes "s-maxage") in
     let age = text_under (stored_directives e) (codes "max-age") in
+    -- s-maxage precedes max-age and Expires (RFC 7234, sections 4.2.1 and 5.2.2.9)
     (e.options.shared && is_some shared_age, (SMaxage, seconds_in shared_age))
+    -- max-age precedes Expires (RFC 7234, sections 4.2.1 and 5.2.2.8)
     ∷ (is_some age, (MaxAge, seconds_in age))
     ∷ []
 
@@ -87,3 +97,7 @@ freshness_rows e = zero_sources e ++ seconds_sources e ++ date_sources e
 unfoldable pub freshness : Exchange → Sourced
 freshness e =
     unwrap_or (first_said (freshness_rows e)) (floor_source (stored_directives e) e.options)
+
+-- in nanoseconds
+abbrev pub lifetime : Exchange → ℕ
+lifetime e = (freshness e).1

@@ -63,3 +63,7 @@ storability e = storability_by (permission e) (obstacles e)
 abbrev pub is_allowed : Storability → Bool
 is_allowed (Allowed p) = true
 is_allowed (Forbidden os) = false
+
+-- a rule allows to store the response, and no condition forbids it
+abbrev pub is_storable : Exchange → Bool
+is_storable e = is_allowed (storability e)

@@ -3,17 +3,17 @@
 ghost use Rattle.std.specs.Prelude.{◌≡◌, ◌∷◌, ◌<◌, [], ℕ, List, length, bytes_eq, option_copied, MatchOption};
 ghost use Rattle.std.specs.Prelude.{option_map, unwrap_or, false, codes};
 ghost use Rattle.std.specs.List.{list_any};
-ghost use Rattle.httpdate.specs.Date.{parse_secs};
 ghost use Rattle.http_cache_fields.specs.Headers.{headers_of, values, first_text};
 ghost use Rattle.http_cache_fields.specs.Pieces.{text_lines};
 ghost use Rattle.http_cache_rules.specs.Conditions.{opaque_tags, has_tag, names_stored, only_text, asked_since};
 ghost use Rattle.http_cache_rules.specs.Conditions.{last_change, is_unchanged, has_stored_already};
 
+use crate::dates::read_any_date;
 use http::header::{DATE, ETAG, IF_MODIFIED_SINCE, IF_NONE_MATCH, LAST_MODIFIED};
 use http::{HeaderMap, HeaderValue};
 use http_cache_fields::headers::{contains_key, first_text};
 use http_cache_fields::text::trim;
-use httpdate::HttpDate;
+use jiff::Timestamp;
 
 // Returns the first opaque tag of a text, and the text after its second quote.
 fn first_tag(text: &str) -> Option<(&str, &str)>
@@ -101,33 +101,27 @@ fn only_date(request: &HeaderMap) -> Option<&str>
     }
 }
 
-// Reads any of the three forms of an HTTP date (RFC 9110, section 5.6.7).
-fn second_of(text: &str) -> Option<u64>
-    ensures { result ≡ parse_secs text.now }
-{
-    match HttpDate::parse_ascii(text.as_bytes()) {
-        Ok(date) => Some(date.unix_secs()),
-        Err(_) => None,
-    }
-}
-
-fn asked_since(request: &HeaderMap) -> Option<u64>
+fn asked_since(request: &HeaderMap) -> Option<i128>
     ensures { result ≡ asked_since (headers_of request.now) }
 {
-    second_of(only_date(request)?)
+    read_any_date(only_date(request)?)
 }
 
-// Date stands in for a missing Last-Modified (RFC 9111, section 4.3.2).
-fn last_change(stored: &HeaderMap) -> Option<u64>
-    ensures { result ≡ last_change (headers_of stored.now) }
+// Date stands in for a missing Last-Modified, and the time of receipt for both (RFC 9111, section
+// 4.3.2).
+fn last_change(stored: &HeaderMap, received: Timestamp) -> Option<i128>
+    ensures { result ≡ last_change (headers_of stored.now) received.nanosecond }
 {
-    match first_text(stored, LAST_MODIFIED) {
-        Some(modified) => second_of(modified),
-        None => second_of(first_text(stored, DATE)?),
+    if let Some(modified) = first_text(stored, LAST_MODIFIED) {
+        return read_any_date(modified);
+    }
+    match first_text(stored, DATE) {
+        Some(date) => read_any_date(date),
+        None => Some(received.as_nanosecond()),
     }
 }
 
-fn is_unchanged(changed: Option<u64>, since: Option<u64>) -> bool
+fn is_unchanged(changed: Option<i128>, since: Option<i128>) -> bool
     ensures { result ≡ is_unchanged changed since }
 {
     match (changed, since) {
@@ -139,13 +133,15 @@ fn is_unchanged(changed: Option<u64>, since: Option<u64>) -> bool
 /// Returns whether a request's conditions say that the client has the stored response already.
 ///
 /// If-None-Match decides, or If-Modified-Since if there is none (RFC 9110, section 13.2.2). The
-/// method and the status aren't examined.
+/// latter is compared with Last-Modified, with Date if that is missing, or with the time of receipt
+/// if both are (RFC 9111, section 4.3.2). The method and the status aren't examined.
 #[tactic(auto, unfolding(crate::specs::Conditions::has_stored_already))]
-pub fn has_stored_already(stored: &HeaderMap, request: &HeaderMap) -> bool
-    ensures { result ≡ has_stored_already (headers_of stored.now) (headers_of request.now) }
+pub fn has_stored_already(stored: &HeaderMap, received: Timestamp, request: &HeaderMap) -> bool
+    ensures { result ≡ has_stored_already (headers_of stored.now) received.nanosecond
+        (headers_of request.now) }
 {
     if contains_key(request, IF_NONE_MATCH) {
         return is_named(request, first_text(stored, ETAG));
     }
-    is_unchanged(last_change(stored), asked_since(request))
+    is_unchanged(last_change(stored, received), asked_since(request))
 }

@@ -10,10 +10,11 @@ use http_cache_fields::pieces::{Commas, pieces_under};
 use std::alloc::AllocError;
 
 // They are connection-specific whether Connection lists them or not.
-const CONNECTION_FIELDS: [&str; 9] = [
+const CONNECTION_FIELDS: [&str; 10] = [
     "connection",
     "keep-alive",
     "proxy-authenticate",
+    "proxy-authentication-info",
     "proxy-authorization",
     "proxy-connection",
     "te",

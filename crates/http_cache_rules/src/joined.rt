@@ -70,6 +70,14 @@ fn join_lines(alloc: Global, map: &mut HeaderMap, name: &HeaderName) -> Result<(
     Ok(())
 }
 
+/// Returns whether each name has one line, as in most headers. Then none is to be joined.
+pub fn has_single_lines(headers: &HeaderMap) -> bool
+    ensures { result ≡ true
+        → joined_headers (headers_of headers.now) ≡ headers_of headers.now }
+{
+    headers.len() == headers.keys_len()
+}
+
 /// Returns the headers with one line for each name: its lines in order, with `, ` between them (RFC
 /// 9110, section 5.3).
 ///
@@ -80,7 +88,7 @@ pub fn joined_headers(alloc: Global, headers: &HeaderMap) -> Result<HeaderMap, A
 {
     reveal_header_map(headers);
     let mut out = copy_of_map(headers)?;
-    if headers.len() == headers.keys_len() {
+    if has_single_lines(headers) {
         return Ok(out);
     }
     for name in headers.keys() {

@@ -16,11 +16,16 @@ use Rattle.http_cache_fields.proofs.TrimLemmas.{and-left, and-right, not-true}
 use Rattle.http_cache_fields.proofs.KeptLemmas.{settled-unmarked}
 use Rattle.http_cache_fields.proofs.StarLemmas.{is_star, begins_with_star, star-last, or-left, or-right}
 use Rattle.http_cache_rules.specs.Storing.{has_explicit_expiration, is_method_cacheable, is_status_understood}
-use Rattle.http_cache_rules.specs.Storing.{is_withheld_from_shared, is_status_cacheable_by_default, is_storable}
-use Rattle.http_cache_rules.specs.Lifetimes.{Row, applies, first_row, seconds_in, has_own_cookies, varies_always}
-use Rattle.http_cache_rules.specs.Lifetimes.{immutable_floor, zero_rows, seconds_rows, date_rows, lifetime}
+use Rattle.http_cache_rules.specs.Storing.{is_withheld_from_shared, is_status_cacheable_by_default}
+use Rattle.http_cache_rules.specs.Storability.{is_storable}
+use Rattle.http_cache_rules.specs.Lifetimes.{seconds_in, has_own_cookies, varies_always}
+use Rattle.http_cache_rules.specs.FirstRow.{first_said}
+use Rattle.http_cache_rules.specs.Freshness.{Sourced, applies, zero_sources, seconds_sources, date_sources}
+use Rattle.http_cache_rules.specs.Freshness.{floor_source, freshness, lifetime}
+use Rattle.http_cache_rules.proofs.StorabilityLemmas.{storable-conditions}
 use Rattle.http_cache_rules.specs.Filter.{is_hop_by_hop, is_listed}
 use Rattle.http_cache_rules.proofs.FilterLemmas.{values-filtered_other, filtered_headers-none}
+use Rattle.http_cache_rules.specs.declared.freshness.LifetimeSource.TheVariants.{SMaxage, MaxAge}
 use Rattle.http_cache_policy.specs.Messages.{RequestSeen}
 use Rattle.http_cache_policy.specs.Exchange.{Exchange, stored_directives, request_directives}
 use Rattle.http_cache_policy.specs.Kept.{kept_exchange}
@@ -38,28 +43,34 @@ or-none true b = refl
 or-none false true = refl
 or-none false false = refl
 
-first_row-behind : (before rows : List Row) (otherwise : ℕ) → list_any applies before ≡ false
-    → first_row (before ++ rows) otherwise ≡ first_row rows otherwise
-first_row-behind [] rows otherwise e = refl
-first_row-behind ((true, lifetime) ∷ before) rows otherwise e = absurd (true≢false e)
-first_row-behind ((false, lifetime) ∷ before) rows otherwise e = first_row-behind before rows otherwise e
+first_said-behind : (before rows : List (Bool × Sourced)) → list_any applies before ≡ false
+    → first_said (before ++ rows) ≡ first_said rows
+first_said-behind [] rows e = refl
+first_said-behind ((true, said) ∷ before) rows e = absurd (true≢false e)
+first_said-behind ((false, said) ∷ before) rows e = first_said-behind before rows e
 
-abbrev floor : Exchange → ℕ
-floor e = immutable_floor (stored_directives e) e.options
+abbrev otherwise : Exchange → Sourced
+otherwise e = floor_source (stored_directives e) e.options
 
-lifetime-behind : (e : Exchange) → list_any applies (zero_rows e) ≡ false
-    → lifetime e ≡ first_row (seconds_rows e ++ date_rows e) (floor e)
-unfolding lifetime
-lifetime-behind e = first_row-behind (zero_rows e) (seconds_rows e ++ date_rows e) (floor e)
+lifetime-behind : (e : Exchange) → list_any applies (zero_sources e) ≡ false
+    → lifetime e ≡ (unwrap_or (first_said (seconds_sources e ++ date_sources e)) (otherwise e)).1
+unfolding freshness
+lifetime-behind e none =
+    ap (λ (o : Option Sourced). (unwrap_or o (otherwise e)).1)
+    (first_said-behind (zero_sources e) (seconds_sources e ++ date_sources e) none)
 
-first_row-of_two : (p q : Row) (rows : List Row) (otherwise : ℕ) → list_any applies (p ∷ q ∷ []) ≡ true
-    → first_row (p ∷ q ∷ rows) otherwise ≡ (if p.0 then p.1 else q.1)
-first_row-of_two (true, l) q rows otherwise e = refl
-first_row-of_two (false, l) (true, m) rows otherwise e = refl
-first_row-of_two (false, l) (false, m) rows otherwise e = absurd (true≢false (sym e))
+first_said-of_two : (p q : Bool × Sourced) (rows : List (Bool × Sourced)) (or_else : Sourced)
+    → list_any applies (p ∷ q ∷ []) ≡ true
+    → (unwrap_or (first_said (p ∷ q ∷ rows)) or_else).1 ≡ (if p.0 then p.1.1 else q.1.1)
+first_said-of_two (true, l) q rows or_else e = refl
+first_said-of_two (false, l) (true, m) rows or_else e = refl
+first_said-of_two (false, l) (false, m) rows or_else e = absurd (true≢false (sym e))
 
-abbrev unusable : Exchange → Bool
-unusable e = not (is_storable e) || has (stored_directives e) (codes "no-cache")
+abbrev unstorable : Exchange → Bool
+unstorable e = not (is_storable e)
+
+abbrev has_no_cache : Exchange → Bool
+has_no_cache e = has (stored_directives e) (codes "no-cache")
 
 abbrev has_cookies : Exchange → Bool
 has_cookies e = e.options.shared && has_own_cookies e.response_headers (stored_directives e)
@@ -81,12 +92,15 @@ stated_lifetime shared ds =
     if shared && is_some (text_under ds (codes "s-maxage")) then seconds_in (text_under ds (codes "s-maxage"))
     else seconds_in (text_under ds (codes "max-age"))
 
-lifetime-stated_lifetime : (e : Exchange) → list_any applies (zero_rows e) ≡ false → list_any applies (seconds_rows e) ≡ true
+lifetime-stated_lifetime : (e : Exchange) → list_any applies (zero_sources e) ≡ false
+    → list_any applies (seconds_sources e) ≡ true
     → lifetime e ≡ stated_lifetime e.options.shared (stored_directives e)
 lifetime-stated_lifetime e not_zero seconds =
     lifetime-behind e not_zero
-    ∙ first_row-of_two (has_shared_age e, seconds_in (text_under (stored_directives e) (codes "s-maxage")))
-    (has_age e, seconds_in (text_under (stored_directives e) (codes "max-age"))) (date_rows e) (floor e) seconds
+    ∙ first_said-of_two
+    (has_shared_age e, (SMaxage, seconds_in (text_under (stored_directives e) (codes "s-maxage"))))
+    (has_age e, (MaxAge, seconds_in (text_under (stored_directives e) (codes "max-age")))) (date_sources e) (otherwise e)
+    seconds
 
 expires-by_directive : (shared : Bool) (s m : Option (Option (List ℕ))) (expires : Bool)
     → ((shared && is_some (unwrap_or s None)) || is_some (unwrap_or m None)) ≡ true
@@ -223,12 +237,19 @@ module _ (request : RequestSeen) (e : Exchange) (now : ℤ) (h : Headers)
       && (says || has xs (codes "public") || is_status_cacheable_by_default e.status)
 
   pub storable-same : is_storable handed ≡ is_storable e
-  unfolding is_storable
-  storable-same = (λ i. storable_by (explicit-same i) (directives-same i))
+  storable-same =
+      storable-conditions handed
+      ∙ (λ i. storable_by (explicit-same i) (directives-same i))
+      ∙ sym (storable-conditions e)
 
   -- no row of zero applies that didn't before
+  none-1 : (has_no_cache e || (has_cookies e || (varies e || (has_proxy e || false)))) ≡ false
+  none-1 =
+      or-right (unstorable e) (has_no_cache e || (has_cookies e || (varies e || (has_proxy e || false))))
+      explicit.not_zero
+
   none-2 : (has_cookies e || (varies e || (has_proxy e || false))) ≡ false
-  none-2 = or-right (unusable e) (has_cookies e || (varies e || (has_proxy e || false))) explicit.not_zero
+  none-2 = or-right (has_no_cache e) (has_cookies e || (varies e || (has_proxy e || false))) none-1
 
   none-3 : (varies e || (has_proxy e || false)) ≡ false
   none-3 = or-right (has_cookies e) (varies e || (has_proxy e || false)) none-2
@@ -236,10 +257,16 @@ module _ (request : RequestSeen) (e : Exchange) (now : ℤ) (h : Headers)
   none-4 : (has_proxy e || false) ≡ false
   none-4 = or-right (varies e) (has_proxy e || false) none-3
 
-  still_usable : unusable handed ≡ false
-  still_usable =
-      (λ i. not (storable-same i) || has (directives-same i) (codes "no-cache"))
-      ∙ or-left (unusable e) (has_cookies e || (varies e || (has_proxy e || false))) explicit.not_zero
+  still_storable : unstorable handed ≡ false
+  still_storable =
+      ap not storable-same
+      ∙ or-left (unstorable e) (has_no_cache e || (has_cookies e || (varies e || (has_proxy e || false))))
+      explicit.not_zero
+
+  still_no_cache : has_no_cache handed ≡ false
+  still_no_cache =
+      ap (λ (xs : List Directive). has xs (codes "no-cache")) directives-same
+      ∙ or-left (has_no_cache e) (has_cookies e || (varies e || (has_proxy e || false))) none-1
 
   still_no_cookies : has_cookies handed ≡ false
   still_no_cookies =
@@ -261,14 +288,16 @@ module _ (request : RequestSeen) (e : Exchange) (now : ℤ) (h : Headers)
       ap (λ (xs : List Directive). shared && has xs (codes "proxy-revalidate")) directives-same
       ∙ or-left (has_proxy e) false none-4
 
-  not_zero-after : list_any applies (zero_rows handed) ≡ false
+  not_zero-after : list_any applies (zero_sources handed) ≡ false
   not_zero-after =
-      or-both (unusable handed) (has_cookies handed || (varies handed || (has_proxy handed || false))) still_usable
-      (or-both (has_cookies handed) (varies handed || (has_proxy handed || false)) still_no_cookies
+      or-both (unstorable handed)
+      (has_no_cache handed || (has_cookies handed || (varies handed || (has_proxy handed || false)))) still_storable
+      (or-both (has_no_cache handed) (has_cookies handed || (varies handed || (has_proxy handed || false)))
+      still_no_cache (or-both (has_cookies handed) (varies handed || (has_proxy handed || false)) still_no_cookies
       (or-both (varies handed) (has_proxy handed || false) still_no_star
-      (or-both (has_proxy handed) false still_no_proxy refl)))
+      (or-both (has_proxy handed) false still_no_proxy refl))))
 
-  by_seconds-after : list_any applies (seconds_rows handed) ≡ true
+  by_seconds-after : list_any applies (seconds_sources handed) ≡ true
   by_seconds-after =
       or-none (has_shared_age handed) (has_age handed) ∙ by_directive (stored_directives handed) directives-same
 

@@ -6,8 +6,7 @@ use Rattle.std.proofs.lemmas.Bool.{and_parts, and_from}
 use Rattle.std.proofs.lemmas.Bool.Decides.{nat_tests}
 use Rattle.std.proofs.lemmas.List.Concat.{flat_map-cons}
 use Rattle.std.proofs.lemmas.List.Folds.{list_all-append}
-use Rattle.std.proofs.lemmas.List.Sums.{AllPass-from_list_all, list_all-from_AllPass}
-use Rattle.http_header.specs.FieldValue.{IsFieldValue}
+use Rattle.std.proofs.lemmas.List.Sums.{list_all-from_AllPass}
 use Rattle.http_header.specs.Token.{is_token_byte, is_value_byte}
 use Rattle.http_header.proofs.TokenLemmas.{token_byte_range, IsFieldValue-signed_decimal}
 use Rattle.http_cache_reasons.specs.StructuredField.{is_in_token, is_printable}

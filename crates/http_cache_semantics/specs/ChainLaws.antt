@@ -6,8 +6,8 @@ use Rattle.http_cache_fields.specs.Headers.{values}
 use Rattle.http_cache_fields.specs.Pieces.{pieces_under}
 use Rattle.http_cache_rules.specs.Dates.{elapsed_time}
 use Rattle.http_cache_rules.specs.Filter.{is_listed}
-use Rattle.http_cache_rules.specs.Storing.{is_storable}
-use Rattle.http_cache_rules.specs.Lifetimes.{applies, zero_rows, seconds_rows, lifetime}
+use Rattle.http_cache_rules.specs.Storability.{is_storable}
+use Rattle.http_cache_rules.specs.Freshness.{applies, zero_sources, seconds_sources, lifetime}
 use Rattle.http_cache_policy.specs.Exchange.{Exchange, stored_directives}
 use Rattle.http_cache_policy.specs.Age.{received_age, age_at, time_to_live_at}
 
@@ -44,8 +44,8 @@ pub record IsAgedLike (first : Exchange) (hops : ℕ) (e : Exchange) : Type 0 wh
 -- no row of zero applies, and s-maxage or max-age does; Cache-Control has one value, and Connection
 -- doesn't list it
 pub record IsExplicit (e : Exchange) : Type 0 where
-  pub not_zero : list_any applies (zero_rows e) ≡ false
-  pub by_seconds : list_any applies (seconds_rows e) ≡ true
+  pub not_zero : list_any applies (zero_sources e) ≡ false
+  pub by_seconds : list_any applies (seconds_sources e) ≡ true
   pub one_value : length (values e.response_headers (codes "cache-control")) ≡ 1
   pub unlisted : is_listed (pieces_under e.response_headers (codes "connection"))
       (codes "cache-control") ≡ false

@@ -11,9 +11,10 @@ impl CachePolicy {
     /// Returns whether a 304 answers the request's own conditions.
     ///
     /// It can only be true for GET and HEAD, and a stored 200. If-None-Match is compared weakly. If
-    /// there is none, If-Modified-Since is compared with the stored Last-Modified, or with Date
-    /// (RFC 9110, sections 13.1.2, 13.1.3 and 13.2.2, and RFC 9111, section 4.3.2). Ask only if the
-    /// response may be used or was validated: whether the request matches isn't checked.
+    /// there is none, If-Modified-Since is compared with the stored Last-Modified, with Date if that
+    /// is missing, or with the time of receipt if both are (RFC 9110, sections 13.1.2, 13.1.3 and
+    /// 13.2.2, and RFC 9111, section 4.3.2). Ask only if the response may be used or was validated:
+    /// whether the request matches isn't checked.
     #[tactic(auto, unfolding(crate::specs::NotModified::is_not_modified_for))]
     pub fn is_not_modified_for<Req: RequestLike>(&self, req: &Req) -> bool
         ensures value { result ≡ is_not_modified_for self.now (Req.seen req.now) }
@@ -22,6 +23,10 @@ impl CachePolicy {
     {
         (*req.method() == Method::GET || *req.method() == Method::HEAD)
             && self.stored_status() == StatusCode::OK
-            && has_stored_already(self.stored_headers(), req.headers())
+            && has_stored_already(
+                self.stored_headers(),
+                self.stored_response_time(),
+                req.headers(),
+            )
     }
 }

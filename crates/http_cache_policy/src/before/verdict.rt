@@ -5,7 +5,7 @@ ghost use Rattle.http_cache_fields.specs.Headers.{headers_of};
 ghost use Rattle.http_cache_fields.specs.Directives.{Directive, has};
 ghost use Rattle.http_cache_rules.specs.Asks.{Asks, asks_of, asked_directives, requested_by};
 ghost use Rattle.http_cache_policy.specs.Exchange.{stored_directives};
-ghost use Rattle.http_cache_rules.specs.Storing.{is_storable};
+ghost use Rattle.http_cache_rules.specs.Storability.{is_storable};
 ghost use Rattle.http_cache_policy.specs.Age.{age_at};
 ghost use Rattle.http_cache_policy.specs.Match.{request_matches};
 ghost use Rattle.http_cache_policy.specs.Verdict.{satisfies, is_fresh_for};

@@ -1,6 +1,6 @@
 -- All conditions that forbid to store the response are reported.
 use Rattle.std.proofs.Common.{◌≡◌, false, sym, ap, ◌∙◌, refl}
-use Rattle.http_cache_semantics.specs.Storing.{is_storable}
+use Rattle.http_cache_semantics.specs.Storability.{is_storable}
 use Rattle.http_cache_semantics.specs.Storability.{obstacles, is_allowed}
 use Rattle.http_cache_audit.proofs.StoredLemmas.{reported}
 use Rattle.http_cache_audit.proofs.stored.obstacles_of.Goals as goal

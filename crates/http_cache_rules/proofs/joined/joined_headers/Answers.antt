@@ -1,18 +1,16 @@
--- The sweep joins the lines of each name. With as many values as names each has one line already.
+-- The sweep joins the lines of each name.
 use Rattle.std.proofs.Common.{◌≡◌, ◌∷◌, ℕ, List, sym, subst, ap, ◌∙◌}
 use Rattle.http_header.specs.FieldValue.{FieldValue}
 use Rattle.http_header.specs.HeaderMap.{Entries, keys}
 use Rattle.http_cache_fields.specs.Headers.{headers_of}
 use Rattle.http_cache_rules.proofs.SweepLemmas.{IsSwept, IsSwept-start, IsSwept-turn}
-use Rattle.http_cache_rules.proofs.JoinedLemmas.{joins, joins-settle, joined_headers-by_sweep, joined_headers-single}
+use Rattle.http_cache_rules.proofs.JoinedLemmas.{joins, joins-settle, joined_headers-by_sweep}
 use Rattle.http_cache_rules.proofs.FilterLemmas.{filled-headers_of}
 use Rattle.http_cache_rules.proofs.joined.joined_headers.Goals as goal
 
-pub returns-then-len-keys_len : goal.returns-then-len-keys_len
-returns-then-len-keys_len c =
-    ap headers_of c.in_ok-out.ensures
-    ∙ joined_headers-single c.args.headers.now c.len.ensures.valid
-    (sym c.len.ensures.value ∙ c.if-len-keys_len.true ∙ c.keys_len.ensures.value)
+pub returns-then-has_single_lines : goal.returns-then-has_single_lines
+returns-then-has_single_lines c =
+    ap headers_of c.in_ok-out.ensures ∙ sym (c.has_single_lines.ensures c.if-has_single_lines.true)
 
 pub loop-name-init : goal.loop-name-init
 loop-name-init c =

@@ -1,6 +1,6 @@
 -- The remaining lifetime is the lifetime less the age.
 use Rattle.std.proofs.Common.{◌-◌, sym, ap, ◌∙◌}
-use Rattle.http_cache_rules.specs.Lifetimes.{lifetime}
+use Rattle.http_cache_rules.specs.Freshness.{lifetime}
 use Rattle.http_cache_policy.specs.Age.{age_at, time_to_live_at}
 use Rattle.http_cache_policy.proofs.policy.CachePolicy.freshness.Goals as goal
 

@@ -8,4 +8,4 @@ use Rattle.http_cache_policy.proofs.policy.CachePolicy.is_not_modified_for.Goals
 pub returns-then-eq-3-clause-conditional : goal.returns-then-eq-3-clause-conditional
 returns-then-eq-3-clause-conditional g c = λ met.
     subst (λ (h : Headers). is_conditional h ≡ true) c.headers.ensures
-    (stored-conditional _ _ (sym c.has_stored_already.ensures ∙ met))
+    (stored-conditional _ _ _ (sym c.has_stored_already.ensures ∙ met))

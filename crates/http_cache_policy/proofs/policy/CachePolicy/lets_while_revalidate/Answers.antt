@@ -2,7 +2,7 @@
 use Rattle.std.proofs.Common.{◌≡◌, ◌-◌, ◌&&◌, codes, sym, ap, ◌∙◌}
 use Rattle.http_cache_rules.specs.DeltaSeconds.{number_in}
 use Rattle.http_cache_rules.specs.Asks.{number_under, is_young_enough, lasts_long_enough}
-use Rattle.http_cache_rules.specs.Lifetimes.{lifetime}
+use Rattle.http_cache_rules.specs.Freshness.{lifetime}
 use Rattle.http_cache_policy.specs.Exchange.{stored_directives}
 use Rattle.http_cache_policy.specs.StaleUse.{is_within}
 use Rattle.http_cache_policy.proofs.StaleUseLemmas.{number_in-under}

@@ -1,9 +1,8 @@
 -- The findings are read of the parts' exchange.
-use Rattle.std.proofs.Common.{◌≡◌, ap, ◌∙◌}
+use Rattle.std.proofs.Common.{◌≡◌, ap}
 use Rattle.http_cache_rules.specs.Exchange.{Exchange, exchange_in}
-use Rattle.http_cache_rules.specs.Storing.{is_storable}
+use Rattle.http_cache_rules.specs.Storability.{is_storable}
 use Rattle.http_cache_rules.specs.Freshness.{Sourced}
-use Rattle.http_cache_rules.proofs.LifetimeLemmas.{freshness-lifetime}
 use Rattle.http_cache_policy.specs.Age.{received_age}
 use Rattle.http_cache_policy.proofs.policy.Findings.of.Goals as goal
 
@@ -21,5 +20,5 @@ returns c =
       storable = storable;
       received = c.received_age.ensures;
       fresh = fresh;
-      lifetime_is = ap (λ (f : Sourced). f.1) fresh ∙ freshness-lifetime e;
+      lifetime_is = ap (λ (f : Sourced). f.1) fresh;
     }
