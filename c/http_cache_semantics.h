@@ -249,6 +249,18 @@ int32_t hcs_time_to_live(const uint8_t *stored, size_t stored_len, const struct 
 int32_t hcs_fresh_at(const struct hcs_cache *cache, const uint8_t *stored, size_t stored_len,
                      const uint8_t *request, size_t request_len, const struct hcs_time *now);
 
+/* Returns whether the stored response may be used for a request at `now` without validation, as a
+   cache looks it up (RFC 9111, sections 4 and 4.2.4): all lines of a field count, a HEAD is answered
+   by what is stored for GET, and a stale response isn't used if it forbids that, whatever max-stale
+   says.
+   1 if it may, else 0 (value).
+   HCS_MALFORMED only if stored is no stored form, or request no head of a request (malformed).
+   HCS_FULL only if a header map can't hold the fields of the request (full).
+   HCS_BAD_ARGUMENT only if the time is out of range (bad_argument).
+   No other error but HCS_NO_MEMORY is returned (others). */
+int32_t hcs_may_be_used(const struct hcs_cache *cache, const uint8_t *stored, size_t stored_len,
+                        const uint8_t *request, size_t request_len, const struct hcs_time *now);
+
 /* Returns which uses of the stale response are allowed for a request at `now` (RFC 5861).
    The bits of enum hcs_stale, or 0 for neither (value).
    HCS_MALFORMED only if stored is no stored form, or request no head of a request (malformed).

@@ -66,6 +66,7 @@ _ARGUMENTS = {
     "hcs_joined": _CACHE + _BYTES + _OUT,
     "hcs_updated": _CACHE + _BYTES + _BYTES + _OUT,
     "hcs_fresh_at": _CACHE + _BYTES + _BYTES + _TIME,
+    "hcs_may_be_used": _CACHE + _BYTES + _BYTES + _TIME,
 }
 
 _ERRORS = {

@@ -239,6 +239,13 @@ class CachePolicy:
         """Returns whether `before_request` would return `Fresh`."""
         return called("hcs_fresh_at", *self._given(), *_sized(request_of(request).head()), time_struct(now)) == 1
 
+    def may_be_used(self, request: RequestLike, now: Optional[Time] = None) -> bool:
+        """Returns whether the stored response may be used without validation, as a cache looks a request up.
+
+        All lines of a field count, a HEAD is answered by what is stored for GET, and a stale response isn't used if it
+        forbids that, whatever `max-stale` says (RFC 9111, sections 4 and 4.2.4)."""
+        return called("hcs_may_be_used", *self._given(), *_sized(request_of(request).head()), time_struct(now)) == 1
+
     def explain(self, request: RequestLike, name: str, now: Optional[Time] = None) -> str:
         """Returns why the stored response answers the request or doesn't, as a member of Cache-Status (RFC 9211).
 

@@ -159,6 +159,14 @@ extern "C" {
         ql: usize,
         t: *const Time,
     ) -> Code;
+    fn hcs_may_be_used(
+        c: *const Cache,
+        s: *const u8,
+        sl: usize,
+        q: *const u8,
+        ql: usize,
+        t: *const Time,
+    ) -> Code;
 }
 
 impl Cache {
@@ -507,6 +515,26 @@ pub(crate) fn fresh_at(
     // SAFETY: as in `new`.
     let code = unsafe {
         hcs_fresh_at(
+            cache,
+            stored.as_ptr(),
+            stored.len(),
+            request.as_ptr(),
+            request.len(),
+            &now,
+        )
+    };
+    Ok(checked(code)? == 1)
+}
+
+pub(crate) fn may_be_used(
+    cache: &Cache,
+    stored: &[u8],
+    request: &[u8],
+    now: Time,
+) -> Result<bool, Error> {
+    // SAFETY: as in `new`.
+    let code = unsafe {
+        hcs_may_be_used(
             cache,
             stored.as_ptr(),
             stored.len(),

@@ -352,6 +352,20 @@ impl CachePolicy {
         )?))
     }
 
+    /// Returns whether the stored response may be used for a request at `now` without validation, as a cache looks it
+    /// up (RFC 9111, sections 4 and 4.2.4).
+    ///
+    /// All lines of a field count, a HEAD is answered by what is stored for GET, and a stale response isn't used if it
+    /// forbids that, whatever `max-stale` says.
+    pub fn may_be_used<Req: RequestLike>(&self, req: &Req, now: SystemTime) -> Result<bool, Error> {
+        calls::may_be_used(
+            &self.options.cache(),
+            &self.form,
+            &self.head_for(req),
+            Time::of(now)?,
+        )
+    }
+
     /// Returns which uses of the stale response are allowed for a request at `now` (RFC 5861, sections 3 and 4).
     pub fn stale_use<Req: RequestLike>(
         &self,

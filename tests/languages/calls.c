@@ -109,6 +109,11 @@ static int32_t fresh_at(PARAMETERS) {
   return hcs_fresh_at(c, IN(FORM), IN(REQUEST), &fresh);
 }
 
+static int32_t may_be_used(PARAMETERS) {
+  (void)r;
+  return hcs_may_be_used(c, IN(FORM), IN(REQUEST), &fresh);
+}
+
 #define OK "HTTP/1.1 200 \r\n"
 #define LIFETIME "cache-control: max-age=10, stale-while-revalidate=5\r\n"
 #define TAG "etag: \"1\"\r\n"
@@ -142,6 +147,7 @@ const struct call calls[] = {
     {"hcs_joined", joined, BIT(RESPONSE), 1, 0, 0, 0, {OK, LIFETIME, TAG, "x-a: 1, 2\r\n", END}},
     {"hcs_updated", updated, BIT(RESPONSE) | BIT(RECEIVED), 1, 0, 0, 0, {OK, LIFETIME, TAG, "x-a: 3\r\n", END}},
     {"hcs_fresh_at", fresh_at, BIT(FORM) | BIT(REQUEST), 0, 0, 1, 0, {0}},
+    {"hcs_may_be_used", may_be_used, BIT(FORM) | BIT(REQUEST), 0, 0, 1, 0, {0}},
 };
 const size_t call_count = sizeof calls / sizeof *calls;
 

@@ -73,6 +73,12 @@ def is_not_modified_for(options, status, response, method, fields, _):
     return word(policy_of(options, status, response).is_not_modified_for(asked))
 
 
+def may_be_used(options, stored_method, request, response, method, fields, at, wanted):
+    asked = hcs.Request(method, "/a", fields_in(fields))
+    used = policy_of(options, 200, response, stored_method, request).may_be_used(asked, after(at))
+    return "use" if used else wanted if wanted != "use" else "not"
+
+
 def joined_headers(fields, _):
     return lines_of(hcs.joined(hcs.Response(200, fields_in(fields))))
 
@@ -105,6 +111,7 @@ CALLS = {
     "is_confirmed_by": is_confirmed_by,
     "is_not_modified_for": is_not_modified_for,
     "joined_headers": joined_headers,
+    "may_be_used": may_be_used,
     "response_at": response_at,
     "stale_use": stale_use,
     "storability": storability,

@@ -1,11 +1,12 @@
 //! Facts about a stored response: its age, its lifetime and its allowed uses.
-ghost use Rattle.std.specs.Prelude.{◌≡◌, ◌≢◌, Err, IfOk, IsErrOf};
+ghost use Rattle.std.specs.Prelude.{◌≡◌, ◌≢◌, Err, IfOk, IsErrOf, IsOkUnless};
 ghost use Rattle.std.specs.Duration.{as_nanos};
 ghost use Rattle.http_heads.specs.Heads.{IsNoRequest, OverfillsRequest, IsNoResponse, OverfillsResponse};
 ghost use Rattle.http_cache_semantics.specs.Messages.{request_seen};
 ghost use Rattle.http_cache_bytes.specs.Facts.{AreFactsOf, AreUsesOf};
 ghost use Rattle.http_cache_semantics.specs.Age.{age_at, time_to_live_at};
 ghost use Rattle.http_cache_semantics.specs.Freshness.{freshness_seen, freshness};
+ghost use Rattle.http_cache_semantics.specs.Lookup.{joined_request, may_be_used};
 ghost use Rattle.http_cache_semantics.specs.NotModified.{is_not_modified_for};
 ghost use Rattle.http_cache_semantics.specs.StaleUse.{stale_use};
 ghost use Rattle.http_cache_semantics.specs.Storability.{storability};
@@ -18,7 +19,7 @@ use crate::form::policy_in;
 use crate::heads::{request_in, response_in};
 use http::request;
 use http_cache_semantics::explain::{Freshness, Storability};
-use http_cache_semantics::{CacheError, CachePolicy, StaleUse};
+use http_cache_semantics::{CacheError, CachePolicy, JoinedRequest, StaleUse};
 use jiff::Timestamp;
 use std::alloc::Global;
 use std::hash::RandomState;
@@ -193,6 +194,63 @@ pub fn fresh_at(
 {
     let uses = uses_in(alloc, keys, stored, request, now)?;
     Ok(uses.fresh)
+}
+
+fn is_usable_by(
+    alloc: Global,
+    policy: &CachePolicy,
+    request: &request::Parts,
+    now: Timestamp,
+) -> Result<bool, CacheError>
+    ensures value { IfOk result (λ b. b
+        ≡ may_be_used policy.now (joined_request (request_seen request.now)) now.nanosecond) }
+    ensures only_memory { IsOkUnless result CacheError.Memory }
+{
+    let joined = JoinedRequest::new(alloc, request)?;
+    Ok(policy.may_be_used(&joined, now))
+}
+
+fn is_usable_for(
+    alloc: Global,
+    keys: RandomState,
+    policy: &CachePolicy,
+    request: &[u8],
+    now: Timestamp,
+) -> Result<bool, CacheError>
+    ensures value { IfOk result (λ b. ForRequest request.now
+        (λ asked. b ≡ may_be_used policy.now (joined_request asked) now.nanosecond)) }
+    ensures malformed { IsErrOf result CacheError.Malformed → IsNoRequest request.now }
+    ensures full { IsErrOf result CacheError.HeaderMapFull → OverfillsRequest request.now }
+    ensures printable { result ≢ Err CacheError.DateNotPrintable }
+{
+    let request = request_in(alloc, keys, request)?;
+    is_usable_by(alloc, policy, &request, now)
+}
+
+/// Returns whether the stored response may be used for a request, as a cache looks it up, at `now`
+/// without validation (RFC 9111, sections 4 and 4.2.4).
+///
+/// All lines of a field count, a HEAD is answered by what is stored for GET, and a stale response
+/// isn't used if it forbids that, whatever `max-stale` says.
+///
+/// # Errors
+///
+/// As for `fresh_at`.
+pub fn may_be_used(
+    alloc: Global,
+    keys: RandomState,
+    stored: &[u8],
+    request: &[u8],
+    now: Timestamp,
+) -> Result<bool, CacheError>
+    ensures value { IfOk result (λ b. ForAsked stored.now request.now
+        (λ e asked. b ≡ may_be_used e (joined_request asked) now.nanosecond)) }
+    ensures malformed { IsErrOf result CacheError.Malformed → IsUnasked stored.now request.now }
+    ensures full { IsErrOf result CacheError.HeaderMapFull → OverfillsRequest request.now }
+    ensures printable { result ≢ Err CacheError.DateNotPrintable }
+{
+    let policy = policy_in(alloc, stored)?;
+    is_usable_for(alloc, keys, &policy, request, now)
 }
 
 /// Returns which uses of the stored response are allowed for a request at `now` once it is stale

@@ -15,8 +15,8 @@ mod next;
 pub use answer::{Answer, Verdict, before, explain};
 pub use choice::{Chosen, choose};
 pub use facts::{
-    age, fresh_at, freshness, is_confirmed_by, is_not_modified_for, stale_use, storability,
-    time_to_live,
+    age, fresh_at, freshness, is_confirmed_by, is_not_modified_for, may_be_used, stale_use,
+    storability, time_to_live,
 };
 pub use form::{Form, Stored, new};
 pub use message::{joined, response_at, updated};

@@ -3,6 +3,7 @@ ghost use Rattle.std.specs.Prelude.{◌≡◌, ℕ, List};
 ghost use Rattle.http_heads.specs.Heads.{OverfillsRequest, OverfillsResponse};
 ghost use Rattle.http_cache_semantics.specs.Age.{age_at, time_to_live_at};
 ghost use Rattle.http_cache_semantics.specs.Freshness.{freshness};
+ghost use Rattle.http_cache_semantics.specs.Lookup.{joined_request, may_be_used};
 ghost use Rattle.http_cache_semantics.specs.NotModified.{is_not_modified_for};
 ghost use Rattle.http_cache_semantics.specs.StaleUse.{stale_use};
 ghost use Rattle.http_cache_semantics.specs.Storability.{storability};
@@ -20,8 +21,8 @@ use crate::codes::{
     code_of_stale_use, code_of_storability,
 };
 use http_cache_bytes::{
-    age, fresh_at, freshness, is_confirmed_by, is_not_modified_for, stale_use, storability,
-    time_to_live,
+    age, fresh_at, freshness, is_confirmed_by, is_not_modified_for, may_be_used, stale_use,
+    storability, time_to_live,
 };
 use std::alloc::Global;
 
@@ -139,6 +140,35 @@ pub extern "C" fn hcs_fresh_at(
         return NO_MEMORY;
     };
     match fresh_at(alloc, keys, stored, request, now) {
+        Ok(found) => code_of_bool(found),
+        Err(e) => code_of(e),
+    }
+}
+
+/// Returns 1 if the stored response may be used for the request, as a cache looks it up, without
+/// validation, else 0.
+#[unsafe(no_mangle)]
+pub extern "C" fn hcs_may_be_used(
+    alloc: Global,
+    cache: &HcsCache,
+    stored: &[u8],
+    request: &[u8],
+    now: &HcsTime,
+) -> i32
+    ensures value { IsDone result → ForAsked stored.now request.now (λ e asked.
+        result ≡ bool_code (may_be_used e (joined_request asked) (nanosecond_in now.now))) }
+    ensures malformed { result ≡ malformed → IsUnasked stored.now request.now }
+    ensures full { result ≡ full → OverfillsRequest request.now }
+    ensures bad_argument { result ≡ bad_argument → ¬ (IsTime now.now) }
+    ensures others { ¬ (result ≡ undated) × ¬ (result ≡ too_small) }
+{
+    let Some(now) = time_of(now) else {
+        return BAD_ARGUMENT;
+    };
+    let Some(keys) = keys_of(cache) else {
+        return NO_MEMORY;
+    };
+    match may_be_used(alloc, keys, stored, request, now) {
         Ok(found) => code_of_bool(found),
         Err(e) => code_of(e),
     }

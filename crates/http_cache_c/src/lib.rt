@@ -20,7 +20,7 @@ pub use arguments::{HcsCache, HcsDuration, HcsTime};
 pub use choice::hcs_choose;
 pub use facts::{
     hcs_age, hcs_fresh_at, hcs_freshness, hcs_is_confirmed_by, hcs_is_not_modified_for,
-    hcs_stale_use, hcs_storability, hcs_time_to_live,
+    hcs_may_be_used, hcs_stale_use, hcs_storability, hcs_time_to_live,
 };
 pub use message::{hcs_joined, hcs_response_at, hcs_updated};
 pub use next::hcs_after;

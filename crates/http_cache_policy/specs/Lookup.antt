@@ -9,15 +9,15 @@ use Rattle.http_cache_policy.specs.Age.{is_stale_at}
 use Rattle.http_cache_policy.specs.Match.{request_matches}
 use Rattle.http_cache_policy.specs.StaleUse.{forbids_stale}
 use Rattle.http_cache_policy.specs.Verdict.{is_fresh_for}
-use Rattle.http_cache_policy.specs.declared.lookup.LookedUp.{LookedUp}
+use Rattle.http_cache_policy.specs.declared.lookup.JoinedRequest.{JoinedRequest}
 
 -- all lines of a field count for Vary (RFC 9111, section 4.1)
 abbrev pub joined_request : RequestSeen → RequestSeen
 joined_request request = record request { headers = joined_headers request.headers }
 
--- what is read of a request that is looked up, by what is read of the request
-abbrev pub looked_up_seen : {Req : Type 0} → (Req → RequestSeen) → LookedUp Req → RequestSeen
-looked_up_seen seen l =
+-- what is read of a request with joined lines, by what is read of the request
+abbrev pub joined_request_seen : {Req : Type 0} → (Req → RequestSeen) → JoinedRequest Req → RequestSeen
+joined_request_seen seen l =
     record (seen l.request.now) { headers = option_map_or headers_of l.joined (seen l.request.now).headers }
 
 -- a HEAD counts as a GET for what is stored for GET (RFC 9110, section 9.3.2)

@@ -18,42 +18,42 @@ use std::alloc::Global;
 /// A request whose field lines are joined, so that all lines of a field count for Vary (RFC 9111,
 /// section 4.1).
 #[derive(Drop)]
-pub struct LookedUp<'a, Req> {
+pub struct JoinedRequest<'a, Req> {
     request: &'a Req,
     joined: Option<HeaderMap>,
 }
 
-impl<'a, Req: RequestLike> LookedUp<'a, Req> {
-    ghost use Rattle.http_cache_policy.specs.Lookup.{looked_up_seen, joined_request};
+impl<'a, Req: RequestLike> JoinedRequest<'a, Req> {
+    ghost use Rattle.http_cache_policy.specs.Lookup.{joined_request_seen, joined_request};
 
     /// Returns the request with joined field lines. A request with one line for each name isn't
     /// copied.
     ///
     /// The only error is `Memory`.
-    pub fn new(alloc: Global, request: &'a Req) -> Result<LookedUp<'a, Req>, CacheError>
-        ensures value { IfOk result (λ found. looked_up_seen Req.seen found
+    pub fn new(alloc: Global, request: &'a Req) -> Result<JoinedRequest<'a, Req>, CacheError>
+        ensures value { IfOk result (λ found. joined_request_seen Req.seen found
             ≡ joined_request (Req.seen request.now)) }
         ensures only_memory { IsOkUnless result CacheError.Memory }
     {
         let headers = request.headers();
         if has_single_lines(headers) {
-            return Ok(LookedUp {
+            return Ok(JoinedRequest {
                 request,
                 joined: None,
             });
         }
         let joined = joined_headers(alloc, headers)?;
-        Ok(LookedUp {
+        Ok(JoinedRequest {
             request,
             joined: Some(joined),
         })
     }
 }
 
-impl<Req: RequestLike> RequestLike for LookedUp<'_, Req> {
-    ghost use Rattle.http_cache_policy.specs.Lookup.{looked_up_seen};
+impl<Req: RequestLike> RequestLike for JoinedRequest<'_, Req> {
+    ghost use Rattle.http_cache_policy.specs.Lookup.{joined_request_seen};
 
-    ghost seen = { looked_up_seen Req.seen };
+    ghost seen = { joined_request_seen Req.seen };
 
     fn uri(&self, alloc: Global) -> Result<Uri, CacheError> {
         self.request.uri(alloc)
@@ -120,7 +120,7 @@ impl CachePolicy {
     /// section 4).
     ///
     /// It is `matches_request`, except that a HEAD is answered by what is stored for GET. Nothing
-    /// is allocated. `LookedUp` joins the field lines of a request.
+    /// is allocated. `JoinedRequest` joins the field lines of a request.
     #[tactic(auto, unfolding(crate::specs::Lookup::answers_once_validated))]
     pub fn answers_once_validated<Req: RequestLike>(&self, req: &Req) -> bool
         ensures { result ≡ answers_once_validated self.now (Req.seen req.now) }
@@ -136,7 +136,7 @@ impl CachePolicy {
     ///
     /// It is `fresh_at`, except that a HEAD is answered by what is stored for GET, and that a stale
     /// response isn't used if `forbids_stale`, whatever `max-stale` says. Nothing is allocated.
-    /// `LookedUp` joins the field lines of a request.
+    /// `JoinedRequest` joins the field lines of a request.
     #[tactic(auto, unfolding(crate::specs::Lookup::may_be_used, crate::specs::Lookup::answers_once_validated))]
     pub fn may_be_used<Req: RequestLike>(&self, req: &Req, now: Timestamp) -> bool
         ensures value { result ≡ may_be_used self.now (Req.seen req.now) now.nanosecond }

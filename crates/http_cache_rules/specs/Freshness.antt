@@ -81,9 +81,11 @@ date_sources e =
     let floor = immutable_floor (stored_directives e) e.options in
     let expires = first_date e.response_headers (codes "expires") in
     let modified = first_date e.response_headers (codes "last-modified") in (
+      -- Expires, less the server's date (RFC 7234, section 4.2.1)
       is_some (first_text e.response_headers (codes "expires")),
       (expires_source expires from floor, time_until expires from floor),
     )
+    -- a part of the time since Last-Modified (RFC 7234, section 4.2.2)
     ∷ modified_sources modified from floor e.options.heuristic
 
 -- if no row applies, the least lifetime of an immutable response, or zero

@@ -3,7 +3,7 @@ use crate::headers::{formatted, lines};
 use crate::make::{Make, make_with};
 use http::{Method, Uri, Version, request, response};
 use http_cache_semantics::stale_use::StaleUse;
-use http_cache_semantics::{CacheError, CacheOptions, CachePolicy, Variants};
+use http_cache_semantics::{CacheError, CacheOptions, CachePolicy, JoinedRequest, Variants};
 use jiff::Timestamp;
 use std::alloc::Global;
 use std::test::Fail;
@@ -82,6 +82,18 @@ fn use_word(allowed: StaleUse) -> &'static str {
     }
 }
 
+// Returns what a cache does with the response when it looks the request up.
+fn look_up(policy: &CachePolicy, asked: &JoinedRequest<'_, request::Parts>, at: Timestamp) -> &'static str {
+    if policy.may_be_used(asked, at) {
+        return "use";
+    }
+    if policy.answers_once_validated(asked) {
+        "validate"
+    } else {
+        "no"
+    }
+}
+
 fn sent(alloc: Global, parts: Result<response::Parts, CacheError>) -> Result<String, Fail> {
     match parts {
         Ok(parts) => lines(alloc, &parts.headers),
@@ -129,6 +141,10 @@ impl Make<&CachePolicy> for request::Parts {
                 Ok(String::from_str(alloc, text)?)
             }
             "is_not_modified_for" => word(alloc, policy.is_not_modified_for(self)),
+            "may_be_used" => {
+                let text = look_up(policy, &JoinedRequest::new(alloc, self)?, now(case)?);
+                Ok(String::from_str(alloc, text)?)
+            }
             "explain" => Ok(policy.explain(self, now(case)?).to_string(alloc)?),
             "cache_status" => {
                 let said = policy.explain(self, now(case)?);

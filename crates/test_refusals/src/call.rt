@@ -75,6 +75,10 @@ pub enum Call {
     /// For a request that matches, and for one that doesn't.
     FreshAt,
     /// For a request that matches, and for one that doesn't.
+    MayBeUsed,
+    /// For a request that matches, and for one that doesn't.
+    AnswersOnceValidated,
+    /// For a request that matches, and for one that doesn't.
     Explain,
     /// `outcome` of both explanations.
     Outcome,
@@ -127,7 +131,7 @@ pub enum Call {
 }
 
 /// Each call once.
-pub const CALLS: [Call; 80] = [
+pub const CALLS: [Call; 82] = [
     Call::New,
     Call::NewOptions,
     Call::TryClone,
@@ -173,6 +177,8 @@ pub const CALLS: [Call; 80] = [
     Call::StoredResponseTime,
     Call::MatchesRequest,
     Call::FreshAt,
+    Call::MayBeUsed,
+    Call::AnswersOnceValidated,
     Call::Explain,
     Call::Outcome,
     Call::TimeLeft,

@@ -49,6 +49,8 @@ fn says_at(case: Case<'_>, at: usize, call: Call) -> Option<bool> {
     match case.script.steps.get(at) {
         Some(Step::Ask { request, moment }) => Some(match call {
             Call::FreshAt => case.policy.fresh_at(request, *moment),
+            Call::MayBeUsed => case.policy.may_be_used(request, *moment),
+            Call::AnswersOnceValidated => case.policy.answers_once_validated(request),
             Call::Explain => case.policy.explain(request, *moment).reason.is_none(),
             Call::StaleUse => case.policy.stale_use(request, *moment).if_error,
             Call::IsNotModifiedFor => case.policy.is_not_modified_for(request),
@@ -153,6 +155,8 @@ pub fn is_right(alloc: Global, case: Case<'_>, call: Call) -> Result<bool, Cache
     Ok(match call {
         Call::MatchesRequest
         | Call::FreshAt
+        | Call::MayBeUsed
+        | Call::AnswersOnceValidated
         | Call::Explain
         | Call::Outcome
         | Call::TimeLeft
