@@ -1,93 +1,62 @@
--- Directives that are found with an ordered map.
-use Rattle.std.proofs.Common.{◌≡◌, ℕ, suc, zero, ◌<◌, ◌≤◌, Bool, true, false, cond}
-use Rattle.std.proofs.Common.{List, [], ◌∷◌, ◌++◌, length, take, drop, Option, Some}
-use Rattle.std.proofs.Common.{None, refl, sym, ap, ◌∙◌, subst, arith, bytes_eq, Bor}
-use Rattle.std.specs.Option.{option_map, option_copied, option_or}
-use Rattle.std.specs.BTreeMap.{Updates, get}
-use Rattle.std.proofs.lemmas.List.{drop-append-le, length_push}
-use Rattle.std.proofs.lemmas.Map.Text.{is_eq-slice_cmp}
-use Rattle.std.proofs.lemmas.Slice.Eq.{bytes_eq-Decides}
-use Rattle.http_cache_fields.specs.Directives.{Directive, value_under}
-use Rattle.http_cache_fields.specs.Reading.{ByName, HasLater, lower_name, name_cmp}
-use Rattle.http_cache_fields.specs.declared.names.Name.{Name}
-use Rattle.http_cache_fields.proofs.ReadLemmas.{value_under-push}
+-- The first directive of each name, while directives are read.
+use Rattle.std.proofs.Common.{◌≡◌, ℕ, suc, zero, ◌+◌, ◌<◌, Bool, true, false, cond, List, [], ◌∷◌, ◌++◌, map, take, length}
+use Rattle.std.proofs.Common.{Option, Some, None, refl, sym, ap, ◌∙◌, subst, bytes_eq, slice_get, is_some}
+use Rattle.std.specs.List.{IsDistinct}
+use Rattle.std.proofs.lemmas.List.{take_more}
+use Rattle.std.proofs.lemmas.Option.{slice_get-get_or}
+use Rattle.http_cache_fields.specs.Directives.{Directive, value_under, set_directive}
+use Rattle.http_cache_fields.specs.Readable.{IsDirective, AreDirectives}
+use Rattle.http_cache_fields.specs.Reading.{with_first}
+use Rattle.http_cache_fields.proofs.ReadLemmas.{set_directive-new}
 use Rattle.http_cache_fields.proofs.ReadableLemmas.{other_way}
+use Rattle.http_cache_fields.proofs.AreDirectivesLemmas.{IsNewName, AreDirectives-set}
 
--- a value is among the first directives, or after them
-pub value_under-parts : (count : ℕ) (ds : List Directive) (n : List ℕ)
-    → value_under ds n ≡ option_or (value_under (take count ds) n) (value_under (drop count ds) n)
-value_under-parts zero ds n = refl
-value_under-parts (suc count) [] n = refl
-value_under-parts (suc count) (d ∷ ds) n = by (bytes_eq n d.0) (value_under-parts count ds n)
+pub with_first-new : (ds : List Directive) (d : Directive) → value_under ds d.0 ≡ None
+    → with_first ds d ≡ ds ++ d ∷ []
+with_first-new ds d new = ap (λ o. cond (is_some o) ds (ds ++ d ∷ [])) new
+
+pub with_first-again : (ds : List Directive) (d : Directive) (v : Option (List ℕ))
+    → value_under ds d.0 ≡ Some v → with_first ds d ≡ ds
+with_first-again ds d v old = ap (λ o. cond (is_some o) ds (ds ++ d ∷ [])) old
+
+-- an insertion of the value that a name has changes nothing
+pub set_directive-same : (ds : List Directive) (d : Directive) → value_under ds d.0 ≡ Some d.1
+    → set_directive ds d ≡ ds
+set_directive-same [] d old = absurd (cc)
+set_directive-same (c ∷ ds) d old = by (bytes_eq d.0 c.0) old (set_directive-same ds d)
   where
-    by : (b : Bool)
-        → value_under ds n ≡ option_or (value_under (take count ds) n) (value_under (drop count ds) n)
-        → cond b (Some d.1) (value_under ds n)
-        ≡ option_or (cond b (Some d.1) (value_under (take count ds) n)) (value_under (drop count ds) n)
-    by true h = refl
-    by false h = h
+    by : (b : Bool) → cond b (Some c.1) (value_under ds d.0) ≡ Some d.1
+        → (value_under ds d.0 ≡ Some d.1 → set_directive ds d ≡ ds)
+        → cond b ((c.0, d.1) ∷ ds) (c ∷ set_directive ds d) ≡ c ∷ ds
+    by true f ih = let same : c.1 ≡ d.1 = cc in ap (λ v. (c.0, v) ∷ ds) (sym same)
+    by false f ih = ap (λ es. c ∷ es) (ih f)
 
-pub value_among_first : (count : ℕ) (ds : List Directive) (n : List ℕ) (v : Option (List ℕ))
-    → value_under (take count ds) n ≡ Some v → value_under (take count ds) n ≡ value_under ds n
-value_among_first count ds n v found =
-    sym (value_under-parts count ds n
-    ∙ ap (λ o. option_or o (value_under (drop count ds) n)) found ∙ sym found)
-
-later_new : (count : ℕ) (ds : List Directive) (n : List ℕ) → value_under ds n ≡ None
-    → value_under (drop count ds) n ≡ None
-later_new count ds n new =
-    by (value_under (take count ds) n) (sym (value_under-parts count ds n) ∙ new)
+pub AreDirectives-with_first : (ds : List Directive) (d : Directive) → AreDirectives ds → IsDirective d
+    → AreDirectives (with_first ds d)
+AreDirectives-with_first ds d h k = by (value_under ds d.0) refl
   where
-    by : (o : Option (Option (List ℕ))) → option_or o (value_under (drop count ds) n) ≡ None
-        → value_under (drop count ds) n ≡ None
-    by None h = h
-    by (Some v) h = absurd (cc)
+    by : (o : Option (Option (List ℕ))) → value_under ds d.0 ≡ o → AreDirectives (cond (is_some o) ds (ds ++ d ∷ []))
+    by None new = subst AreDirectives (set_directive-new ds d new) (AreDirectives-set ds d h k)
+    by (Some v) old = h
 
--- while few directives are read, the map needs nothing
-pub HasLater-few : (ds : List Directive) (d : Directive) (later : ByName) → length ds < 16
-    → HasLater ds later → HasLater (ds ++ d ∷ []) later
-HasLater-few ds d later few h name =
-    h name
-    ∙ ap (λ es. value_under es (lower_name name))
-    (drop_few 16 ds (omega arith) ∙ sym (drop_few 16 (ds ++ d ∷ []) (short ds few)))
-  where
-    drop_few : (count : ℕ) (es : List Directive) → length es ≤ count → drop count es ≡ []
-    drop_few zero [] few = refl
-    drop_few zero (e ∷ es) few = absurd (omega arith)
-    drop_few (suc count) [] few = refl
-    drop_few (suc count) (e ∷ es) few = drop_few count es (omega arith)
+apart : (n : List ℕ) (ds : List Directive) (i : ℕ) (d : Directive) → IsNewName n ds → slice_get ds i ≡ Some d
+    → bytes_eq n d.0 ≡ false
+apart n [] i d h at = absurd (cc)
+apart n (c ∷ ds) zero d h at = let same : c ≡ d = cc in subst (λ (e : Directive). bytes_eq n e.0 ≡ false) same h.0
+apart n (c ∷ ds) (suc i) d h at = apart n ds i d h.1 at
 
-    short : (es : List Directive) → length es < 16 → length (es ++ d ∷ []) ≤ 16
-    short es few = omega (arith, length_push es d)
+-- no earlier directive has the name of one
+pub value_under-take : (ds : List Directive) (i : ℕ) (d : Directive) → IsDistinct bytes_eq (map (λ d. d.0) ds)
+    → slice_get ds i ≡ Some d → value_under (take i ds) d.0 ≡ None
+unfolding IsDistinct
+value_under-take [] i d h at = absurd (cc)
+value_under-take (c ∷ ds) zero d h at = refl
+value_under-take (c ∷ ds) (suc i) d h at =
+    ap (λ b. cond b (Some c.1) (value_under (take i ds) d.0)) (other_way c.0 d.0 (apart c.0 ds i d h.0 at))
+    ∙ value_under-take ds i d h.1 at
 
--- after the first 16, a directive of a new name is in the map too
-pub HasLater-more : (ds : List Directive) (key : Name) (v : Option (Bor (List ℕ))) (later more : ByName)
-    → 16 ≤ length ds → value_under ds (lower_name key) ≡ None → Updates name_cmp later more key (Some v)
-    → HasLater ds later → HasLater (ds ++ (lower_name key, option_copied v) ∷ []) more
-HasLater-more ds key v later more many new updates h other =
-    ap (option_map option_copied) (updates.0 other
-    ∙ ap (λ b. cond b (Some v) (get name_cmp later other)) (is_eq-slice_cmp n name))
-    ∙ by (bytes_eq n name) refl
-    ∙ sym (ap (λ es. value_under es name) (drop-append-le 16 ds ((n, option_copied v) ∷ []) many)
-    ∙ value_under-push (drop 16 ds) (n, option_copied v) name)
-  where
-    n : List ℕ
-    n = lower_name key
-
-    name : List ℕ
-    name = lower_name other
-
-    or_none : (o : Option (Option (List ℕ))) → option_or o None ≡ o
-    or_none None = refl
-    or_none (Some x) = refl
-
-    by : (b : Bool) → bytes_eq n name ≡ b
-        → option_map option_copied (cond b (Some v) (get name_cmp later other))
-        ≡ option_or (value_under (drop 16 ds) name) (cond (bytes_eq name n) (Some (option_copied v)) None)
-    by true e =
-        let same : n ≡ name = (bytes_eq-Decides n name).0 e in
-        let none : value_under (drop 16 ds) name ≡ None =
-        subst (λ (k : List ℕ). value_under (drop 16 ds) k ≡ None) same (later_new 16 ds n new) in
-        let back : bytes_eq name n ≡ true = (bytes_eq-Decides name n).1 (sym same) in
-        rw (none, back) refl
-    by false e = h other ∙ rw (other_way n name e) (sym (or_none (value_under (drop 16 ds) name)))
+pub take_one_more : (ds : List Directive) (i : ℕ) (d : Directive) → slice_get ds i ≡ Some d → i < length ds
+    → take (i + 1) ds ≡ take i ds ++ d ∷ []
+take_one_more ds i d at inside =
+    let here = sym at ∙ slice_get-get_or ds i d inside in
+    take_more ds i d inside ∙ ap (λ e. take i ds ++ e ∷ []) (let same = here in cc)

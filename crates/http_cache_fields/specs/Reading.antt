@@ -1,33 +1,29 @@
--- Directives that are found with an ordered map.
-use Rattle.std.specs.Prelude.{◌≡◌, ℕ, List, drop, Option}
-use Rattle.std.specs.Option.{option_map, option_copied}
-use Rattle.std.specs.declared.cmp.Ordering.{Ordering}
-use Rattle.std.specs.Ordering.{nat_cmp}
-use Rattle.std.specs.Cmp.Lexicographic.{slice_cmp}
+-- The first directive of each name, while directives are read.
+use Rattle.std.specs.Prelude.{◌≡◌, ℕ, Bool, false, not, List, [], ◌∷◌, ◌++◌, Option, Some, None, if◌then◌else◌}
 use Rattle.std.specs.Borrow.{Bor}
-use Rattle.std.specs.BTreeMap.{BTreeMap, get}
-use Rattle.http_header.specs.Token.{lowercase}
-use Rattle.http_cache_fields.specs.Directives.{Directive, value_under}
-use Rattle.http_cache_fields.specs.Readable.{AreDirectives}
+use Rattle.std.specs.declared.random_state.RandomState.{RandomState}
+use Rattle.indexmap.specs.IndexMap.{IndexMap}
+use Rattle.http_cache_fields.specs.Directives.{Directive, same_value, value_under, has}
+use Rattle.http_cache_fields.specs.Shown.{sent_entries}
 use Rattle.http_cache_fields.specs.declared.names.Name.{Name}
 
-abbrev pub lower_name : Name → List ℕ
-lower_name name = lowercase name.0.now
+abbrev pub Table : Type 0
+Table = IndexMap Name (Option (Bor (List ℕ))) RandomState
 
-abbrev pub name_cmp : Name → Name → Ordering
-name_cmp a b = slice_cmp nat_cmp (lower_name a) (lower_name b)
+abbrev pub sent_directives : Option Table → List Directive
+sent_directives None = []
+sent_directives (Some table) = sent_entries table.entries
 
-abbrev pub ByName : Type 0
-ByName = BTreeMap Name (Option (Bor (List ℕ)))
+-- the directive is added last, unless its name is present
+abbrev pub with_first : List Directive → Directive → List Directive
+with_first ds d = if has ds d.0 then ds else ds ++ d ∷ []
 
-abbrev pub found : ByName → Name → Option (Option (List ℕ))
-found later name = option_map option_copied (get name_cmp later name)
+-- the first value of a name is found, and the directive added if there is none
+pub record IsFirst (old : Table) (d : Directive) (earlier : Option (Option (List ℕ))) (new : Table) : Type 0 where
+  pub found : earlier ≡ value_under (sent_entries old.entries) d.0
+  pub added : sent_entries new.entries ≡ with_first (sent_entries old.entries) d
 
--- the map has what the directives after the first 16 have
-abbrev pub HasLater : List Directive → ByName → Type 0
-HasLater ds later = (name : Name) → found later name ≡ value_under (drop 16 ds) (lower_name name)
-
--- directives with distinct names, and such a map
-pub record IsFirst (ds : List Directive) (later : ByName) : Type 0 where
-  pub valid : AreDirectives ds
-  pub found_later : HasLater ds later
+-- the first directive of a name has another value than a later one
+abbrev pub says_another : Option (Option (List ℕ)) → Option (List ℕ) → Bool
+says_another None raw = false
+says_another (Some earlier) raw = not (same_value earlier raw)

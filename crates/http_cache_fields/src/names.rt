@@ -1,16 +1,17 @@
 //! Names of directives, which ignore case (RFC 7234, section 5.2).
 ghost use Rattle.std.specs.Prelude.{◌≡◌, true, bytes_eq, IfOk, IfSome};
 ghost use Rattle.std.specs.Cow.{cow_str_bytes};
-ghost use Rattle.std.specs.Ordering.{nat_cmp, on, as_partial_cmp};
-ghost use Rattle.std.specs.Cmp.{partial_order_from_own_ties};
-ghost use Rattle.std.specs.Cmp.Rules.{comparing};
-ghost use Rattle.std.specs.Cmp.Lexicographic.{pointwise, slice_cmp};
+ghost use Rattle.std.specs.Ordering.{on};
+ghost use Rattle.std.specs.Cmp.Rules.{comparing, hashing};
+ghost use Rattle.std.specs.Cmp.Lexicographic.{pointwise};
+ghost use Rattle.std.specs.Hash as fed;
+ghost use Rattle.std.specs.List.{flat_map};
 ghost use Rattle.std.proofs.Common.{rules, nat_eq};
 ghost use Rattle.http_header.specs.Token.{lowercase};
 
 use std::alloc::{AllocError, Global};
 use std::borrow::CowStr;
-use std::cmp::Ordering;
+use std::hash::{Hash, Hasher};
 
 // The most common names first (RFC 7234, section 5.2, RFC 5861 and RFC 8246).
 const STANDARD: [&'static str; 15] = [
@@ -39,7 +40,7 @@ pub fn is_same_name(a: &str, b: &str) -> bool
 }
 
 // Each byte has the bit that capital letters lack, so lower case changes none.
-fn is_lower(name: &str) -> bool
+pub(crate) fn is_lower(name: &str) -> bool
     ensures { result ≡ true → lowercase name.now ≡ name.now }
 {
     let mut common: u8 = 0x20;
@@ -69,24 +70,7 @@ pub(crate) fn lower_name(alloc: Global, name: &str) -> Result<CowStr<'static, Gl
     }
 }
 
-fn compare(first: &[u8], second: &[u8]) -> Ordering
-    ensures { result ≡ slice_cmp nat_cmp (lowercase first.now) (lowercase second.now) }
-{
-    let (mut a, mut b) = (first, second);
-    loop {
-        match (a, b) {
-            ([x, xs @ ..], [y, ys @ ..]) => {
-                match x.to_ascii_lowercase().cmp(&y.to_ascii_lowercase()) {
-                    Ordering::Equal => (a, b) = (xs, ys),
-                    apart => return apart,
-                }
-            }
-            _ => return a.len().cmp(&b.len()),
-        }
-    }
-}
-
-/// A name as received, compared without case.
+/// A name as received, compared and hashed without case.
 #[derive(Clone, Copy)]
 pub struct Name<'a>(pub &'a str);
 
@@ -104,27 +88,14 @@ impl Eq for Name<'_> {
     ghost laws = { Prim.search (comparing, rules) };
 }
 
-impl PartialOrd for Name<'_> {
-    ghost partial_cmp = { as_partial_cmp (on (λ n. lowercase n.0.now) (slice_cmp nat_cmp)) };
+impl Hash for Name<'_> {
+    ghost hash_input = { λ n. flat_map fed.u8 (lowercase n.0.now) };
 
-    ghost laws = { partial_order_from_own_ties (Prim.search (comparing, rules))
-        (Prim.search (comparing, rules)) };
+    ghost respects_eq = { Prim.search (hashing, rules) };
 
-    fn partial_cmp(&self, other: &Self) -> Option<Ordering> {
-        Some(self.cmp(other))
-    }
-}
-
-impl Ord for Name<'_> {
-    ghost cmp = { on (λ n. lowercase n.0.now) (slice_cmp nat_cmp) };
-
-    ghost total = { Prim.search (comparing, rules) };
-
-    ghost matches_partial_cmp = { Prim.search (comparing, rules) };
-
-    ghost matches_eq = { Prim.search (comparing, rules) };
-
-    fn cmp(&self, other: &Self) -> Ordering {
-        compare(self.0.as_bytes(), other.0.as_bytes())
+    fn hash<H: Hasher>(&self, state: &mut H) {
+        for b in self.0.as_bytes() {
+            state.write_u8(b.to_ascii_lowercase());
+        }
     }
 }

@@ -28,13 +28,20 @@ impl<'a> Model for Commas<'a> {
 }
 
 /// Returns the trimmed pieces between the commas of each value that is text.
-pub fn get_all_comma<'a>(all: GetAll<'a, HeaderValue>) -> Commas<'a>
-    ensures { result ≡ pieces_of_values (bytes_of all.entry) }
+pub fn pieces_of<'a>(all: &GetAll<'a, HeaderValue>) -> Commas<'a>
+    ensures { result ≡ pieces_of_values (bytes_of all.now) }
 {
     Commas {
         values: all.iter(),
         rest: None,
     }
+}
+
+/// Returns the trimmed pieces between the commas of each value that is text.
+pub fn get_all_comma<'a>(all: GetAll<'a, HeaderValue>) -> Commas<'a>
+    ensures { result ≡ pieces_of_values (bytes_of all.entry) }
+{
+    pieces_of(&all)
 }
 
 /// Returns the pieces of the values under a name.

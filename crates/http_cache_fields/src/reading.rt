@@ -1,92 +1,144 @@
 //! Reads directives without copying them.
-ghost use Rattle.std.specs.Prelude.{◌≡◌, ◌<◌, ◌∷◌, ◌++◌, [], None, false, length, map, codes, bytes_eq, option_copied};
-ghost use Rattle.std.specs.Prelude.{option_map, IfOk};
+ghost use Rattle.std.specs.Prelude.{◌≡◌, ◌<◌, [], false, length, codes, bytes_eq, option_copied, option_map};
+ghost use Rattle.std.specs.Prelude.{IfOk};
 ghost use Rattle.http_header.specs.Token.{lowercase};
 ghost use Rattle.http_cache_fields.specs.Headers.{headers_of, bytes_of};
 ghost use Rattle.http_cache_fields.specs.Pieces.{pieces_of_values};
 ghost use Rattle.http_cache_fields.specs.Directives.{directives, cache_control, value_under, has, with_conflict};
 ghost use Rattle.http_cache_fields.specs.Readable.{IsDirective, AreDirectives};
-ghost use Rattle.http_cache_fields.specs.Shown.{sent_entry};
+ghost use Rattle.http_cache_fields.specs.Shown.{sent_entries};
+ghost use Rattle.http_cache_fields.specs.Reading.{sent_directives, with_first, says_another, IsFirst};
 
 use crate::directives::split_piece;
+use crate::keys::keys_of;
 use crate::names::{Name, is_same_name};
-use crate::pieces::{get_all_comma, pieces_under};
+use crate::pieces::{pieces_of, pieces_under};
 use crate::text::unquote;
 use http_header::{CACHE_CONTROL, GetAll, HeaderMap, HeaderValue};
+use indexmap::IndexMap;
+use indexmap::map::{Entry, Slice};
 use std::alloc::{AllocError, Global};
-use std::collections::BTreeMap;
+use std::hash::RandomState;
 use std::marker::Model;
 
-// Few headers have more.
-const LOOKED_THROUGH: usize = 16;
+/// The value of the first directive of a name, if there is one.
+pub type Said<'a> = Option<Option<&'a str>>;
+
+type Table<'a> = IndexMap<Name<'a>, Option<&'a str>, RandomState>;
 
 /// The first directive of each name, borrowed from field lines as received (RFC 7234, section 5.2).
 ///
-/// An ordered map finds those after the first 16. Reading takes n log n steps, whichever names a
-/// sender chooses.
+/// Each takes one look-up, whichever names a sender chooses. The lines are hashed for the key of
+/// the table when the first directive is added, so lines without directives cost nothing.
 #[derive(Drop)]
 pub struct FirstDirectives<'a> {
-    list: Vec<(&'a str, Option<&'a str>)>,
-    later: BTreeMap<Name<'a>, Option<&'a str>>,
+    alloc: Global,
+    lines: GetAll<'a, HeaderValue>,
+    table: Option<Table<'a>>,
 }
 
 impl<'a> Model for FirstDirectives<'a> {
-    ghost use Rattle.std.specs.Prelude.{List, map};
+    ghost use Rattle.std.specs.Prelude.{List};
     ghost use Rattle.http_cache_fields.specs.Directives.{Directive};
-    ghost use Rattle.http_cache_fields.specs.Shown.{sent_entry};
-    ghost use Rattle.http_cache_fields.specs.Reading.{IsFirst};
+    ghost use Rattle.http_cache_fields.specs.Readable.{AreDirectives};
+    ghost use Rattle.http_cache_fields.specs.Reading.{sent_directives};
 
     ghost Value = { List Directive };
 
-    ghost view = { λ f. map sent_entry f.list.items };
+    ghost view = { λ f. sent_directives f.table };
 
-    ghost invariant = { λ f. IsFirst (map sent_entry f.list.items) f.later };
+    ghost invariant = { λ f. AreDirectives (sent_directives f.table) };
+}
+
+fn table_or_new<'a>(
+    alloc: Global,
+    lines: &GetAll<'_, HeaderValue>,
+    table: Option<Table<'a>>,
+) -> Result<Table<'a>, AllocError>
+    ensures { IfOk result (λ same. sent_entries same.entries ≡ sent_directives table.entry) }
+{
+    match table {
+        Some(table) => Ok(table),
+        None => Ok(IndexMap::with_hasher(alloc, keys_of(lines)?)),
+    }
+}
+
+// The value that the name has, or `None` once the directive is added.
+fn earlier_or_add<'a>(
+    table: &mut Table<'a>,
+    name: &'a str,
+    value: Option<&'a str>,
+) -> Result<Said<'a>, AllocError>
+    ensures { IfOk result (λ earlier. IsFirst table.old
+        (lowercase name.now, option_copied value.entry) (option_map option_copied earlier) table.new) }
+{
+    match table.entry(Name(name))? {
+        Entry::Occupied(entry) => Ok(Some(*entry.into_mut())),
+        Entry::Vacant(entry) => {
+            entry.insert(value);
+            Ok(None)
+        }
+    }
 }
 
 impl<'a> FirstDirectives<'a> {
-    fn new(alloc: Global) -> FirstDirectives<'a>
+    fn new(alloc: Global, lines: GetAll<'a, HeaderValue>) -> FirstDirectives<'a>
         ensures { result ≡ [] }
     {
         FirstDirectives {
-            list: Vec::new(alloc),
-            later: BTreeMap::new(alloc),
+            alloc,
+            lines,
+            table: None,
         }
     }
 
     /// Returns the directives in order.
-    pub(crate) fn entries(&self) -> &[(&'a str, Option<&'a str>)]
-        ensures shown { map sent_entry result.now ≡ self.now }
+    pub(crate) fn entries(&self) -> Slice<'_, Name<'a>, Option<&'a str>>
+        ensures shown { sent_entries result ≡ self.now }
         ensures valid { AreDirectives self.now }
     {
-        &self.list
+        let Some(table) = &self.table else {
+            return Slice::new();
+        };
+        table.as_slice()
     }
 
-    /// Returns the value of the directive of the name, in any case.
-    fn get(&self, name: &'a str) -> Option<Option<&'a str>>
-        ensures { option_map option_copied result ≡ value_under self.now (lowercase name.now) }
-    {
-        let mut first = self.list.iter().take(LOOKED_THROUGH);
-        match first.find(|directive| is_same_name(name, directive.0)) {
-            Some(directive) => Some(directive.1),
-            None => self.later.get(&Name(name)).copied(),
+    /// Returns the keys of a table of the directives.
+    pub(crate) fn keys(&self) -> Result<RandomState, AllocError> {
+        match &self.table {
+            Some(table) => Ok(*table.hasher()),
+            None => keys_of(&self.lines),
         }
     }
 
-    fn with(self, name: &'a str, value: Option<&'a str>) -> Result<FirstDirectives<'a>, AllocError>
-        requires form { IsDirective (lowercase name.now, option_copied value) }
-        requires new { value_under self (lowercase name.now) ≡ None }
-        ensures { IfOk result (λ more. more
-            ≡ self.entry ++ (lowercase name.now, option_copied value.entry) ∷ []) }
+    // The value that the name has, or `None` once the directive is added.
+    fn with(
+        self,
+        name: &'a str,
+        value: Option<&'a str>,
+    ) -> Result<(FirstDirectives<'a>, Said<'a>), AllocError>
+        requires { IsDirective (lowercase name.now, option_copied value) }
+        ensures earlier { IfOk result (λ more. option_map option_copied more.1
+            ≡ value_under self.entry (lowercase name.now)) }
+        ensures first { IfOk result (λ more. more.0
+            ≡ with_first self.entry (lowercase name.now, option_copied value.entry)) }
     {
         let FirstDirectives {
-            mut list,
-            mut later,
+            alloc,
+            lines,
+            table,
         } = self;
-        if list.len() >= LOOKED_THROUGH {
-            later.insert(Name(name), value)?;
-        }
-        list.push((name, value))?;
-        Ok(FirstDirectives { list, later })
+        let mut table = table_or_new(alloc, &lines, table)?;
+        let earlier = earlier_or_add(&mut table, name, value)?;
+        let table = Some(table);
+        Ok((
+            FirstDirectives {
+                alloc,
+                lines,
+                table,
+            },
+            earlier,
+        ))
     }
 }
 
@@ -102,12 +154,12 @@ pub struct ReadDirectives<'a> {
 impl<'a> ReadDirectives<'a> {
     ghost use Rattle.http_cache_fields.specs.ReadMore.{nothing_read, read_more, IsDirectiveIfNamed};
 
-    /// Returns no directives.
-    pub fn new(alloc: Global) -> ReadDirectives<'a>
+    /// Returns no directives, before any of the lines is read.
+    pub fn new(alloc: Global, lines: GetAll<'a, HeaderValue>) -> ReadDirectives<'a>
         ensures { result ≡ nothing_read }
     {
         ReadDirectives {
-            first: FirstDirectives::new(alloc),
+            first: FirstDirectives::new(alloc, lines),
             conflict: false,
         }
     }
@@ -126,12 +178,20 @@ impl<'a> ReadDirectives<'a> {
         if name.is_empty() {
             return Ok(ReadDirectives { first, conflict });
         }
-        if let Some(earlier) = first.get(name) {
-            let conflict = conflict || earlier != value;
-            return Ok(ReadDirectives { first, conflict });
-        }
-        let first = first.with(name, value.map(unquote))?;
+        let (first, earlier) = first.with(name, value.map(unquote))?;
+        let conflict = conflict || says_another(earlier, value);
         Ok(ReadDirectives { first, conflict })
+    }
+}
+
+/// Returns whether an earlier directive of the name has another value than the one received.
+pub fn says_another(earlier: Said<'_>, value: Option<&str>) -> bool
+    ensures { result
+        ≡ says_another (option_map option_copied earlier.entry) (option_copied value.entry) }
+{
+    match earlier {
+        Some(first) => first != value,
+        None => false,
     }
 }
 
@@ -143,8 +203,9 @@ pub fn read<'a>(
     ensures { IfOk result (λ read. with_conflict read.conflict read.first
         ≡ directives (pieces_of_values (bytes_of all.entry))) }
 {
-    let mut read = ReadDirectives::new(alloc);
-    for piece in get_all_comma(all) {
+    let pieces = pieces_of(&all);
+    let mut read = ReadDirectives::new(alloc, all);
+    for piece in pieces {
         let (name, value) = split_piece(piece);
         read = read.with(name, value)?;
     }

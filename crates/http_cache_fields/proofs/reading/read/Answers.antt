@@ -27,7 +27,7 @@ loop-piece-preserved c =
 pub returns : goal.returns
 returns c =
     let all = pieces_of_values (bytes_of c.args.all) in
-    let start = c.into_iter-piece-iterator.ensures.into_iter_gives ∙ c.get_all_comma-piece-items.ensures in
+    let start = c.into_iter-piece-iterator.ensures.into_iter_gives ∙ c.pieces_of-pieces.ensures in
     let seen = YieldsList-end
     (YieldsList-from_first (λ (x : Bor (List ℕ)). x.now) (λ s. s) all start) c.loop-piece.yielded _
     c.loop-piece.yielded_by _ _ c.in-None.is c.next.ensures.steps in
@@ -37,7 +37,7 @@ pub with-requires : goal.with-requires
 with-requires c =
     let all = pieces_of_values (bytes_of c.args.all) in
     let p = c.in-Some.piece in
-    let start = c.into_iter-piece-iterator.ensures.into_iter_gives ∙ c.get_all_comma-piece-items.ensures in
+    let start = c.into_iter-piece-iterator.ensures.into_iter_gives ∙ c.pieces_of-pieces.ensures in
     let at = YieldsList-turn
     (YieldsList-from_first (λ (x : Bor (List ℕ)). x.now) (λ s. s) all start) c.loop-piece.yielded _
     c.loop-piece.yielded_by _ _ p c.in-Some.is c.next.ensures.steps in
