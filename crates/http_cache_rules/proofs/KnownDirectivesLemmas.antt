@@ -17,7 +17,8 @@ use Rattle.http_cache_fields.specs.declared.reading.ReadDirectives.{ReadDirectiv
 use Rattle.http_cache_fields.proofs.ReadLemmas.{value_under-push}
 use Rattle.http_cache_fields.proofs.ReadableLemmas.{other_way}
 use Rattle.http_cache_fields.proofs.ReadMoreLemmas.{read_of-push}
-use Rattle.http_cache_rules.specs.KnownDirectives.{Said, asked_names, said_first, says_another, said_or, known_under, IsSaidBy, AreKnownDirectives}
+use Rattle.http_cache_fields.specs.Reading.{says_another}
+use Rattle.http_cache_rules.specs.KnownDirectives.{Said, asked_names, said_first, said_or, known_under, IsSaidBy, AreKnownDirectives}
 
 abbrev pub index : List (List ℕ) → List ℕ → ℕ
 index names n = position_or_len (bytes_eq n) names
@@ -134,8 +135,8 @@ module _ (ps : List (List ℕ)) (p : List ℕ) (asked : List Said) (others : Lis
       }
 
   -- for a name that has an index
-  pub known-placed : (d : Said) (o : Option (Option (List ℕ))) (s : Said) → length asked ≡ 11
-      → index asked_names n < 11 → o ≡ option_map option_copied (slice_index_or asked (index asked_names n) d)
+  pub known-placed : (d : Said) (o : Option (Option (List ℕ))) (s : Said) → length asked ≡ length asked_names
+      → index asked_names n < length asked_names → o ≡ option_map option_copied (slice_index_or asked (index asked_names n) d)
       → option_map option_copied s ≡ Some (said_first o raw)
       → IsSaidBy (ps ++ p ∷ []) (slice_set asked (index asked_names n) s) others (conflict || says_another o raw)
   known-placed d o s size inside old new =
@@ -171,7 +172,7 @@ module _ (ps : List (List ℕ)) (p : List ℕ) (asked : List Said) (others : Lis
       clash (Some v) f = (λ i. known.clash i || says_another (f i) raw)
 
   -- for any other name
-  pub known-beside : nat_lt (index asked_names n) 11 ≡ false
+  pub known-beside : nat_lt (index asked_names n) (length asked_names) ≡ false
       → (r : ReadDirectives) → r ≡ read_beside (record { first = others; conflict = conflict }) n raw (value_under others n)
       → IsSaidBy (ps ++ p ∷ []) asked r.first r.conflict
   known-beside past r more =
@@ -230,14 +231,14 @@ found_nowhere : (b : Bool) (j : ℕ) → cond b (Some j) None ≡ None → b ≡
 found_nowhere true j e = absurd (cc)
 found_nowhere false j e = refl
 
-asked-named : (n : List ℕ) → nat_lt (index asked_names n) 11 ≡ true → nat_lt 0 (length n) ≡ true
+asked-named : (n : List ℕ) → nat_lt (index asked_names n) (length asked_names) ≡ true → nat_lt 0 (length n) ≡ true
 asked-named [] inside = let no : false ≡ true = inside in cc
 asked-named (b ∷ bs) inside = grind (arith, nat_tests)
 
 module _ (ps : List (List ℕ)) (p : List ℕ) (asked : List Said) (others : List Directive) (conflict : Bool)
     (known : IsSaidBy ps asked others conflict) where
   -- the first piece of a name of the rules is put at its index
-  pub known-asked : (k : ℕ) (d s : Said) (c : Bool) → length asked ≡ 11
+  pub known-asked : (k : ℕ) (d s : Said) (c : Bool) → length asked ≡ length asked_names
       → position (bytes_eq (name_of p)) asked_names ≡ Some k
       → option_map option_copied s
       ≡ Some (said_first (option_map option_copied (slice_index_or asked k d)) (raw_value_of p))
@@ -274,7 +275,7 @@ module _ (ps : List (List ℕ)) (p : List ℕ) (asked : List Said) (others : Lis
 
 -- after all pieces the known directives are those of the pieces
 pub known-all : (pieces : List (List ℕ)) (asked : List Said) (others : List Directive) (conflict : Bool)
-    → length asked ≡ 11 → IsSaidBy (filter has_name pieces) asked others conflict → AreKnownDirectives pieces asked conflict
+    → length asked ≡ length asked_names → IsSaidBy (filter has_name pieces) asked others conflict → AreKnownDirectives pieces asked conflict
 known-all pieces asked others conflict size known =
     record {
       sized = size;

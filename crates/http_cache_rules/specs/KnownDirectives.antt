@@ -1,12 +1,12 @@
 -- Directives while they are read. Each directive of the rules has an index.
-use Rattle.std.specs.Prelude.{◌≡◌, ℕ, Bool, true, false, not, List, [], ◌∷◌, Option, Some, None, filter}
+use Rattle.std.specs.Prelude.{◌≡◌, ℕ, Bool, true, List, [], ◌∷◌, Option, Some, None, filter}
 use Rattle.std.specs.Prelude.{length, nat_lt, codes, bytes_eq, slice_index_or}
 use Rattle.std.specs.List.{zip, position_or_len}
 use Rattle.std.specs.Option.{option_map, option_copied}
 use Rattle.std.specs.Map.{lookup}
 use Rattle.std.specs.Borrow.{Bor}
 use Rattle.http_cache_fields.specs.Text.{unquote}
-use Rattle.http_cache_fields.specs.Directives.{Directive, has_name, same_value, value_under}
+use Rattle.http_cache_fields.specs.Directives.{Directive, has_name, value_under}
 use Rattle.http_cache_fields.specs.Directives.{first_directives, has_conflict}
 
 abbrev pub asked_names : List (List ℕ)
@@ -22,11 +22,6 @@ Said = Option (Option (Bor (List ℕ)))
 abbrev pub said_first : Option (Option (List ℕ)) → Option (List ℕ) → Option (List ℕ)
 said_first None raw = option_map unquote raw
 said_first (Some earlier) raw = earlier
-
--- a later directive has another value
-abbrev pub says_another : Option (Option (List ℕ)) → Option (List ℕ) → Bool
-says_another None raw = false
-says_another (Some earlier) raw = not (same_value earlier raw)
 
 -- the value at a name's index, or among the others if it has no index
 abbrev pub said_or : Option Said → Option (Option (List ℕ)) → Option (Option (List ℕ))
@@ -46,8 +41,8 @@ index_of name = position_or_len (bytes_eq name) asked_names
 
 -- each index has what the pieces say under its name; pieces without a name don't count
 pub record AreKnownDirectives (pieces : List (List ℕ)) (asked : List Said) (conflict : Bool) : Type 0 where
-  pub sized : length asked ≡ 11
-  pub under : (name : List ℕ) → nat_lt (index_of name) 11 ≡ true
+  pub sized : length asked ≡ length asked_names
+  pub under : (name : List ℕ) → nat_lt (index_of name) (length asked_names) ≡ true
       → option_map option_copied (slice_index_or asked (index_of name) None)
       ≡ value_under (first_directives (filter has_name pieces)) name
   pub clash : conflict ≡ has_conflict (filter has_name pieces)

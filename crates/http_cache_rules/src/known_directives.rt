@@ -5,18 +5,45 @@ ghost use Rattle.std.specs.List.{position};
 ghost use Rattle.http_header.specs.Token.{lowercase};
 ghost use Rattle.http_cache_fields.specs.Headers.{headers_of};
 ghost use Rattle.http_cache_fields.specs.Pieces.{pieces_under};
-ghost use Rattle.http_cache_rules.specs.KnownDirectives.{asked_names, said_first};
-ghost use Rattle.http_cache_rules.specs.KnownDirectives.{says_another, AreKnownDirectives};
+ghost use Rattle.http_cache_rules.specs.KnownDirectives.{asked_names, said_first, AreKnownDirectives};
 
 use http_cache_fields::directives::split_piece;
 use http_cache_fields::names::is_same_name;
-use http_cache_fields::pieces::pieces_under;
-use http_cache_fields::reading::ReadDirectives;
+use http_cache_fields::pieces::pieces_of;
+use http_cache_fields::reading::{ReadDirectives, Said, says_another};
 use http_cache_fields::text::unquote;
 use http_header::{CACHE_CONTROL, HeaderMap};
 use std::alloc::{AllocError, Global};
 
-const ASKED: [&str; 11] = [
+/// A directive of a response that the rules ask for.
+#[derive(Clone, Copy)]
+pub enum Asked {
+    /// `no-store`.
+    NoStore,
+    /// `no-cache`.
+    NoCache,
+    /// `private`.
+    Private,
+    /// `public`.
+    Public,
+    /// `must-revalidate`.
+    MustRevalidate,
+    /// `proxy-revalidate`.
+    ProxyRevalidate,
+    /// `immutable`.
+    Immutable,
+    /// `s-maxage`.
+    SMaxage,
+    /// `max-age`.
+    MaxAge,
+    /// `stale-while-revalidate`.
+    StaleWhileRevalidate,
+    /// `stale-if-error`.
+    StaleIfError,
+}
+
+// In the order of `Asked`.
+const NAMES: &[&str] = &[
     "no-store",
     "no-cache",
     "private",
@@ -30,13 +57,13 @@ const ASKED: [&str; 11] = [
     "stale-if-error",
 ];
 
-/// The value of the first directive of a name, if there is one.
-pub type Said<'a> = Option<Option<&'a str>>;
+/// The number of directives that the rules ask for.
+pub const ASKED: usize = NAMES.len();
 
 fn index_of(name: &str) -> Option<usize>
     ensures { result ≡ position (bytes_eq (lowercase name.now)) asked_names }
 {
-    ASKED.iter().position(|asked| is_same_name(name, asked))
+    NAMES.iter().position(|asked| is_same_name(name, asked))
 }
 
 fn said_first<'a>(said: Said<'a>, value: Option<&'a str>) -> Option<&'a str>
@@ -49,28 +76,23 @@ fn said_first<'a>(said: Said<'a>, value: Option<&'a str>) -> Option<&'a str>
     }
 }
 
-fn says_another(said: Said<'_>, value: Option<&str>) -> bool
-    ensures { result
-        ≡ says_another (option_map option_copied said.entry) (option_copied value.entry) }
-{
-    match said {
-        Some(first) => first != value,
-        None => false,
-    }
-}
-
-/// Returns the directives of the rules in Cache-Control, in `ASKED`'s order, and whether there is a
+/// Returns the directives of the rules in Cache-Control, in the order of `Asked`, and whether there is a
 /// conflict.
 ///
 /// A conflict is a name that is repeated with another value.
-pub fn read_known(alloc: Global, headers: &HeaderMap) -> Result<([Said<'_>; 11], bool), AllocError>
+pub fn read_known(
+    alloc: Global,
+    headers: &HeaderMap,
+) -> Result<([Said<'_>; ASKED], bool), AllocError>
     ensures { IfOk result (λ known.
         AreKnownDirectives
         (pieces_under (headers_of headers.now) (codes "cache-control")) known.0 known.1) }
 {
-    let mut asked = [None; 11];
-    let mut others = ReadDirectives::new(alloc);
-    for piece in pieces_under(headers, CACHE_CONTROL) {
+    let mut asked = [None; ASKED];
+    let lines = headers.get_all(CACHE_CONTROL);
+    let pieces = pieces_of(&lines);
+    let mut others = ReadDirectives::new(alloc, lines);
+    for piece in pieces {
         let (name, value) = split_piece(piece);
         match index_of(name) {
             Some(index) => {

@@ -8,8 +8,9 @@ ghost use Rattle.http_cache_rules.specs.StoredDirectives.{stored_directives_of};
 ghost use Rattle.http_cache_rules.specs.KnownDirectives.{AreKnownDirectives};
 
 use crate::delta_seconds::DeltaSeconds;
-use crate::known_directives::{Said, read_known};
+use crate::known_directives::{ASKED, Asked, read_known};
 use http_cache_fields::pragma::pragma_stands_in;
+use http_cache_fields::reading::Said;
 use http_header::HeaderMap;
 use std::alloc::{AllocError, Global};
 
@@ -49,22 +50,22 @@ fn delta_seconds(said: Said<'_>) -> DeltaSeconds
     }
 }
 
-fn found_in(asked: [Said<'_>; 11], conflict: bool, no_cache: bool) -> StoredDirectives
+fn found_in(asked: [Said<'_>; ASKED], conflict: bool, no_cache: bool) -> StoredDirectives
     ensures { (pieces : List (List ℕ)) → AreKnownDirectives pieces asked.entry conflict
         → result ≡ stored_directives_of (with_no_cache no_cache (directives pieces)) }
 {
     StoredDirectives {
-        no_store: asked[0].is_some(),
-        no_cache: no_cache || asked[1].is_some(),
-        private: asked[2].is_some(),
-        public: asked[3].is_some(),
-        must_revalidate: conflict || asked[4].is_some(),
-        proxy_revalidate: asked[5].is_some(),
-        immutable: asked[6].is_some(),
-        s_maxage: delta_seconds(asked[7]),
-        max_age: delta_seconds(asked[8]),
-        stale_while_revalidate: delta_seconds(asked[9]),
-        stale_if_error: delta_seconds(asked[10]),
+        no_store: asked[Asked::NoStore as usize].is_some(),
+        no_cache: no_cache || asked[Asked::NoCache as usize].is_some(),
+        private: asked[Asked::Private as usize].is_some(),
+        public: asked[Asked::Public as usize].is_some(),
+        must_revalidate: conflict || asked[Asked::MustRevalidate as usize].is_some(),
+        proxy_revalidate: asked[Asked::ProxyRevalidate as usize].is_some(),
+        immutable: asked[Asked::Immutable as usize].is_some(),
+        s_maxage: delta_seconds(asked[Asked::SMaxage as usize]),
+        max_age: delta_seconds(asked[Asked::MaxAge as usize]),
+        stale_while_revalidate: delta_seconds(asked[Asked::StaleWhileRevalidate as usize]),
+        stale_if_error: delta_seconds(asked[Asked::StaleIfError as usize]),
     }
 }
 

@@ -7,13 +7,15 @@ use Rattle.std.specs.Option.{option_map, option_copied}
 use Rattle.std.proofs.lemmas.Iterator.Consumers.{YieldsList-end, YieldsList-turn, YieldsList-from_first}
 use Rattle.std.proofs.lemmas.List.{length-set}
 use Rattle.std.proofs.lemmas.List.Elements.{All-from_recursion}
-use Rattle.http_cache_fields.specs.Headers.{headers_of, values}
-use Rattle.http_cache_fields.specs.Pieces.{pieces_under}
+use Rattle.http_cache_fields.specs.Headers.{headers_of, bytes_of, values}
+use Rattle.http_cache_fields.specs.Pieces.{pieces_of_values, pieces_under}
 use Rattle.http_cache_fields.specs.Directives.{name_of, raw_value_of}
 use Rattle.http_cache_fields.specs.ReadMore.{read_more, IsDirectiveIfNamed}
+use Rattle.http_cache_fields.proofs.HeadersLemmas.{values-headers_of}
 use Rattle.http_cache_fields.proofs.ValidLemmas.{IsPiece, each-pieces_of_values, directive_of-is}
 use Rattle.http_cache_fields.proofs.ReadLemmas.{named, named-push}
-use Rattle.http_cache_rules.specs.KnownDirectives.{asked_names, said_first, says_another, IsSaidBy, AreKnownDirectives}
+use Rattle.http_cache_fields.specs.Reading.{says_another}
+use Rattle.http_cache_rules.specs.KnownDirectives.{asked_names, said_first, IsSaidBy, AreKnownDirectives}
 use Rattle.http_cache_rules.proofs.KnownDirectivesLemmas.{known-asked, known-other, known-all}
 use Rattle.http_cache_rules.proofs.known_directives.read_known.Goals as goal
 use Rattle.http_cache_rules.proofs.known_directives.read_known.Goals.{then-others, else-others}
@@ -23,7 +25,7 @@ loop-piece-preserved-in-Some-index_of c =
     let p = c.in-Some.piece in
     let asked = c.loop-piece.asked in
     let k = c.in-Some-index_of.index in
-    let size : length asked ≡ 11 = c.loop-piece.invariant.2 in
+    let size : length asked ≡ length asked_names = c.loop-piece.invariant.2 in
     let at : position (bytes_eq (name_of p.now)) asked_names ≡ Some k =
     ap (λ (n : List ℕ). position (bytes_eq n) asked_names) (sym c.split_piece.ensures.name)
     ∙ sym c.index_of.ensures ∙ c.in-Some-index_of.is in
@@ -71,7 +73,9 @@ loop-piece-preserved c =
 pub returns : goal.returns
 returns c =
     let all = pieces_under (headers_of c.args.headers.now) (codes "cache-control") in
-    let start = c.into_iter-piece-iterator.ensures.into_iter_gives ∙ c.pieces_under-piece-items.ensures in
+    let start = c.into_iter-piece-iterator.ensures.into_iter_gives ∙ c.pieces_of-pieces.ensures
+    ∙ ap (λ vs. pieces_of_values (bytes_of vs)) c.get_all-lines.ensures.value
+    ∙ ap pieces_of_values (sym (values-headers_of c.args.headers.now (codes "cache-control"))) in
     let seen = YieldsList-end
     (YieldsList-from_first (λ (x : Bor (List ℕ)). x.now) (λ s. s) all start) c.loop-piece.yielded _
     c.loop-piece.yielded_by _ _ c.in-None.is c.next.ensures.steps in
@@ -84,7 +88,9 @@ with-requires c =
     let lines = values (headers_of c.args.headers.now) (codes "cache-control") in
     let all = pieces_under (headers_of c.args.headers.now) (codes "cache-control") in
     let p = c.in-Some.piece in
-    let start = c.into_iter-piece-iterator.ensures.into_iter_gives ∙ c.pieces_under-piece-items.ensures in
+    let start = c.into_iter-piece-iterator.ensures.into_iter_gives ∙ c.pieces_of-pieces.ensures
+    ∙ ap (λ vs. pieces_of_values (bytes_of vs)) c.get_all-lines.ensures.value
+    ∙ ap pieces_of_values (sym (values-headers_of c.args.headers.now (codes "cache-control"))) in
     let at = YieldsList-turn
     (YieldsList-from_first (λ (x : Bor (List ℕ)). x.now) (λ s. s) all start) c.loop-piece.yielded _
     c.loop-piece.yielded_by _ _ p c.in-Some.is c.next.ensures.steps in

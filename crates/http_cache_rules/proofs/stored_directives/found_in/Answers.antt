@@ -1,9 +1,9 @@
 -- Each directive is found at its index, after a conflict or a Pragma adds one.
 use Rattle.std.proofs.Common.{◌≡◌, ℕ, Bool, true, false, ◌||◌, List, None, codes, refl, sym, ap, ◌∙◌}
-use Rattle.std.proofs.Common.{filter, is_some, nat_lt, bytes_eq, slice_index_or}
+use Rattle.std.proofs.Common.{filter, length, is_some, nat_lt, bytes_eq, slice_index_or}
 use Rattle.http_cache_fields.specs.Directives.{has, has_name, first_directives, has_conflict}
 use Rattle.http_cache_rules.specs.DeltaSeconds.{said_by_value}
-use Rattle.http_cache_rules.specs.KnownDirectives.{index_of}
+use Rattle.http_cache_rules.specs.KnownDirectives.{asked_names, index_of}
 use Rattle.http_cache_rules.proofs.StoredDirectivesLemmas.{found-other, found-no_cache, found-must_revalidate}
 use Rattle.http_cache_rules.proofs.KnownDirectivesLemmas.{is_some-copied}
 use Rattle.http_cache_rules.proofs.stored_directives.found_in.Goals as goal
@@ -18,7 +18,7 @@ returns c = λ pieces known.
     let conflict = has_conflict ps in
     let clash = known.clash in
     let left = found-other said conflict ds in
-    let there = λ (n : List ℕ) (inside : nat_lt (index_of n) 11 ≡ true).
+    let there = λ (n : List ℕ) (inside : nat_lt (index_of n) (length asked_names) ≡ true).
     is_some-copied (slice_index_or asked (index_of n) None) ∙ ap is_some (known.under n inside) in
     let no_cache : c.if-no_cache.result ≡ (said || has ds (codes "no-cache")) =
     elim c.if-no_cache.branch [
@@ -34,9 +34,9 @@ returns c = λ pieces known.
       | else-conflict w ↦ w.result-is ∙ w.is_some-else-conflict.ensures ∙ there (codes "must-revalidate") refl
           ∙ ap (λ (b : Bool). b || has ds (codes "must-revalidate")) (sym w.if-conflict.false ∙ clash)
     ] in
-    let has_left = λ (n : List ℕ) (inside : nat_lt (index_of n) 11 ≡ true) (e : bytes_eq n (codes "no-cache") ≡ false)
+    let has_left = λ (n : List ℕ) (inside : nat_lt (index_of n) (length asked_names) ≡ true) (e : bytes_eq n (codes "no-cache") ≡ false)
     (f : bytes_eq n (codes "must-revalidate") ≡ false). there n inside ∙ ap is_some (sym (left n e f)) in
-    let said_left = λ (n : List ℕ) (inside : nat_lt (index_of n) 11 ≡ true) (e : bytes_eq n (codes "no-cache") ≡ false)
+    let said_left = λ (n : List ℕ) (inside : nat_lt (index_of n) (length asked_names) ≡ true) (e : bytes_eq n (codes "no-cache") ≡ false)
     (f : bytes_eq n (codes "must-revalidate") ≡ false). ap said_by_value (known.under n inside ∙ sym (left n e f)) in
     λ i. record {
       no_store = (c.is_some.ensures ∙ has_left (codes "no-store") refl refl refl) i;
