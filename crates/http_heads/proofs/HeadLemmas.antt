@@ -11,7 +11,7 @@ use Rattle.httparse.specs.Spans.{header_bytes, AreFieldsAt, IsRequestOf, IsRespo
 use Rattle.httparse.specs.declared.spans.HeaderSpan.{HeaderSpan}
 use Rattle.httparse.specs.declared.spans.RequestSpans.{RequestSpans}
 use Rattle.httparse.specs.declared.spans.ResponseSpans.{ResponseSpans}
-use Rattle.http1_typed.specs.Parts.{entry_at, map_at, IsRequestParts, IsResponseParts}
+use Rattle.http1_typed.specs.Parts.{version_of, entry_at, map_at, IsRequestParts, IsResponseParts}
 use Rattle.std.specs.Prelude.{fold}
 use Rattle.http_heads.specs.Heads.{entry_of, headers_in, IsRequest, IsResponse}
 
@@ -36,6 +36,7 @@ request_is bytes spans r p (h, at) whole is = record {
   reads = subst (λ (rest : List ℕ). ReadsRequest bytes h rest) (nothing_left bytes r.len whole) at.reads;
   method = is.method ∙ at.method;
   target = subst (λ (t : List ℕ). Spells t p.uri) at.path is.uri;
+  version = is.version ∙ ap version_of at.version;
   headers = is.headers ∙ headers_are bytes spans r.headers h.fields at.fields;
 }
 
@@ -45,5 +46,6 @@ response_is bytes spans r p (h, at) whole is = record {
   head = h;
   reads = subst (λ (rest : List ℕ). ReadsResponse bytes h rest) (nothing_left bytes r.len whole) at.reads;
   status = is.status ∙ at.code;
+  version = is.version ∙ ap version_of at.version;
   headers = is.headers ∙ headers_are bytes spans r.headers h.fields at.fields;
 }

@@ -9,6 +9,7 @@ use Rattle.http_header.specs.HeaderMap.{Entries, append_all, RefusesAppend}
 use Rattle.http_uri.specs.Uri.{Spells, SpellsNone}
 use Rattle.httparse.specs.Grammar.{Field, RequestHead, ReadsRequest, ResponseHead, ReadsResponse, status_code}
 use Rattle.httparse.specs.Spans.{name_and_value}
+use Rattle.http1_typed.specs.Parts.{version_of}
 
 abbrev pub entry_of : List ℕ × List ℕ → List ℕ × FieldValue
 entry_of p = (lowercase p.0, plain_value p.1)
@@ -23,6 +24,7 @@ pub record IsRequest (bytes : List ℕ) (r : Request.Parts) : Type 0 where
   pub reads : ReadsRequest bytes head []
   pub method : r.method ≡ head.method
   pub target : Spells head.target r.uri
+  pub version : r.version ≡ version_of head.minor
   pub headers : r.headers ≡ headers_in head.fields
 
 -- the bytes are the head of the response, and nothing else
@@ -30,6 +32,7 @@ pub record IsResponse (bytes : List ℕ) (r : Response.Parts) : Type 0 where
   pub head : ResponseHead
   pub reads : ReadsResponse bytes head []
   pub status : r.status ≡ status_code head
+  pub version : r.version ≡ version_of head.minor
   pub headers : r.headers ≡ headers_in head.fields
 
 -- a header map has no longer names
