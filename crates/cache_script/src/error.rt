@@ -21,7 +21,7 @@ impl ScriptError {
     ghost use Rattle.cache_script.specs.Status.{exit_status_of};
 
     /// Returns the exit status of a program that ends with the error.
-    pub fn exit_status(&self) -> u8
+    pub fn status(&self) -> u8
         ensures { result ≡ exit_status_of self.now }
     {
         match self {

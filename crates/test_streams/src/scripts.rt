@@ -155,7 +155,7 @@ fn is_no_script<R: Source>(rt: &impl Abort, alloc: Global, reader: &mut R) -> Re
     match run(alloc, reader, &mut writer) {
         Ok(()) => assert!(rt; false, "not refused"),
         Err(e) => {
-            assert_eq!(rt; e.exit_status(), 2);
+            assert_eq!(rt; e.status(), 2);
             let text = format!(in alloc; "{e}")?;
             assert_eq!(rt; text.as_str(), "script: not readable");
         }
@@ -207,7 +207,7 @@ fn is_not_written(rt: &impl Abort, alloc: Global, writer: &mut Gate) -> Result<(
     match run(alloc, &mut reader, writer) {
         Ok(()) => assert!(rt; false, "written"),
         Err(e) => {
-            assert_eq!(rt; e.exit_status(), 3);
+            assert_eq!(rt; e.status(), 3);
             let text = format!(in alloc; "{e}")?;
             assert_eq!(rt; text.as_str(), "output: not written");
         }
