@@ -76,8 +76,8 @@ fn said_first<'a>(said: Said<'a>, value: Option<&'a str>) -> Option<&'a str>
     }
 }
 
-/// Returns the directives of the rules in Cache-Control, in the order of `Asked`, and whether there is a
-/// conflict.
+/// Returns the directives of the rules in Cache-Control, in the order of `Asked`, and whether there
+/// is a conflict.
 ///
 /// A conflict is a name that is repeated with another value.
 pub fn read_known(
