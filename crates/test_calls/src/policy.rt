@@ -83,7 +83,11 @@ fn use_word(allowed: StaleUse) -> &'static str {
 }
 
 // Returns what a cache does with the response when it looks the request up.
-fn look_up(policy: &CachePolicy, asked: &JoinedRequest<'_, request::Parts>, at: Timestamp) -> &'static str {
+fn look_up(
+    policy: &CachePolicy,
+    asked: &JoinedRequest<'_, request::Parts>,
+    at: Timestamp,
+) -> &'static str {
     if policy.may_be_used(asked, at) {
         return "use";
     }
