@@ -42,8 +42,11 @@ pub enum Asked {
     StaleIfError,
 }
 
+/// The number of directives that the rules ask for.
+pub const ASKED: usize = Asked::StaleIfError as usize + 1;
+
 // In the order of `Asked`.
-const NAMES: &[&str] = &[
+const NAMES: [&str; ASKED] = [
     "no-store",
     "no-cache",
     "private",
@@ -56,9 +59,6 @@ const NAMES: &[&str] = &[
     "stale-while-revalidate",
     "stale-if-error",
 ];
-
-/// The number of directives that the rules ask for.
-pub const ASKED: usize = NAMES.len();
 
 fn index_of(name: &str) -> Option<usize>
     ensures { result ≡ position (bytes_eq (lowercase name.now)) asked_names }
