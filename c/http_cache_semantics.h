@@ -11,8 +11,8 @@
    Results. 0 or more: the call succeeded. Below 0: an enum hcs_error. After an error no buffer is
    written (kept), but *needed, *form_needed and *index are.
    Buffers. A call writes its bytes to the start of the caller's buffer, and nothing after them.
-   *needed is the number of these bytes, even if the buffer is too small. It is 0 after other
-   errors.
+   *needed is the number of these bytes. After HCS_TOO_SMALL it is the number that the call writes
+   into a buffer that is long enough (too_small). After other errors it is 0 (none_needed).
    Pointers. The length of each buffer follows its pointer. A pointer may be null only if its length
    is 0. What is written may not overlap what is read, nor other things that are written.
    Memory. A call allocates by malloc and frees all of it before it returns. Nothing has to be freed.
@@ -143,9 +143,9 @@ void hcs_defaults(struct hcs_cache *cache);
    HCS_MALFORMED only if request is no head of a request, or response no head of a response (malformed).
    HCS_FULL only if one of them has more fields than a header map holds (full).
    HCS_UNDATED is never returned (never_undated).
-   HCS_TOO_SMALL only if out is shorter than *needed (too_small).
+   HCS_TOO_SMALL only if out is shorter than *needed, the length of what it would hold (too_small).
    HCS_BAD_ARGUMENT only if the options, the form or the time are out of range (bad_argument).
-   After an error out is as it was (kept). */
+   After an error out is as it was (kept), and *needed is 0 but for HCS_TOO_SMALL (none_needed). */
 int32_t hcs_new(const struct hcs_cache *cache, const uint8_t *request, size_t request_len,
                 const uint8_t *response, size_t response_len, const struct hcs_time *received,
                 uint8_t *out, size_t out_len, size_t *needed);
@@ -157,9 +157,9 @@ int32_t hcs_new(const struct hcs_cache *cache, const uint8_t *request, size_t re
    HCS_MALFORMED only if stored is no stored form, or request no head of a request (malformed).
    HCS_FULL only if a header map can't hold the fields of the request, or of what is sent (full).
    HCS_UNDATED only if the response is fresh and its Date would be before 1900 (undated).
-   HCS_TOO_SMALL only if out is shorter than *needed (too_small).
+   HCS_TOO_SMALL only if out is shorter than *needed, the length of what it would hold (too_small).
    HCS_BAD_ARGUMENT only if the time is out of range (bad_argument).
-   After an error out is as it was (kept). */
+   After an error out is as it was (kept), and *needed is 0 but for HCS_TOO_SMALL (none_needed). */
 int32_t hcs_before(const struct hcs_cache *cache, const uint8_t *stored, size_t stored_len,
                    const uint8_t *request, size_t request_len, const struct hcs_time *now,
                    uint8_t *out, size_t out_len, size_t *needed);
@@ -173,9 +173,9 @@ int32_t hcs_before(const struct hcs_cache *cache, const uint8_t *stored, size_t 
    request is no head of a request (malformed).
    HCS_FULL only if a header map can't hold the fields of the request, or of what is sent (full).
    HCS_UNDATED only if the chosen response is fresh and its Date would be before 1900 (undated).
-   HCS_TOO_SMALL only if out is shorter than *needed (too_small).
+   HCS_TOO_SMALL only if out is shorter than *needed, the length of what it would hold (too_small).
    HCS_BAD_ARGUMENT only if the time is out of range (bad_argument).
-   After an error out is as it was (kept). */
+   After an error out is as it was (kept), and *needed is 0 but for HCS_TOO_SMALL (none_needed). */
 int32_t hcs_choose(const struct hcs_cache *cache, const uint8_t *forms, size_t forms_len,
                    const size_t *lengths, size_t count, const uint8_t *request, size_t request_len,
                    const struct hcs_time *now, size_t *index, uint8_t *out, size_t out_len,
@@ -187,9 +187,11 @@ int32_t hcs_choose(const struct hcs_cache *cache, const uint8_t *forms, size_t f
    HCS_MALFORMED only if stored is no stored form, or one of the heads can't be read (malformed).
    HCS_FULL only if a header map can't hold the fields of a head, or of what is sent (full).
    HCS_UNDATED only if the Date of what is sent would be before 1900 (undated).
-   HCS_TOO_SMALL only if form is shorter than *form_needed, or out than *needed (too_small).
+   HCS_TOO_SMALL only if form is shorter than *form_needed, or out than *needed, which are the
+   lengths of what they would hold (too_small).
    HCS_BAD_ARGUMENT only if the form or the time is out of range (bad_argument).
-   After an error form is as it was (form_kept), and so is out (kept). */
+   After an error form is as it was (form_kept), and so is out (kept). Both lengths are 0 but for
+   HCS_TOO_SMALL (none_needed). */
 int32_t hcs_after(const struct hcs_cache *cache, const uint8_t *stored, size_t stored_len,
                   const uint8_t *request, size_t request_len, const uint8_t *response, size_t response_len,
                   const struct hcs_time *now, uint8_t *form, size_t form_len, size_t *form_needed,
@@ -200,9 +202,9 @@ int32_t hcs_after(const struct hcs_cache *cache, const uint8_t *stored, size_t s
    HCS_MALFORMED only if stored is no stored form, or request no head of a request (malformed).
    HCS_FULL only if a header map can't hold the fields of the request (full).
    HCS_UNDATED is never returned (never_undated).
-   HCS_TOO_SMALL only if out is shorter than *needed (too_small).
+   HCS_TOO_SMALL only if out is shorter than *needed, the length of what it would hold (too_small).
    HCS_BAD_ARGUMENT only if the time is out of range, or the name isn't UTF-8 (bad_argument).
-   After an error out is as it was (kept). */
+   After an error out is as it was (kept), and *needed is 0 but for HCS_TOO_SMALL (none_needed). */
 int32_t hcs_explain(const struct hcs_cache *cache, const uint8_t *stored, size_t stored_len,
                     const uint8_t *request, size_t request_len, const struct hcs_time *now,
                     const uint8_t *name, size_t name_len, uint8_t *out, size_t out_len, size_t *needed);
@@ -294,9 +296,9 @@ int32_t hcs_is_confirmed_by(const struct hcs_cache *cache, const uint8_t *stored
    HCS_MALFORMED only if stored is no stored form (malformed).
    HCS_FULL only if the fields have no room for Age (full).
    HCS_UNDATED is never returned (never_undated).
-   HCS_TOO_SMALL only if out is shorter than *needed (too_small).
+   HCS_TOO_SMALL only if out is shorter than *needed, the length of what it would hold (too_small).
    HCS_BAD_ARGUMENT only if the time is out of range (bad_argument).
-   After an error out is as it was (kept). */
+   After an error out is as it was (kept), and *needed is 0 but for HCS_TOO_SMALL (none_needed). */
 int32_t hcs_response_at(const uint8_t *stored, size_t stored_len, const struct hcs_time *now,
                         uint8_t *out, size_t out_len, size_t *needed);
 
@@ -305,9 +307,9 @@ int32_t hcs_response_at(const uint8_t *stored, size_t stored_len, const struct h
    0; out has the head (head).
    HCS_MALFORMED only if response is no head of a response (malformed).
    HCS_FULL only if a header map can't hold its fields (full).
-   HCS_TOO_SMALL only if out is shorter than *needed (too_small).
+   HCS_TOO_SMALL only if out is shorter than *needed, the length of what it would hold (too_small).
    No other error but HCS_NO_MEMORY is returned (others).
-   After an error out is as it was (kept). */
+   After an error out is as it was (kept), and *needed is 0 but for HCS_TOO_SMALL (none_needed). */
 int32_t hcs_joined(const struct hcs_cache *cache, const uint8_t *response, size_t response_len,
                    uint8_t *out, size_t out_len, size_t *needed);
 
@@ -316,9 +318,9 @@ int32_t hcs_joined(const struct hcs_cache *cache, const uint8_t *response, size_
    0; out has the head (head).
    HCS_MALFORMED only if one of the two is no head of a response (malformed).
    HCS_FULL only if a header map can't hold the fields of one, or of both (full).
-   HCS_TOO_SMALL only if out is shorter than *needed (too_small).
+   HCS_TOO_SMALL only if out is shorter than *needed, the length of what it would hold (too_small).
    No other error but HCS_NO_MEMORY is returned (others).
-   After an error out is as it was (kept). */
+   After an error out is as it was (kept), and *needed is 0 but for HCS_TOO_SMALL (none_needed). */
 int32_t hcs_updated(const struct hcs_cache *cache, const uint8_t *stored, size_t stored_len,
                     const uint8_t *received, size_t received_len, uint8_t *out, size_t out_len,
                     size_t *needed);

@@ -1,12 +1,12 @@
 -- What is written for each result.
-use Rattle.std.specs.Prelude.{◌≡◌, ℕ, ℤ, List, Option, Some, None}
+use Rattle.std.specs.Prelude.{◌≡◌, ◌<◌, ◌⊎◌, ℕ, ℤ, List, length, Option, Some, None}
 use Rattle.http_cache_bytes.specs.declared.answer.Answer.{Answer}
 use Rattle.http_cache_bytes.specs.declared.answer.Verdict.TheVariants.{Forward}
 use Rattle.http_cache_bytes.specs.declared.choice.Chosen.{Chosen}
 use Rattle.http_cache_bytes.specs.declared.form.Stored.{Stored}
 use Rattle.http_cache_bytes.specs.declared.next.Next.{Next}
 use Rattle.http_cache_c.specs.Codes.{verdict_code, bool_code, next_code}
-use Rattle.http_cache_c.specs.Buffer.{IsWritten, IsHanded}
+use Rattle.http_cache_c.specs.Buffer.{IsWritten, IsHanded, LacksRoom}
 
 -- the stored form is written; the code says whether the response may be stored
 abbrev pub IsStoredOut : Stored → ℤ → ℕ → List ℕ → List ℕ → Type 0
@@ -25,8 +25,20 @@ IsChosenOut (Some c) count result index needed old new =
 IsChosenOut None count result index needed old new =
     (index ≡ count) × (result ≡ verdict_code Forward) × (needed ≡ 0) × (new ≡ old)
 
+-- the index of the chosen response, whose head has no room
+abbrev pub LacksRoomForChosen : Option Chosen → ℕ → ℕ → List ℕ → Type 0
+LacksRoomForChosen (Some c) index needed old = (index ≡ c.index) × LacksRoom c.answer.head.items needed old
+LacksRoomForChosen None index needed old = ⊥
+
 pub record IsNextOut (n : Next) (result : ℤ) (form_needed : ℕ) (old_form new_form : List ℕ)
     (needed : ℕ) (old new : List ℕ) : Type 0 where
   pub code_is : result ≡ next_code n
   pub form : IsWritten n.stored.form.items form_needed old_form new_form
   pub head : IsWritten n.head.items needed old new
+
+-- the lengths of the form and of the head, one of which has no room
+pub record LacksRoomForNext (n : Next) (form_needed : ℕ) (old_form : List ℕ) (needed : ℕ) (old : List ℕ)
+    : Type 0 where
+  pub form_needed_is : form_needed ≡ length n.stored.form.items
+  pub needed_is : needed ≡ length n.head.items
+  pub short : (length old_form < form_needed) ⊎ (length old < needed)

@@ -1,5 +1,5 @@
 //! New policies, and what a cache does with a request.
-ghost use Rattle.std.specs.Prelude.{◌≡◌, ◌<◌, ◌⊎◌, List, ℕ, pos, IsUtf8, length};
+ghost use Rattle.std.specs.Prelude.{◌≡◌, ◌⊎◌, List, ℕ, pos, IsUtf8};
 ghost use Rattle.http_heads.specs.Heads.{OverfillsRequest};
 ghost use Rattle.http_cache_semantics.specs.CacheStatus.{cache_status};
 ghost use Rattle.http_cache_semantics.specs.Exchange.{Exchange};
@@ -11,7 +11,7 @@ ghost use Rattle.http_cache_bytes.specs.Form.{IsPolicyOf, IsStoredFor};
 ghost use Rattle.http_cache_bytes.specs.declared.answer.Answer.{Answer};
 ghost use Rattle.http_cache_bytes.specs.declared.form.Stored.{Stored};
 ghost use Rattle.http_cache_c.specs.Arguments.{nanosecond_in, IsTime, options_in, AreOptions, IsForm};
-ghost use Rattle.http_cache_c.specs.Buffer.{IsHanded};
+ghost use Rattle.http_cache_c.specs.Buffer.{IsHanded, LacksRoom};
 ghost use Rattle.http_cache_c.specs.Codes.{malformed, full, undated, too_small, bad_argument, IsDone};
 ghost use Rattle.http_cache_c.specs.Results.{IsStoredOut, IsAnswerOut};
 
@@ -39,10 +39,13 @@ pub extern "C" fn hcs_new(
     ensures malformed { result ≡ malformed → IsNoExchange request.now response.now }
     ensures full { result ≡ full → OverfillsExchange request.now response.now }
     ensures never_undated { ¬ (result ≡ undated) }
-    ensures too_small { result ≡ too_small → length out.old < needed.new }
+    ensures too_small { result ≡ too_small → (s : Stored) × (e : Exchange)
+        × IsPolicyOf request.now response.now (options_in cache.now) (nanosecond_in received.now) e
+        × IsStoredFor e s × LacksRoom s.form.items needed.new out.old }
     ensures bad_argument { result ≡ bad_argument
         → ¬ (AreOptions cache.now × IsForm cache.now × IsTime received.now) }
     ensures kept { ¬ (IsDone result) → out.new ≡ out.old }
+    ensures none_needed { ¬ (IsDone result) → ¬ (result ≡ too_small) → needed.new ≡ 0 }
 {
     *needed = 0;
     let Some(options) = options_of(cache) else {
@@ -88,9 +91,12 @@ pub extern "C" fn hcs_before(
         ⊎ ForAsked stored.now request.now (λ e asked. RefusesAnswer e asked (nanosecond_in now.now)) }
     ensures undated { result ≡ undated → ForAsked stored.now request.now
         (λ e asked. HasUndatedAnswer e asked (nanosecond_in now.now)) }
-    ensures too_small { result ≡ too_small → length out.old < needed.new }
+    ensures too_small { result ≡ too_small → (a : Answer) × ForAsked stored.now request.now
+        (λ e asked. IsAnswerTo e asked (nanosecond_in now.now) a)
+        × LacksRoom a.head.items needed.new out.old }
     ensures bad_argument { result ≡ bad_argument → ¬ (IsTime now.now) }
     ensures kept { ¬ (IsDone result) → out.new ≡ out.old }
+    ensures none_needed { ¬ (IsDone result) → ¬ (result ≡ too_small) → needed.new ≡ 0 }
 {
     *needed = 0;
     let Some(now) = time_of(now) else {
@@ -128,9 +134,12 @@ pub extern "C" fn hcs_explain(
     ensures malformed { result ≡ malformed → IsUnasked stored.now request.now }
     ensures full { result ≡ full → OverfillsRequest request.now }
     ensures never_undated { ¬ (result ≡ undated) }
-    ensures too_small { result ≡ too_small → length out.old < needed.new }
+    ensures too_small { result ≡ too_small → (text : List ℕ) × ForAsked stored.now request.now
+        (λ e asked. text ≡ cache_status name.now (explanation e asked (nanosecond_in now.now)))
+        × LacksRoom text needed.new out.old }
     ensures bad_argument { result ≡ bad_argument → ¬ (IsTime now.now × IsUtf8 name.now) }
     ensures kept { ¬ (IsDone result) → out.new ≡ out.old }
+    ensures none_needed { ¬ (IsDone result) → ¬ (result ≡ too_small) → needed.new ≡ 0 }
 {
     *needed = 0;
     let Some(now) = time_of(now) else {

@@ -1,6 +1,6 @@
 //! Writes bytes to buffers of the caller.
 ghost use Rattle.std.specs.Prelude.{◌≡◌, ◌≤◌, ◌<◌, ◌⊎◌, true, false, length, pos, ◌≤ℤ◌};
-ghost use Rattle.http_cache_c.specs.Buffer.{IsWritten, IsHanded};
+ghost use Rattle.http_cache_c.specs.Buffer.{IsWritten, IsHanded, LacksRoom};
 ghost use Rattle.http_cache_c.specs.Codes.{IsDone, too_small};
 
 use crate::codes::TOO_SMALL;
@@ -19,7 +19,7 @@ pub(crate) fn hand(code: i32, bytes: &[u8], out: &mut [u8], needed: &mut usize) 
     requires { pos 0 ≤ℤ code }
     ensures done { IsDone result → IsHanded code bytes.now result needed.new out.old out.new }
     ensures failed { ¬ (IsDone result) → result ≡ too_small }
-    ensures small { ¬ (IsDone result) → length out.old < needed.new }
+    ensures small { ¬ (IsDone result) → LacksRoom bytes.now needed.new out.old }
     ensures kept { ¬ (IsDone result) → out.new ≡ out.old }
 {
     *needed = bytes.len();
@@ -42,6 +42,7 @@ pub(crate) fn write_both(
     ensures form { result ≡ true
         → IsWritten form.now form_needed.new form_out.old form_out.new }
     ensures head { result ≡ true → IsWritten head.now needed.new out.old out.new }
+    ensures lengths { (form_needed.new ≡ length form.now) × (needed.new ≡ length head.now) }
     ensures small { result ≡ false
         → (length form_out.old < form_needed.new) ⊎ (length out.old < needed.new) }
     ensures form_kept { result ≡ false → form_out.new ≡ form_out.old }

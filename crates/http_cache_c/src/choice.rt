@@ -1,5 +1,5 @@
 //! Which of several stored responses a cache uses for a request.
-ghost use Rattle.std.specs.Prelude.{◌≡◌, ◌<◌, ◌⊎◌, Option, length};
+ghost use Rattle.std.specs.Prelude.{◌≡◌, ◌⊎◌, Option, length};
 ghost use Rattle.http_heads.specs.Heads.{IsNoRequest, OverfillsRequest};
 ghost use Rattle.http_cache_semantics.specs.Refused.{RefusesAnswer, HasUndatedAnswer};
 ghost use Rattle.http_cache_semantics.specs.Variants.{IsOfChosen};
@@ -7,7 +7,7 @@ ghost use Rattle.http_cache_bytes.specs.Choice.{AreNoPolicies, ForVariants, IsCh
 ghost use Rattle.http_cache_bytes.specs.declared.choice.Chosen.{Chosen};
 ghost use Rattle.http_cache_c.specs.Arguments.{nanosecond_in, IsTime};
 ghost use Rattle.http_cache_c.specs.Codes.{malformed, full, undated, too_small, bad_argument, IsDone};
-ghost use Rattle.http_cache_c.specs.Results.{IsChosenOut};
+ghost use Rattle.http_cache_c.specs.Results.{IsChosenOut, LacksRoomForChosen};
 
 use crate::arguments::{HcsCache, HcsTime, keys_of, time_of};
 use crate::buffer::hand;
@@ -27,7 +27,8 @@ fn hand_chosen(
     ensures done { IsDone result
         → IsChosenOut chosen.now count result index.new needed.new out.old out.new }
     ensures failed { ¬ (IsDone result) → result ≡ too_small }
-    ensures small { ¬ (IsDone result) → length out.old < needed.new }
+    ensures small { ¬ (IsDone result)
+        → LacksRoomForChosen chosen.now index.new needed.new out.old }
     ensures kept { ¬ (IsDone result) → out.new ≡ out.old }
 {
     let Some(chosen) = chosen else {
@@ -71,9 +72,13 @@ pub extern "C" fn hcs_choose(
     ensures undated { result ≡ undated
         → ForVariants forms.now lengths.now request.now (λ es asked. IsOfChosen es asked
         (nanosecond_in now.now) (λ e. HasUndatedAnswer e asked (nanosecond_in now.now))) }
-    ensures too_small { result ≡ too_small → length out.old < needed.new }
+    ensures too_small { result ≡ too_small → (chosen : Option Chosen)
+        × ForVariants forms.now lengths.now request.now
+        (λ es asked. IsChosenFor es asked (nanosecond_in now.now) chosen)
+        × LacksRoomForChosen chosen index.new needed.new out.old }
     ensures bad_argument { result ≡ bad_argument → ¬ (IsTime now.now) }
     ensures kept { ¬ (IsDone result) → out.new ≡ out.old }
+    ensures none_needed { ¬ (IsDone result) → ¬ (result ≡ too_small) → needed.new ≡ 0 }
 {
     *index = 0;
     *needed = 0;

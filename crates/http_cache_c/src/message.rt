@@ -1,5 +1,5 @@
 //! Heads of responses that are made from others.
-ghost use Rattle.std.specs.Prelude.{◌≡◌, ◌<◌, ◌⊎◌, ℕ, List, length, pos};
+ghost use Rattle.std.specs.Prelude.{◌≡◌, ◌⊎◌, ℕ, List, pos};
 ghost use Rattle.http_heads.specs.Heads.{IsNoResponse, OverfillsResponse};
 ghost use Rattle.http_cache_semantics.specs.ResponseAt.{RefusesAge};
 ghost use Rattle.http_cache_semantics.specs.Updated.{updating_fields, updated_values, HasNoRoom};
@@ -7,7 +7,7 @@ ghost use Rattle.http_cache_bytes.specs.Cause.{ForPolicy, ForResponse, ForBoth};
 ghost use Rattle.http_cache_bytes.specs.Form.{IsNoForm};
 ghost use Rattle.http_cache_bytes.specs.Message.{IsHeadAt, IsJoined, IsUpdated};
 ghost use Rattle.http_cache_c.specs.Arguments.{nanosecond_in, IsTime};
-ghost use Rattle.http_cache_c.specs.Buffer.{IsHanded};
+ghost use Rattle.http_cache_c.specs.Buffer.{IsHanded, LacksRoom};
 ghost use Rattle.http_cache_c.specs.Codes.{malformed, full, undated, too_small, bad_argument, IsDone};
 
 use crate::arguments::{HcsCache, HcsTime, keys_of, time_of};
@@ -31,9 +31,12 @@ pub extern "C" fn hcs_response_at(
     ensures malformed { result ≡ malformed → IsNoForm stored.now }
     ensures full { result ≡ full → ForPolicy stored.now RefusesAge }
     ensures never_undated { ¬ (result ≡ undated) }
-    ensures too_small { result ≡ too_small → length out.old < needed.new }
+    ensures too_small { result ≡ too_small → (head : List ℕ)
+        × ForPolicy stored.now (λ e. IsHeadAt e (nanosecond_in now.now) head)
+        × LacksRoom head needed.new out.old }
     ensures bad_argument { result ≡ bad_argument → ¬ (IsTime now.now) }
     ensures kept { ¬ (IsDone result) → out.new ≡ out.old }
+    ensures none_needed { ¬ (IsDone result) → ¬ (result ≡ too_small) → needed.new ≡ 0 }
 {
     *needed = 0;
     let Some(now) = time_of(now) else {
@@ -60,8 +63,11 @@ pub extern "C" fn hcs_joined(
     ensures malformed { result ≡ malformed → IsNoResponse response.now }
     ensures full { result ≡ full → OverfillsResponse response.now }
     ensures others { ¬ (result ≡ undated) × ¬ (result ≡ bad_argument) }
-    ensures too_small { result ≡ too_small → length out.old < needed.new }
+    ensures too_small { result ≡ too_small → (head : List ℕ)
+        × ForResponse response.now (λ r. IsJoined r head)
+        × LacksRoom head needed.new out.old }
     ensures kept { ¬ (IsDone result) → out.new ≡ out.old }
+    ensures none_needed { ¬ (IsDone result) → ¬ (result ≡ too_small) → needed.new ≡ 0 }
 {
     *needed = 0;
     let Some(keys) = keys_of(cache) else {
@@ -91,8 +97,11 @@ pub extern "C" fn hcs_updated(
         ⊎ ForBoth stored.now received.now
         (λ r s. HasNoRoom (updated_values r.headers (updating_fields s.headers)))) }
     ensures others { ¬ (result ≡ undated) × ¬ (result ≡ bad_argument) }
-    ensures too_small { result ≡ too_small → length out.old < needed.new }
+    ensures too_small { result ≡ too_small → (head : List ℕ)
+        × ForBoth stored.now received.now (λ r s. IsUpdated r s head)
+        × LacksRoom head needed.new out.old }
     ensures kept { ¬ (IsDone result) → out.new ≡ out.old }
+    ensures none_needed { ¬ (IsDone result) → ¬ (result ≡ too_small) → needed.new ≡ 0 }
 {
     *needed = 0;
     let Some(keys) = keys_of(cache) else {

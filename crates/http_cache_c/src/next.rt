@@ -1,5 +1,5 @@
 //! What is stored and sent after the origin server has responded.
-ghost use Rattle.std.specs.Prelude.{◌≡◌, ◌<◌, ◌⊎◌, length};
+ghost use Rattle.std.specs.Prelude.{◌≡◌, ◌⊎◌};
 ghost use Rattle.http_cache_semantics.specs.Fresh.{RefusesFreshHeaders, HasNoDate};
 ghost use Rattle.http_cache_semantics.specs.Update.{next_exchange};
 ghost use Rattle.http_cache_bytes.specs.Cause.{ForReceived, IsNoExchange, OverfillsExchange};
@@ -8,7 +8,7 @@ ghost use Rattle.http_cache_bytes.specs.Next.{IsNextFor};
 ghost use Rattle.http_cache_bytes.specs.declared.next.Next.{Next};
 ghost use Rattle.http_cache_c.specs.Arguments.{nanosecond_in, IsTime, IsForm};
 ghost use Rattle.http_cache_c.specs.Codes.{malformed, full, undated, too_small, bad_argument, IsDone};
-ghost use Rattle.http_cache_c.specs.Results.{IsNextOut};
+ghost use Rattle.http_cache_c.specs.Results.{IsNextOut, LacksRoomForNext};
 
 use crate::arguments::{HcsCache, HcsTime, form_of, keys_of, time_of};
 use crate::buffer::write_both;
@@ -28,7 +28,7 @@ fn hand_next(
         needed.new out.old out.new }
     ensures failed { ¬ (IsDone result) → result ≡ too_small }
     ensures small { ¬ (IsDone result)
-        → (length form.old < form_needed.new) ⊎ (length out.old < needed.new) }
+        → LacksRoomForNext next.now form_needed.new form.old needed.new out.old }
     ensures form_kept { ¬ (IsDone result) → form.new ≡ form.old }
     ensures kept { ¬ (IsDone result) → out.new ≡ out.old }
 {
@@ -75,10 +75,14 @@ pub extern "C" fn hcs_after(
         (λ e asked answered. HasNoDate
         (next_exchange e asked answered (nanosecond_in now.now)) (nanosecond_in now.now)) }
     ensures too_small { result ≡ too_small
-        → (length form.old < form_needed.new) ⊎ (length out.old < needed.new) }
+        → (n : Next) × ForReceived stored.now request.now response.now
+        (λ e asked answered. IsNextFor e asked answered (nanosecond_in now.now) n)
+        × LacksRoomForNext n form_needed.new form.old needed.new out.old }
     ensures bad_argument { result ≡ bad_argument → ¬ (IsForm cache.now × IsTime now.now) }
     ensures form_kept { ¬ (IsDone result) → form.new ≡ form.old }
     ensures kept { ¬ (IsDone result) → out.new ≡ out.old }
+    ensures none_needed { ¬ (IsDone result) → ¬ (result ≡ too_small)
+        → (form_needed.new ≡ 0) × (needed.new ≡ 0) }
 {
     *form_needed = 0;
     *needed = 0;

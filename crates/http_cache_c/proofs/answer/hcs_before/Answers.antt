@@ -1,11 +1,12 @@
 -- The written answer is for the passed time.
-use Rattle.std.proofs.Common.{ℤ, Err, sym, ap, ◌∙◌, subst, w32, ◌⊎◌}
+use Rattle.std.proofs.Common.{ℕ, ℤ, List, Err, sym, ap, ◌∙◌, subst, w32, ◌⊎◌}
 use Rattle.std.proofs.lemmas.Int.{to_z-of_z}
-use Rattle.http_cache_c.proofs.BorderLemmas.{same_out}
+use Rattle.http_cache_c.proofs.BorderLemmas.{same_out, small_is_failed}
 use Rattle.http_cache_bytes.specs.Cause.{ForAsked}
 use Rattle.http_heads.specs.Heads.{OverfillsRequest}
 use Rattle.http_cache_semantics.specs.Refused.{RefusesAnswer, HasUndatedAnswer}
 use Rattle.http_cache_bytes.specs.Answer.{IsAnswerTo}
+use Rattle.http_cache_c.specs.Buffer.{LacksRoom}
 use Rattle.http_cache_c.specs.Codes.{verdict_code}
 use Rattle.http_cache_c.proofs.answer.hcs_before.Goals as goal
 
@@ -31,3 +32,14 @@ pub returns-in-Err-clause-undated : goal.returns-in-Err-clause-undated
 returns-in-Err-clause-undated c = λ is.
     subst (λ (t : ℤ). ForAsked c.args.stored.now c.args.request.now (λ e asked. HasUndatedAnswer e asked t))
     c.in-Some.ensures.some (c.in-Err.ensures.unprintable (ap Err (c.code_of.ensures.undated (sym (to_z-of_z w32 c.code_of.result (record { sfits = c.code_of.type_inv })) ∙ is))))
+
+pub returns-in-Ok-clause-too_small : goal.returns-in-Ok-clause-too_small
+returns-in-Ok-clause-too_small c =
+    rw (to_z-of_z w32 c.hand.result (record { sfits = c.hand.type_inv }))
+    (λ is. (
+      c.in-Ok.answer,
+      subst (λ (t : ℤ). ForAsked c.args.stored.now c.args.request.now (λ e asked. IsAnswerTo e asked t c.in-Ok.answer))
+          c.in-Some.ensures.some c.in-Ok.ensures.answer,
+      subst (λ (b : List ℕ). LacksRoom b c.hand.new.needed c.args.out.now) c.as_slice.ensures.value
+          (c.hand.ensures.small (small_is_failed c.hand.result is)),
+    ))

@@ -5,6 +5,7 @@ use Rattle.http_heads.specs.Heads.{OverfillsRequest}
 use Rattle.http_cache_semantics.specs.Refused.{RefusesAnswer, HasUndatedAnswer}
 use Rattle.http_cache_semantics.specs.Variants.{IsOfChosen}
 use Rattle.http_cache_bytes.specs.Choice.{ForVariants, IsChosenFor}
+use Rattle.http_cache_c.proofs.BorderLemmas.{small_is_failed}
 use Rattle.http_cache_c.proofs.choice.hcs_choose.Goals as goal
 
 pub returns-in-Ok-clause-choice : goal.returns-in-Ok-clause-choice
@@ -29,3 +30,13 @@ returns-in-Err-clause-undated c = λ is.
     subst (λ (t : ℤ). ForVariants c.args.forms.now c.args.lengths.now c.args.request.now
     (λ es asked. IsOfChosen es asked t (λ e. HasUndatedAnswer e asked t)))
     c.in-Some.ensures.some (c.in-Err.ensures.unprintable (ap Err (c.code_of.ensures.undated (sym (to_z-of_z w32 c.code_of.result (record { sfits = c.code_of.type_inv })) ∙ is))))
+
+pub returns-in-Ok-clause-too_small : goal.returns-in-Ok-clause-too_small
+returns-in-Ok-clause-too_small c =
+    rw (to_z-of_z w32 c.hand_chosen.result (record { sfits = c.hand_chosen.type_inv }))
+    (λ is. (
+      c.in-Ok.chosen,
+      subst (λ (t : ℤ). ForVariants c.args.forms.now c.args.lengths.now c.args.request.now (λ es asked. IsChosenFor es asked t c.in-Ok.chosen))
+          c.in-Some.ensures.some c.in-Ok.ensures.chosen,
+      c.hand_chosen.ensures.small (small_is_failed c.hand_chosen.result is),
+    ))

@@ -54,7 +54,12 @@ returns-in-Ok-clause-bad_argument c =
 pub returns-in-Ok-clause-too_small : goal.returns-in-Ok-clause-too_small
 returns-in-Ok-clause-too_small c =
     rw (to_z-of_z w32 c.hand_next.result (record { sfits = c.hand_next.type_inv }))
-    (λ is. c.hand_next.ensures.small (small_is_failed c.hand_next.result is))
+    (λ is. (
+      c.in-Ok.next,
+      subst (λ (t : ℤ). ForReceived c.args.stored.now c.args.request.now c.args.response.now
+          (λ e asked answered. IsNextFor e asked answered t c.in-Ok.next)) c.in-Some.ensures.some c.in-Ok.ensures.next,
+      c.hand_next.ensures.small (small_is_failed c.hand_next.result is),
+    ))
 
 pub returns-in-Ok-clause-form_kept : goal.returns-in-Ok-clause-form_kept
 returns-in-Ok-clause-form_kept c =
@@ -65,3 +70,8 @@ pub returns-in-Ok-clause-kept : goal.returns-in-Ok-clause-kept
 returns-in-Ok-clause-kept c =
     rw (to_z-of_z w32 c.hand_next.result (record { sfits = c.hand_next.type_inv }))
     c.hand_next.ensures.kept
+
+pub returns-in-Ok-clause-none_needed : goal.returns-in-Ok-clause-none_needed
+returns-in-Ok-clause-none_needed c =
+    rw (to_z-of_z w32 c.hand_next.result (record { sfits = c.hand_next.type_inv }))
+    (λ failed other. absurd (other (c.hand_next.ensures.failed failed)))
