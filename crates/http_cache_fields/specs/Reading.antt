@@ -1,5 +1,6 @@
 -- The first directive of each name, while directives are read.
-use Rattle.std.specs.Prelude.{◌≡◌, ℕ, Bool, false, not, List, [], ◌∷◌, ◌++◌, Option, Some, None, if◌then◌else◌}
+use Rattle.std.specs.Prelude.{◌≡◌, ℕ, Bool, false, not, List, [], ◌∷◌, ◌++◌, Option, Some, None, Box, if◌then◌else◌}
+use Rattle.std.specs.declared.alloc.Global.{Global}
 use Rattle.std.specs.Borrow.{Bor}
 use Rattle.std.specs.declared.random_state.RandomState.{RandomState}
 use Rattle.indexmap.specs.IndexMap.{IndexMap}
@@ -10,9 +11,9 @@ use Rattle.http_cache_fields.specs.declared.names.Name.{Name}
 abbrev pub Table : Type 0
 Table = IndexMap Name (Option (Bor (List ℕ))) RandomState
 
-abbrev pub sent_directives : Option Table → List Directive
+abbrev pub sent_directives : Option (Box Table Global) → List Directive
 sent_directives None = []
-sent_directives (Some table) = sent_entries table.entries
+sent_directives (Some table) = sent_entries table.value.entries
 
 -- the directive is added last, unless its name is present
 abbrev pub with_first : List Directive → Directive → List Directive

@@ -34,7 +34,8 @@ type Table<'a> = IndexMap<Name<'a>, Option<&'a str>, RandomState>;
 pub struct FirstDirectives<'a> {
     alloc: Global,
     lines: GetAll<'a, HeaderValue>,
-    table: Option<Table<'a>>,
+    // Few responses need one.
+    table: Option<Box<Table<'a>>>,
 }
 
 impl<'a> Model for FirstDirectives<'a> {
@@ -53,13 +54,13 @@ impl<'a> Model for FirstDirectives<'a> {
 fn table_or_new<'a>(
     alloc: Global,
     lines: &GetAll<'_, HeaderValue>,
-    table: Option<Table<'a>>,
-) -> Result<Table<'a>, AllocError>
-    ensures { IfOk result (λ same. sent_entries same.entries ≡ sent_directives table.entry) }
+    table: Option<Box<Table<'a>>>,
+) -> Result<Box<Table<'a>>, AllocError>
+    ensures { IfOk result (λ same. sent_entries same.value.entries ≡ sent_directives table.entry) }
 {
     match table {
         Some(table) => Ok(table),
-        None => Ok(IndexMap::with_hasher(alloc, keys_of(lines)?)),
+        None => Ok(Box::new(alloc, IndexMap::with_hasher(alloc, keys_of(lines)?))?),
     }
 }
 
@@ -129,7 +130,7 @@ impl<'a> FirstDirectives<'a> {
             table,
         } = self;
         let mut table = table_or_new(alloc, &lines, table)?;
-        let earlier = earlier_or_add(&mut table, name, value)?;
+        let earlier = earlier_or_add(&mut *table, name, value)?;
         let table = Some(table);
         Ok((
             FirstDirectives {
