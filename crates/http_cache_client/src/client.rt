@@ -1,6 +1,6 @@
 //! The caching client: its shelf, its name in Cache-Status and its options.
 ghost use Rattle.std.specs.Prelude.{◌≡◌, ◌⊎◌, ℕ, List, true, map, string_bytes, length, IfOk, OnOk, OnErr};
-ghost use Rattle.http_cache_storage.specs.Shelf.{KeepsAll, KeepsOthers, RemovesThese};
+ghost use Rattle.http_cache_storage.specs.Shelf.{KeepsAll, KeepsOthers, RemovesThese, IsSwept};
 ghost use Rattle.http_cache_storage.specs.Target.{text_of};
 ghost use Rattle.http_cache_plans.specs.Plan.{Stores, IsChangeOf};
 ghost use Rattle.http_cache_client.specs.Remove.{stored_count};
@@ -70,6 +70,8 @@ impl<S: Shelf + Drop> Client<S> {
     ///
     /// The error of the shelf. Nothing is removed then.
     pub fn sweep(&mut self, now: Timestamp) -> Result<usize, ShelfError>
+        ensures swept { OnOk result
+            (IsSwept now.nanosecond (S.stored self.old.shelf) (S.stored self.new.shelf)) }
         ensures kept { OnErr result (KeepsAll (S.stored self.old.shelf) (S.next_id self.old.shelf)
             (S.stored self.new.shelf) (S.next_id self.new.shelf)) }
         ensures given_once { S.next_id self.new.shelf ≡ S.next_id self.old.shelf }
