@@ -190,6 +190,21 @@ fn a_tenth_of_the_time_since_last_modified() {
 }
 
 #[test]
+fn a_request_that_a_cache_looks_up() {
+    let policy = policy_of("/a", &[("cache-control", "s-maxage=10")]);
+    let accepting = Request::get("/a")
+        .header("cache-control", "max-stale")
+        .body(())
+        .unwrap();
+    assert!(policy.fresh_at(&accepting, at(15)).unwrap());
+    assert!(!policy.may_be_used(&accepting, at(15)).unwrap());
+    assert!(policy.may_be_used(&accepting, at(9)).unwrap());
+    let head = Request::head("/a").body(()).unwrap();
+    assert!(!policy.fresh_at(&head, at(9)).unwrap());
+    assert!(policy.may_be_used(&head, at(9)).unwrap());
+}
+
+#[test]
 fn conditions_and_confirmations() {
     let policy = policy_of("/a", &[("cache-control", "max-age=10"), ("etag", "\"1\"")]);
     let asked = |tag| {
