@@ -189,7 +189,15 @@ fn is_pair(entry: Option<(&str, Option<&str>)>, name: &str, value: &str) -> bool
 
 fn are_in_order(read: &CacheControl) -> bool {
     let mut directives = read.iter();
-    is_pair(directives.next(), "max-age", "10") && directives.count() == 4
+    if !is_pair(directives.next(), "max-age", "10") {
+        return false;
+    }
+    for _ in 0..4 {
+        if directives.next().is_none() {
+            return false;
+        }
+    }
+    directives.next().is_none()
 }
 
 /// Makes a call on the directives of the response, and returns whether its result is right.
