@@ -11,7 +11,7 @@
 #include <sys/mman.h>
 #include <unistd.h>
 
-enum { BUFFER = 4096, CHANGES = 100000, UNTOUCHED = 0xEE, CALLS_WITH_TIMES = 12 };
+enum { BUFFER = 4096, CHANGES = 100000, UNTOUCHED = 0xEE, CALLS_WITH_TIMES = 13 };
 
 static struct hcs_cache cache;
 static struct text exchange[INPUTS];
