@@ -61,6 +61,7 @@ fn cache_over<S: Shelf + Drop>(
             keys,
             intermediary,
             requests: settings.requests,
+            stored_body: settings.limits.body,
         },
     ))
 }

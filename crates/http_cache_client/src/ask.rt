@@ -58,6 +58,7 @@ fn validation_of(
         Ok(request) => Ok(OriginContact::Validate(Validation {
             id: Some(stored.id),
             why: said,
+            is_past_shelf: false,
             request: Box::new(alloc, request)?,
         })),
         Err(CacheError::Memory) => Err(AllocError),

@@ -3,6 +3,7 @@
 
 mod ask;
 pub mod client;
+mod coming;
 mod fetch;
 pub mod origin;
 mod receive;
@@ -11,4 +12,4 @@ pub mod tokens;
 pub use client::Client;
 pub use http_cache_plans::{Body, Times};
 pub use origin::{FetchError, Origin};
-pub use tokens::{Decision, Forwarded, Received, Validation};
+pub use tokens::{Coming, Decision, Forwarded, Received, Validation};

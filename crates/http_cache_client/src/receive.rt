@@ -39,11 +39,39 @@ struct Receipt<'a> {
 
 // A request that was sent: the client's own one or a validation.
 #[derive(Clone, Copy)]
-struct Pending<'a> {
-    id: Option<ResponseId>,
-    why: &'a Why,
-    is_past_shelf: bool,
-    is_own: bool,
+pub(crate) struct Pending<'a> {
+    pub(crate) id: Option<ResponseId>,
+    pub(crate) why: &'a Why,
+    pub(crate) is_past_shelf: bool,
+    pub(crate) is_own: bool,
+}
+
+impl Forwarded {
+    pub(crate) fn pending(&self) -> Pending<'_>
+        ensures id { result.id ≡ self.now.id }
+        ensures unstored { result.is_past_shelf ≡ self.now.is_past_shelf }
+    {
+        Pending {
+            id: self.id,
+            why: &self.why,
+            is_past_shelf: self.is_past_shelf,
+            is_own: true,
+        }
+    }
+}
+
+impl Validation {
+    pub(crate) fn pending(&self) -> Pending<'_>
+        ensures id { result.id ≡ self.now.id }
+        ensures unstored { result.is_past_shelf ≡ self.now.is_past_shelf }
+    {
+        Pending {
+            id: self.id,
+            why: &self.why,
+            is_past_shelf: self.is_past_shelf,
+            is_own: false,
+        }
+    }
 }
 
 impl<S: Shelf + Drop> Client<S> {
@@ -150,7 +178,7 @@ impl<S: Shelf + Drop> Client<S> {
     }
 
     // Plans what to do with the response to a request that is looked up.
-    fn planned(
+    pub(crate) fn planned(
         &mut self,
         alloc: Global,
         target: Target,
@@ -230,6 +258,8 @@ impl<S: Shelf + Drop> Client<S> {
             (own_text incoming.now.request.now) }
         ensures complete { IsWholeResponse incoming.now.request.now response
             ⊎ (S.next_id self.new.shelf ≡ S.next_id self.old.shelf) }
+        ensures unstored { pending.now.is_past_shelf ≡ true
+            → S.next_id self.new.shelf ≡ S.next_id self.old.shelf }
         ensures failure { is_failure (head_of response).status ≡ true → pending.now.id ≢ None
             → KeepsAll (S.stored self.old.shelf) (S.next_id self.old.shelf)
             (S.stored self.new.shelf) (S.next_id self.new.shelf) }
@@ -370,7 +400,8 @@ impl<S: Shelf + Drop> Client<S> {
             status: StatusCode::NOT_MODIFIED,
             received: times.received,
         };
-        if let Some(id) = validation.id
+        if !validation.is_past_shelf
+            && let Some(id) = validation.id
             && self.read(alloc, &target)?
             && let Some(renewal) = renewal_of(
                 alloc,
@@ -417,6 +448,8 @@ impl<S: Shelf + Drop> Client<S> {
             (own_text request.now) }
         ensures complete { IsWholeResponse request.now response
             ⊎ (S.next_id self.new.shelf ≡ S.next_id self.old.shelf) }
+        ensures unstored { validation.old.is_past_shelf ≡ true
+            → S.next_id self.new.shelf ≡ S.next_id self.old.shelf }
         ensures failure { is_failure (head_of response).status ≡ true → validation.old.id ≢ None
             → KeepsAll (S.stored self.old.shelf) (S.next_id self.old.shelf)
             (S.stored self.new.shelf) (S.next_id self.new.shelf) }
@@ -429,13 +462,7 @@ impl<S: Shelf + Drop> Client<S> {
         if response.status() == StatusCode::NOT_MODIFIED {
             return self.validated(alloc, validation, &incoming, response, &times);
         }
-        let pending = Pending {
-            id: validation.id,
-            why: &validation.why,
-            is_past_shelf: false,
-            is_own: false,
-        };
-        let answer = self.taken(alloc, &pending, &incoming, response, &times)?;
+        let answer = self.taken(alloc, &validation.pending(), &incoming, response, &times)?;
         validation.id = None;
         Ok(Received::Answer(answer))
     }
@@ -466,6 +493,8 @@ impl<S: Shelf + Drop> Client<S> {
             (own_text request.now) }
         ensures complete { MayBeStored request.now response
             ⊎ (S.next_id self.new.shelf ≡ S.next_id self.old.shelf) }
+        ensures unstored { token.old.is_past_shelf ≡ true
+            → S.next_id self.new.shelf ≡ S.next_id self.old.shelf }
         ensures failure { is_failure (head_of response).status ≡ true → token.old.id ≢ None
             → KeepsAll (S.stored self.old.shelf) (S.next_id self.old.shelf)
             (S.stored self.new.shelf) (S.next_id self.new.shelf) }
@@ -479,13 +508,7 @@ impl<S: Shelf + Drop> Client<S> {
             return self.passed(alloc, token, request, response, times.received);
         }
         let incoming = Incoming::new(alloc, request)?;
-        let pending = Pending {
-            id: token.id,
-            why: &token.why,
-            is_past_shelf: token.is_past_shelf,
-            is_own: true,
-        };
-        let answer = self.taken(alloc, &pending, &incoming, response, &times)?;
+        let answer = self.taken(alloc, &token.pending(), &incoming, response, &times)?;
         token.id = None;
         Ok(answer)
     }
@@ -545,12 +568,7 @@ impl<S: Shelf + Drop> Client<S> {
     {
         let incoming = Incoming::new(alloc, request)?;
         let target = Target::of(alloc, request.uri(), request.headers())?;
-        let pending = Pending {
-            id: token.id,
-            why: &token.why,
-            is_past_shelf: token.is_past_shelf,
-            is_own: true,
-        };
+        let pending = token.pending();
         let answer = self.stale_answer(alloc, &target, &pending, &incoming, None, now)?;
         token.id = None;
         Ok(answer)

@@ -1,6 +1,6 @@
 //! What a client returns for a request to send, and takes back with its outcome. A token holds what
 //! Cache-Status reports of the request so far.
-ghost use Rattle.std.specs.Prelude.{◌≡◌};
+ghost use Rattle.std.specs.Prelude.{◌≡◌, true};
 
 use bytes::Bytes;
 use http::{Response, request};
@@ -16,7 +16,7 @@ pub struct Forwarded {
     // The stored response to use if the origin fails. A new response replaces it.
     pub(crate) id: Option<ResponseId>,
     pub(crate) why: Why,
-    // Whether the shelf failed. The response is then not stored.
+    // Whether the response isn't stored.
     pub(crate) is_past_shelf: bool,
 }
 
@@ -26,11 +26,22 @@ pub struct Validation {
     // The stored response; None once the token is spent.
     pub(crate) id: Option<ResponseId>,
     pub(crate) why: Why,
+    // Whether the response isn't stored, and a 304 renews nothing.
+    pub(crate) is_past_shelf: bool,
     // It is boxed, since tokens are moved for other requests too.
     pub(crate) request: Box<request::Parts>,
 }
 
 impl Forwarded {
+    /// Forbids to store the response, such as one that may be older than the invalidation of its
+    /// target.
+    pub fn forbid_storing(&mut self)
+        ensures unstored { self.new.is_past_shelf ≡ true }
+        ensures kept { self.new.id ≡ self.old.id }
+    {
+        self.is_past_shelf = true;
+    }
+
     pub(crate) fn of(id: Option<ResponseId>, why: Why) -> Forwarded {
         Forwarded {
             id,
@@ -41,8 +52,19 @@ impl Forwarded {
 }
 
 impl Validation {
+    /// Forbids to store the response, such as one that may be older than the invalidation of its
+    /// target. A 304 then confirms nothing.
+    pub fn forbid_storing(&mut self)
+        ensures unstored { self.new.is_past_shelf ≡ true }
+        ensures kept { self.new.id ≡ self.old.id }
+    {
+        self.is_past_shelf = true;
+    }
+
     /// Returns the id of the stored response, or `None` once the token is spent.
-    pub fn id(&self) -> Option<ResponseId> {
+    pub fn id(&self) -> Option<ResponseId>
+        ensures { result ≡ self.now.id }
+    {
         self.id
     }
 
@@ -62,9 +84,27 @@ impl Validation {
 
     /// Returns the token for the client's own request, for a validation that got no response.
     pub fn into_forwarded(self) -> Forwarded {
-        let Validation { id, why, .. } = self;
-        Forwarded::of(id, why)
+        let Validation {
+            id,
+            why,
+            is_past_shelf,
+            ..
+        } = self;
+        Forwarded {
+            id,
+            why,
+            is_past_shelf,
+        }
     }
+}
+
+/// The answer to a response whose body is on its way, and which is stored once that is whole.
+#[derive(Drop)]
+pub struct Coming {
+    /// The answer. Its Cache-Status says that the response is stored.
+    pub answer: Response<Body>,
+    /// Whether a stale response may be used instead if the body is cut off (RFC 5861, section 4).
+    pub is_replaceable: bool,
 }
 
 /// What to do with a request.

@@ -1,1 +1,3 @@
 pub mod UnderWay
+pub mod Bodies
+pub mod Invalidations

@@ -3,5 +3,7 @@
 #![tactic(auto)]
 
 mod errands;
+mod invalidations;
 
-pub use errands::{Errand, UnderWay, UnderWays};
+pub use errands::{Coming, Errand, Rest, UnderWay, UnderWays};
+pub use invalidations::Invalidations;

@@ -1,6 +1,6 @@
 //! The replies of the process: one frame for each frame that it reads.
 ghost use Rattle.std.specs.Prelude.{◌≡◌, ◌++◌, option_map, OnOk};
-ghost use Rattle.http_cache_frames.specs.Reply.{word_text, end_text, member_text, optional_text, reason_text, stored_text, done_text};
+ghost use Rattle.http_cache_frames.specs.Reply.{word_text, end_text, member_text, optional_text, reason_text, reason_code, stored_text, done_text};
 ghost use Rattle.http_cache_frames.specs.Reply.{error_text, pair_text, message_text, lengths_text, stale_text};
 ghost use Rattle.http_cache_frames.specs.Reply.{notice_text, reply_text};
 
@@ -44,7 +44,7 @@ pub enum Reason {
     TooLong,
     /// There is no known member, or no id.
     NoSuchFrame,
-    /// `received` or `failed` isn't a token.
+    /// The member of the frame isn't a token.
     NoToken,
     /// The time is missing or invalid.
     NoTime,
@@ -94,6 +94,32 @@ impl Reason {
             Reason::Memory => "out of memory",
         }
     }
+
+    /// Returns the code of a reason, for a caller that doesn't compare texts.
+    #[tactic(auto, unfolding(crate::specs::Reply::reason_code))]
+    pub fn code(self) -> &'static str
+        ensures { result.now ≡ reason_code self }
+    {
+        match self {
+            Reason::LongLine => "long-line",
+            Reason::NoObject => "no-object",
+            Reason::NoLength => "no-length",
+            Reason::Cut => "cut",
+            Reason::TooLong => "too-long",
+            Reason::NoSuchFrame => "no-such-frame",
+            Reason::NoToken => "no-token",
+            Reason::NoTime => "no-time",
+            Reason::UnknownToken => "unknown-token",
+            Reason::MalformedHead => "malformed-head",
+            Reason::FullHead => "full-head",
+            Reason::NotFinal => "not-final",
+            Reason::NoRest => "no-rest",
+            Reason::NoTarget => "no-target",
+            Reason::TooMany => "too-many",
+            Reason::StoreFailed => "store-failed",
+            Reason::Memory => "out-of-memory",
+        }
+    }
 }
 
 /// A frame without a head and a body.
@@ -105,6 +131,27 @@ pub enum Notice {
     Done {
         /// The caller's id of the request.
         id: u64,
+    },
+    /// A request whose response has to be there whole before it is answered.
+    More {
+        /// The caller's id of the request.
+        id: u64,
+        /// The token with which the caller hands over the body.
+        token: u64,
+        /// The length of the longest body that is stored.
+        most: u64,
+    },
+    /// A request that waits for another one.
+    Wait {
+        /// The caller's id of the request.
+        id: u64,
+        /// The token of the other request.
+        token: u64,
+    },
+    /// The receipt for a piece of a body.
+    Part {
+        /// The token of the request.
+        token: u64,
     },
     /// The end of a sweep.
     Swept {
@@ -164,6 +211,41 @@ pub enum Reply {
         /// The body.
         body: Option<Bytes>,
     },
+    /// A response that answers a request, while the caller collects the body to store.
+    Collect {
+        /// The caller's id of the request.
+        id: u64,
+        /// The token with which the caller hands over the body.
+        token: u64,
+        /// The length of the longest body that is stored.
+        most: u64,
+        /// The head.
+        head: Vec<u8>,
+        /// The body. Without one here, it is the received one.
+        body: Option<Bytes>,
+    },
+    /// A response that answers a request, with the first piece of its body.
+    Begun {
+        /// The caller's id of the request.
+        id: u64,
+        /// The token with which the caller asks for the next piece.
+        token: u64,
+        /// The number of bytes after this piece.
+        left: u64,
+        /// The head.
+        head: Vec<u8>,
+        /// The piece.
+        body: Bytes,
+    },
+    /// A further piece of the body of an answer.
+    Piece {
+        /// The token with which the caller asks for the next piece.
+        token: u64,
+        /// The number of bytes after this piece.
+        left: u64,
+        /// The piece.
+        body: Bytes,
+    },
     /// A stale response that answers a request, and the validation to send meanwhile.
     Stale {
         /// The caller's id of the request.
@@ -195,13 +277,17 @@ pub enum Reply {
 enum Word {
     Answer,
     Done,
+    More,
+    Next,
     NoResponse,
+    Part,
     Protocol,
     Quit,
     Removed,
     Send,
     Stats,
     Swept,
+    Wait,
     Body,
     Bytes,
     Errors,
@@ -209,10 +295,12 @@ enum Word {
     Head,
     Hits,
     Id,
+    Left,
     Misses,
     Count,
     Request,
     Responses,
+    Store,
     Token,
     UnderWay,
     Validations,
@@ -226,13 +314,17 @@ impl Word {
         match self {
             Word::Answer => "{\"answer\":",
             Word::Done => "{\"done\":",
-            Word::NoResponse => "{\"error\":\"no response\",\"id\":",
+            Word::More => "{\"more\":",
+            Word::Next => "{\"next\":",
+            Word::NoResponse => { "{\"error\":\"no response\",\"code\":\"no-response\",\"id\":" }
+            Word::Part => "{\"part\":",
             Word::Protocol => "{\"protocol\":",
             Word::Quit => "{\"quit\":",
             Word::Removed => "{\"removed\":",
             Word::Send => "{\"send\":",
             Word::Stats => "{\"stats\":",
             Word::Swept => "{\"swept\":",
+            Word::Wait => "{\"wait\":",
             Word::Body => ",\"body\":",
             Word::Bytes => ",\"bytes\":",
             Word::Errors => ",\"errors\":",
@@ -240,10 +332,12 @@ impl Word {
             Word::Head => ",\"head\":",
             Word::Hits => ",\"hits\":",
             Word::Id => ",\"id\":",
+            Word::Left => ",\"left\":",
             Word::Misses => ",\"misses\":",
             Word::Count => ",\"removed\":",
             Word::Request => ",\"request\":",
             Word::Responses => ",\"responses\":",
+            Word::Store => ",\"store\":",
             Word::Token => ",\"token\":",
             Word::UnderWay => ",\"under_way\":",
             Word::Validations => ",\"validations\":",
@@ -389,6 +483,8 @@ fn push_error(
 {
     out.extend_from_slice(b"{\"error\":\"")?;
     out.extend_from_slice(reason.text().as_bytes())?;
+    out.extend_from_slice(b"\",\"code\":\"")?;
+    out.extend_from_slice(reason.code().as_bytes())?;
     out.extend_from_slice(b"\"")?;
     push_optional(out, Word::Id, id)?;
     push_optional(out, Word::Token, token)?;
@@ -426,6 +522,12 @@ impl Notice {
             Notice::Protocol => push_line(out, Word::Protocol, 1),
             Notice::Done { id } => push_line(out, Word::Done, id),
             Notice::Quit { id } => push_line(out, Word::Quit, id),
+            Notice::Part { token } => push_line(out, Word::Part, token),
+            Notice::Wait { id, token } => push_counted(out, Word::Wait, id, Word::Token, token),
+            Notice::More { id, token, most } => {
+                push_pair(out, Word::More, id, Word::Token, token)?;
+                push_line(out, Word::Store, most)
+            }
             Notice::Swept { id, removed } => {
                 push_counted(out, Word::Swept, id, Word::Count, removed)
             }
@@ -462,6 +564,32 @@ impl Reply {
                 push_member(out, Word::Answer, *id)?;
                 push_message(out, head.as_slice(), body.as_ref())
             }
+            Reply::Collect {
+                id,
+                token,
+                most,
+                head,
+                body,
+            } => {
+                push_pair(out, Word::Answer, *id, Word::Token, *token)?;
+                push_member(out, Word::Store, *most)?;
+                push_message(out, head.as_slice(), body.as_ref())
+            }
+            Reply::Begun {
+                id,
+                token,
+                left,
+                head,
+                body,
+            } => {
+                push_pair(out, Word::Answer, *id, Word::Token, *token)?;
+                push_member(out, Word::Left, *left)?;
+                push_message(out, head.as_slice(), Some(body))
+            }
+            Reply::Piece { token, left, body } => {
+                push_pair(out, Word::Next, *token, Word::Left, *left)?;
+                push_message(out, &[], Some(body))
+            }
             Reply::Stale {
                 id,
                 token,
@@ -469,8 +597,7 @@ impl Reply {
                 body,
                 request,
             } => {
-                push_member(out, Word::Answer, *id)?;
-                push_member(out, Word::Token, *token)?;
+                push_pair(out, Word::Answer, *id, Word::Token, *token)?;
                 push_stale(out, head.as_slice(), body, request.as_slice())
             }
             Reply::Send {
@@ -479,8 +606,7 @@ impl Reply {
                 head,
                 body,
             } => {
-                push_member(out, Word::Send, *id)?;
-                push_member(out, Word::Token, *token)?;
+                push_pair(out, Word::Send, *id, Word::Token, *token)?;
                 push_message(out, head.as_slice(), body.as_ref())
             }
         }

@@ -1,5 +1,6 @@
 -- What HTTP demands of an intermediary.
 pub mod Field
+pub mod Host
 pub mod Via
 pub mod Length
 pub mod Refusal

@@ -6,7 +6,9 @@ use Rattle.http.specs.Request.{head_of}
 use Rattle.http.specs.declared.request.Parts.{Parts}
 use Rattle.http.specs.declared.request.Request.{Request}
 use Rattle.http.specs.declared.version.TheConstants.Version.{HTTP_11}
-use Rattle.http_uri.specs.Uri.{uri_authority}
+use Rattle.http_uri.specs.Grammar.{or_slash}
+use Rattle.http_uri.specs.Uri.{HasParts, uri_authority, uri_data}
+use Rattle.http_uri.specs.declared.uri.Uri.{Uri as Target}
 use Rattle.http_cache_fields.specs.Headers.{Headers, headers_of, values, first}
 use Rattle.http_cache_rules.specs.Forwarding.{forwarded_headers}
 use Rattle.http_cache_intermediary.specs.Length.{length_lines, request_length}
@@ -47,10 +49,14 @@ own_fields =
 abbrev pub is_own_field : List ℕ → Bool
 is_own_field name = list_any (λ own. bytes_eq own name) own_fields
 
+-- the path and query of the target, and `/` if it has none (RFC 9112, section 3.2.1)
+abbrev pub IsOriginForm : Target → Target → Type 0
+IsOriginForm received sent = HasParts sent None None (or_slash (uri_data received))
+
 -- a request as the intermediary forwards it
 pub record IsForwarded (name : List ℕ) (request : Request (List ℕ)) (content : Content) (out : Parts) : Type 0 where
   pub method : out.method ≡ (head_of request).method
-  pub target : out.uri ≡ (head_of request).uri
+  pub target : IsOriginForm (head_of request).uri out.uri
   pub version : out.version ≡ HTTP_11
   pub host : values (headers_of out.headers) (codes "host") ≡ host_of request ∷ []
   pub expect : values (headers_of out.headers) (codes "expect") ≡ []

@@ -8,6 +8,7 @@
 
 mod field;
 pub mod generated;
+mod host;
 pub mod intermediary;
 pub mod length;
 pub mod refusal;

@@ -3,8 +3,10 @@ ghost use Rattle.std.specs.Prelude.{◌≡◌, ◌&&◌, ◌==◌, length, bytes
 ghost use Rattle.http.specs.Request.{head_of};
 ghost use Rattle.http_cache_fields.specs.Headers.{headers_of, values};
 ghost use Rattle.http_cache_intermediary.specs.Refusal.{status_of, detail_of, has_userinfo, has_wrong_host, has_wrong_length};
+ghost use Rattle.http_cache_intermediary.specs.Refusal.{is_target, is_named_wrong};
 ghost use Rattle.http_cache_intermediary.specs.Refusal.{forwards_left, counts_forwards, is_last_hop, refusal_of};
 
+use crate::host::is_host;
 use crate::intermediary::Intermediary;
 use crate::length::{SaidLength, said_length};
 use bytes::Bytes;
@@ -22,7 +24,11 @@ pub enum Refusal {
     Fragment,
     /// The target has a user or a password: 400 (RFC 9110, section 4.2.4).
     Userinfo,
-    /// There are several Host fields, or none in HTTP/1.1: 400 (RFC 9112, section 3.2).
+    /// The target is neither a path nor an absolute URI of http or https, nor `*` of OPTIONS: 400
+    /// (RFC 9112, section 3.2).
+    Target,
+    /// There are several Host fields, or none in HTTP/1.1, or Host or the host of the target isn't
+    /// a host with or without a port: 400 (RFC 9112, section 3.2).
     Host,
     /// Content-Length isn't one number, or is combined with Transfer-Encoding: 400 (RFC 9112,
     /// section 6.3).
@@ -40,9 +46,11 @@ impl Refusal {
     {
         match self {
             Refusal::Connect => StatusCode::NOT_IMPLEMENTED,
-            Refusal::Fragment | Refusal::Userinfo | Refusal::Host | Refusal::Length => {
-                StatusCode::BAD_REQUEST
-            }
+            Refusal::Fragment
+            | Refusal::Userinfo
+            | Refusal::Target
+            | Refusal::Host
+            | Refusal::Length => StatusCode::BAD_REQUEST,
             Refusal::Loop => StatusCode::LOOP_DETECTED,
             Refusal::LastHop => StatusCode::OK,
         }
@@ -56,6 +64,7 @@ impl Refusal {
             Refusal::Connect => "connect",
             Refusal::Fragment => "fragment",
             Refusal::Userinfo => "userinfo",
+            Refusal::Target => "target",
             Refusal::Host => "host",
             Refusal::Length => "length",
             Refusal::Loop => "loop",
@@ -73,6 +82,19 @@ fn has_userinfo(target: &Uri) -> bool
     }
 }
 
+// Returns whether a target is in one of the forms of its method (RFC 9112, section 3.2).
+fn is_target(method: &Method, target: &Uri) -> bool
+    ensures { result ≡ is_target method.now target.now }
+{
+    match target.scheme_str() {
+        Some(scheme) => {
+            scheme.eq_ignore_ascii_case("http") || scheme.eq_ignore_ascii_case("https")
+        }
+        None if target.authority().is_some() => false,
+        None => target.path() != "*" || *method == Method::OPTIONS,
+    }
+}
+
 fn host_count(headers: &HeaderMap) -> usize
     ensures { result ≡ length (values (headers_of headers.now) (codes "host")) }
 {
@@ -84,7 +106,21 @@ fn has_wrong_host(headers: &HeaderMap, version: Version) -> bool
 {
     match host_count(headers) {
         0 => version == Version::HTTP_11,
-        count => count > 1,
+        1 => match first_text(headers, HOST) {
+            Some(host) => !is_host(host),
+            None => true,
+        },
+        _ => true,
+    }
+}
+
+// Returns whether the target has a host that isn't one.
+fn is_named_wrong(target: &Uri) -> bool
+    ensures { result ≡ is_named_wrong target.now }
+{
+    match target.authority() {
+        Some(authority) => !is_host(authority.as_str()),
+        None => false,
     }
 }
 
@@ -135,7 +171,10 @@ impl Intermediary {
         if has_userinfo(request.uri()) {
             return Some(Refusal::Userinfo);
         }
-        if has_wrong_host(headers, request.version()) {
+        if !is_target(request.method(), request.uri()) {
+            return Some(Refusal::Target);
+        }
+        if has_wrong_host(headers, request.version()) || is_named_wrong(request.uri()) {
             return Some(Refusal::Host);
         }
         if has_wrong_length(headers) {

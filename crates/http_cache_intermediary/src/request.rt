@@ -3,7 +3,7 @@ ghost use Rattle.std.specs.Prelude.{◌≡◌, [], codes, unwrap_or, IfOk, OnOk}
 ghost use Rattle.http.specs.Request.{head_of};
 ghost use Rattle.http_cache_fields.specs.Headers.{headers_of, first};
 ghost use Rattle.http_cache_intermediary.specs.Field.{HasLines};
-ghost use Rattle.http_cache_intermediary.specs.Request.{host_of, forwards_lines, IsForwarded};
+ghost use Rattle.http_cache_intermediary.specs.Request.{host_of, forwards_lines, IsOriginForm, IsForwarded};
 
 use crate::field::{clear, set};
 use crate::intermediary::Intermediary;
@@ -15,12 +15,32 @@ use http::{HeaderMap, HeaderValue, Request, Uri, Version, request};
 use http_cache_fields::CacheError;
 use http_cache_rules::forwarding::forwarded_headers;
 use http_header::HeaderValueError;
+use http_uri::{Parts, PathAndQuery};
 use std::alloc::{AllocError, Global};
 
-fn copy_of_target(target: &Uri) -> Result<Uri, AllocError>
-    ensures { IfOk result (λ copy. copy ≡ target.now) }
+fn slash() -> Result<PathAndQuery, CacheError>
+    ensures { IfOk result (λ path. path ≡ codes "/") }
 {
-    target.clone()
+    PathAndQuery::from_static("/").map_err(|_| CacheError::Malformed)
+}
+
+// Returns the target for the origin server: without scheme and host.
+fn origin_form(target: &Uri) -> Result<Uri, CacheError>
+    ensures { IfOk result (IsOriginForm target.now) }
+{
+    let path = match target.path_and_query() {
+        Some(path) if path.as_str() != "/" => path.clone()?,
+        _ => slash()?,
+    };
+    let parts = Parts {
+        scheme: None,
+        authority: None,
+        path_and_query: Some(path),
+    };
+    match Uri::from_parts(parts) {
+        Ok(uri) => Ok(uri),
+        Err(_) => Err(CacheError::Malformed),
+    }
 }
 
 fn received_host(headers: &HeaderMap) -> Result<HeaderValue, AllocError>
@@ -76,6 +96,7 @@ impl Intermediary {
     ///
     /// - Connection-specific fields and those that Connection names are removed, but Host, Via and
     ///   Max-Forwards stay. Expect is removed. The version is HTTP/1.1.
+    /// - The target is the path and query of an absolute URI, and `/` if it has none.
     /// - Host is the target's host, if it has one. Via has the intermediary's member last, on one
     ///   line.
     /// - Content-Length is the body's own, even if the body was received in chunks.
@@ -102,7 +123,7 @@ impl Intermediary {
         self.add_via(alloc, &mut headers, received, request.version())?;
         Ok(request::Parts {
             method: request.method().clone()?,
-            uri: copy_of_target(request.uri())?,
+            uri: origin_form(request.uri())?,
             version: Version::HTTP_11,
             headers,
         })

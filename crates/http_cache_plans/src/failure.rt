@@ -20,6 +20,13 @@ pub fn is_failure(status: StatusCode) -> bool
     matches!(status.as_u16(), 500 | 502 | 503 | 504)
 }
 
+/// Returns whether a stored response may be used after a failure of the origin server (RFC 5861,
+/// section 4).
+pub fn is_usable_on_error(one: &StoredResponse, incoming: &Incoming<'_>, now: Timestamp) -> bool {
+    let asking = incoming.asking(one.policy.stored_method());
+    one.policy.stale_use(&asking, now).if_error
+}
+
 /// Returns the answer that a stored response yields after a failure of the origin server, if
 /// `stale_use` allows it (RFC 5861, section 4).
 pub fn stale_reply(
@@ -35,8 +42,7 @@ pub fn stale_reply(
     let Some(one) = of_id(stored, id) else {
         return Ok(None);
     };
-    let asking = incoming.asking(one.policy.stored_method());
-    if !one.policy.stale_use(&asking, now).if_error {
+    if !is_usable_on_error(one, incoming, now) {
         return Ok(None);
     }
     Reply::of(alloc, one, incoming, now)

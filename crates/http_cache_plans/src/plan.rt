@@ -77,6 +77,8 @@ pub struct Plan {
     pub change: Change,
     /// The remaining lifetime of the stored response.
     pub left: Option<TimeLeft>,
+    /// The remaining lifetime of a response that is stored once its body is whole.
+    pub left_if_whole: Option<TimeLeft>,
     /// The reason why it isn't stored, unless its own fields say so.
     pub detail: Option<&'static str>,
     /// Whether Cache-Status says `stored` if the shelf takes the response.
@@ -118,6 +120,7 @@ impl Plan {
         Plan {
             change,
             left: None,
+            left_if_whole: None,
             detail: None,
             says_stored: false,
             is_known: false,
@@ -132,6 +135,7 @@ impl Plan {
         Plan {
             change: Change::Nothing,
             left: None,
+            left_if_whole: None,
             detail,
             says_stored: false,
             is_known: false,
@@ -196,16 +200,21 @@ fn plan_for(
 {
     let now = arrived.times.received;
     let is_known = policy.is_not_modified_for(arrived.incoming.request());
-    let left = left_of(&policy, now);
+    let left_if_whole = if is_worth_storing(&policy, now) {
+        Some(left_of(&policy, now))
+    } else {
+        None
+    };
     match body {
-        Some(body) if is_worth_storing(&policy, now) => Plan {
+        Some(body) if left_if_whole.is_some() => Plan {
             change: Change::Put {
                 target,
                 superseded,
                 policy,
                 body,
             },
-            left: Some(left),
+            left: left_if_whole,
+            left_if_whole,
             detail: None,
             says_stored: true,
             is_known,
@@ -219,6 +228,7 @@ fn plan_for(
                     ids: superseded,
                 },
                 left: None,
+                left_if_whole,
                 detail: None,
                 says_stored: false,
                 is_known,

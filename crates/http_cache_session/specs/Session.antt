@@ -1,8 +1,10 @@
 -- What the reply to a frame says of what is stored and under way.
-use Rattle.std.specs.Prelude.{◌≡◌, ◌≢◌, ◌+◌, ℕ, Option, Some, None, true, is_some}
+use Rattle.std.specs.Prelude.{◌≡◌, ◌≢◌, ◌+◌, ℕ, Bool, true, false, Option, Some, None, is_some}
 use Rattle.http_cache_frames.specs.declared.reply.Reply.{Reply}
 use Rattle.http_cache_wire.specs.Wire.{given_token, reply_id}
-use Rattle.http_cache_errands.specs.UnderWay.{Changes, KeepsIds}
+use Rattle.std.specs.Option.{option_map_or}
+use Rattle.http_cache_client.specs.declared.tokens.Validation.{Validation}
+use Rattle.http_cache_errands.specs.UnderWay.{ByToken, Changes, KeepsIds, are_validating}
 use Rattle.http_cache_errands.specs.declared.errands.UnderWays.{UnderWays}
 
 -- a reply assigns the next token or none, and each token is assigned once
@@ -29,3 +31,7 @@ AddsGiven None id before after = KeepsUnderWay before after
 AddsGiven (Some token) id before after =
     (token ≡ before.next_token) × (after.next_token ≡ before.next_token + 1)
     × Changes before.by_token token (Some id) after.by_token
+
+-- a request under way validates the same stored response
+abbrev pub is_validated : Validation → ByToken → Bool
+is_validated check requests = option_map_or (λ id. are_validating id.0 requests) check.id false

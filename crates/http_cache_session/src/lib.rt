@@ -6,6 +6,9 @@
 //! writes no output.
 #![tactic(auto)]
 
+mod ask;
+mod bodies;
+mod outcome;
 mod session;
 
 pub use session::{Session, Settings, Stored};

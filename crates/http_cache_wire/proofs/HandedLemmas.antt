@@ -7,7 +7,7 @@ use Rattle.serde_json.specs.Find.{get, as_number, as_u64}
 use Rattle.http_cache_frames.specs.Line.{exact, number_under}
 use Rattle.http_cache_wire.specs.Wire.{HandsOver, HandsOverNothing, IsOperationOf}
 use Rattle.http_cache_wire.specs.declared.operation.Operation.{Operation}
-use Rattle.http_cache_wire.specs.declared.operation.Operation.TheVariants.{Ask, Received, Failed, Remove, Sweep, Stats, Quit}
+use Rattle.http_cache_wire.specs.declared.operation.Operation.TheVariants.{Ask, Received, Failed, Complete, Part, Next, Remove, Sweep, Stats, Quit}
 
 -- an absent member is no number
 absent : (name : List ℕ) (line : Data) (token : ℕ) → get name line ≡ None → number_under name line ≡ Some token → ⊥
@@ -20,17 +20,32 @@ not_there o none some = false≢true (subst (λ there. is_some there ≡ true) n
 
 -- a frame can't both report an outcome and report none
 nothing : (line : Data) (token : ℕ) → HandsOverNothing line → HandsOver line token → ⊥
-nothing line token (ask, received, failed) (none, inl got) = absent (codes "received") line token received got
-nothing line token (ask, received, failed) (none, inr (other, got)) = absent (codes "failed") line token failed got
+nothing line token (ask, received, failed, complete) (none, inl got) = absent (codes "received") line token received got
+nothing line token (ask, received, failed, complete) (none, inr (inl (other, got))) = absent (codes "failed") line token failed got
+nothing line token (ask, received, failed, complete) (none, inr (inr (other, third, got))) =
+    absent (codes "complete") line token complete got
 
 pub handed : (line : Data) (operation : Operation) (token : ℕ) → IsOperationOf line (Some operation) → HandsOver line token
-    → (operation ≡ Received (Some token)) ⊎ (operation ≡ Failed (Some token))
+    → (operation ≡ Received (Some token)) ⊎ (operation ≡ Failed (Some token)) ⊎ (operation ≡ Complete (Some token))
 handed line (Ask id) token is (none, got) = absurd (none-some id (sym none ∙ is))
 handed line (Received given) token (ask, there, is) (none, inl got) = inl (ap (λ t. Received t) (sym is ∙ got))
-handed line (Received given) token (ask, there, is) (none, inr (other, got)) =
+handed line (Received given) token (ask, there, is) (none, inr (inl (other, got))) =
     absurd (not_there (get (codes "received") line) other there)
-handed line (Failed given) token (ask, other, is) (none, inl got) = absurd (absent (codes "received") line token other got)
-handed line (Failed given) token (ask, other, is) (none, inr (same, got)) = inr (ap (λ t. Failed t) (sym is ∙ got))
+handed line (Received given) token (ask, there, is) (none, inr (inr (other, third, got))) =
+    absurd (not_there (get (codes "received") line) other there)
+handed line (Failed given) token (ask, other, there, is) (none, inl got) = absurd (absent (codes "received") line token other got)
+handed line (Failed given) token (ask, other, there, is) (none, inr (inl (same, got))) =
+    inr (inl (ap (λ t. Failed t) (sym is ∙ got)))
+handed line (Failed given) token (ask, other, there, is) (none, inr (inr (same, third, got))) =
+    absurd (not_there (get (codes "failed") line) third there)
+handed line (Complete given) token (ask, other, third, is) (none, inl got) =
+    absurd (absent (codes "received") line token other got)
+handed line (Complete given) token (ask, other, third, is) (none, inr (inl (same, got))) =
+    absurd (absent (codes "failed") line token third got)
+handed line (Complete given) token (ask, other, third, is) (none, inr (inr (same, also, got))) =
+    inr (inr (ap (λ t. Complete t) (sym is ∙ got)))
+handed line (Part given) token is over = absurd (nothing line token is over)
+handed line (Next given) token is over = absurd (nothing line token is over)
 handed line (Remove id) token is over = absurd (nothing line token is over)
 handed line (Sweep id) token is over = absurd (nothing line token is over)
 handed line (Stats id) token is over = absurd (nothing line token is over)

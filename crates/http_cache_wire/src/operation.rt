@@ -16,6 +16,12 @@ pub enum Operation {
     Received(Option<u64>),
     /// The failure of a request under way, with the token if the frame has one.
     Failed(Option<u64>),
+    /// The last piece of the body of a response, with the token if the frame has one.
+    Complete(Option<u64>),
+    /// A piece of the body of a response, with the token if the frame has one.
+    Part(Option<u64>),
+    /// The next piece of an answer, with the token if the frame has one.
+    Next(Option<u64>),
     Remove(u64),
     Sweep(u64),
     Stats(u64),
@@ -35,6 +41,15 @@ impl Operation {
         }
         if has_member(line, "failed") {
             return Some(Operation::Failed(number_under(line, "failed")));
+        }
+        if has_member(line, "complete") {
+            return Some(Operation::Complete(number_under(line, "complete")));
+        }
+        if has_member(line, "part") {
+            return Some(Operation::Part(number_under(line, "part")));
+        }
+        if has_member(line, "next") {
+            return Some(Operation::Next(number_under(line, "next")));
         }
         if let Some(id) = number_under(line, "remove") {
             return Some(Operation::Remove(id));
@@ -63,8 +78,7 @@ pub fn id_of(line: &Value) -> Option<u64>
 
 /// Returns the token of a frame, if it has one.
 pub fn token_of(line: &Value) -> Option<u64> {
-    match number_under(line, "received") {
-        Some(token) => Some(token),
-        None => number_under(line, "failed"),
-    }
+    ["received", "failed", "part", "complete", "next"]
+        .iter()
+        .find_map(|name| number_under(line, name))
 }

@@ -1,11 +1,12 @@
 //! Writes messages for replies.
-ghost use Rattle.std.specs.Prelude.{◌≡◌, Some, None};
-ghost use Rattle.http_cache_wire.specs.Wire.{IsReplyFor, given_token};
+ghost use Rattle.std.specs.Prelude.{◌≡◌, Some, None, true};
+ghost use Rattle.http_cache_wire.specs.Wire.{IsReplyFor, asks_for_body, given_token};
 
 use bytes::Bytes;
 use http::{Method, Request, Response, StatusCode, request, response};
 use http_cache_fields::CacheError;
 use http_cache_frames::{Notice, Reply};
+use http_cache_intermediary::length::has_content;
 use http_cache_intermediary::{Content, Intermediary};
 use http_cache_plans::Body;
 use http_heads::{bytes_of_request, bytes_of_response};
@@ -27,6 +28,21 @@ impl Written {
     {
         let Written { head, body } = self;
         Reply::Answer { id, head, body }
+    }
+
+    /// Returns the reply that answers a request, while the caller collects the body.
+    pub fn collect(self, id: u64, token: u64, most: u64) -> Reply
+        ensures none { given_token result ≡ None }
+        ensures reply { asks_for_body result ≡ true }
+    {
+        let Written { head, body } = self;
+        Reply::Collect {
+            id,
+            token,
+            most,
+            head,
+            body,
+        }
     }
 
     /// Returns the reply that answers with a stale response, and asks for its validation.
@@ -70,7 +86,8 @@ fn content_of(body: Body) -> (Option<Bytes>, Content) {
     }
 }
 
-/// Writes a response to a request with the method, as the intermediary sends it if there is one.
+/// Writes a response to a request with the method, as the intermediary sends it if there is one. The
+/// intermediary sends no body where a response has none, such as a 205.
 pub fn written_response(
     alloc: Global,
     intermediary: Option<&Intermediary>,
@@ -79,13 +96,17 @@ pub fn written_response(
 ) -> Result<Written, CacheError> {
     let (head, body) = response.into_parts();
     let (body, content) = content_of(body);
-    let head = match intermediary {
-        Some(intermediary) => {
-            let sent = intermediary.sent(alloc, method, &head, content)?;
-            bytes_of_response(alloc, &sent)?
-        }
-        None => bytes_of_response(alloc, &head)?,
+    let Some(intermediary) = intermediary else {
+        let head = bytes_of_response(alloc, &head)?;
+        return Ok(Written { head, body });
     };
+    let sent = intermediary.sent(alloc, method, &head, content)?;
+    let body = if has_content(method, head.status) {
+        body
+    } else {
+        Some(Bytes::new())
+    };
+    let head = bytes_of_response(alloc, &sent)?;
     Ok(Written { head, body })
 }
 
