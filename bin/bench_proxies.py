@@ -1,4 +1,4 @@
-"""Prints what a hit costs in the proxy of the Python package, in Squid and in nginx, in one run.
+"""Prints what a hit costs in the proxy of the Python package, on both event loops, in Squid and in nginx, in one run.
 
     bench_proxies.py PROGRAM    (PROGRAM: a cacheserve; bin/bench --proxies calls it)
 
@@ -22,7 +22,7 @@ from pathlib import Path
 
 sys.path.append(str(Path(__file__).resolve().parent.parent / "tests/sockets"))
 sys.dont_write_bytecode = True
-from started import free_port, proxy, wait_for
+from started import free_port, proxy, python_with, wait_for
 
 PAGES = 200
 ROUNDS = 3
@@ -122,6 +122,8 @@ def main():
             f'local i = 0\nrequest = function() i = (i + 1) % {PAGES}; return wrk.format("GET", "/page/" .. i) end\n'
         )
         subjects = {"the Python proxy": stack.enter_context(proxy(sys.argv[1], origin_port))}
+        if python_with("uvloop"):
+            subjects["the Python proxy, uvloop"] = stack.enter_context(proxy(sys.argv[1], origin_port, "--uvloop"))
         for name, command, configuration in (("Squid", ["squid", "-N", "-f"], SQUID), ("nginx", ["nginx", "-c"], NGINX)):
             if shutil.which(command[0]):
                 room = stack.enter_context(tempfile.TemporaryDirectory())

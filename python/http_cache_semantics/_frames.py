@@ -4,15 +4,27 @@ from __future__ import annotations
 import json
 import time
 from dataclasses import dataclass
-from typing import Any, Dict, NamedTuple, NoReturn, Optional, Tuple, Union
+from typing import Any, Callable, Dict, Generic, NamedTuple, NoReturn, Optional, Tuple, TypeVar, Union
 
 PROTOCOL = 1
 # The exit status of a process whose file can't be opened.
 _FILE_NOT_OPENED = 6
+# These are made once, since `json.dumps` and `json.loads` with options look for them at each call.
+_encoded, _decoded = json.JSONEncoder(separators=(",", ":")).encode, json.JSONDecoder().decode
+_NO_RESPONSE = "no-response"
+# The codes after which a cancelled call has nothing to end, or can't end it. An older process writes none.
+_NOTHING_LEFT = (_NO_RESPONSE, "unknown-token", "out-of-memory", "")
 
 
 class CacheError(Exception):
-    """Raised if the process refuses a frame. Nothing that is stored or under way has changed."""
+    """Raised if the process refuses a frame. Nothing that is stored or under way has changed.
+
+    `code` is the code of docs/PROTOCOL.md that names what is wrong, or "" if the process wrote none.
+    """
+
+    def __init__(self, why: str, code: str = "") -> None:
+        super().__init__(why)
+        self.code = code
 
 
 class NoResponse(CacheError):
@@ -46,13 +58,39 @@ class Send:
 class Answer:
     """The response to a request. `due` is a request to send meanwhile; the reply to its response is a `Done`.
 
-    With `rest` its body is the body of the received response, which the caller has kept.
+    With `rest` its body is the body of the received response, which the caller has kept. With `store` the caller collects a
+    copy of that body, of at most so many bytes, and hands it over by `part` and `complete`. With `left` so many bytes of the
+    answer's own body follow, by `next`. `token` is 0 if there is neither.
     """
 
     head: bytes
     body: bytes
     rest: bool
     due: Optional[Send] = None
+    store: Optional[int] = None
+    left: int = 0
+    token: int = 0
+    life: int = 0
+
+
+@dataclass(frozen=True)
+class More:
+    """Nothing is answered yet: the caller collects the body, of at most `store` bytes.
+
+    The reply to `complete` is an `Answer`, or a `Done` if nobody waits for one.
+    """
+
+    token: int
+    store: int
+    life: int
+
+
+@dataclass(frozen=True)
+class Wait:
+    """Another request is under way, and its response may be stored. The caller asks again, without `wait`, once it is over."""
+
+    token: int
+    life: int
 
 
 @dataclass(frozen=True)
@@ -60,7 +98,17 @@ class Done:
     """The reply to the response to a request that was sent after an answer: nothing is left to do."""
 
 
-Outcome = Union[Answer, Send, Done]
+@dataclass(frozen=True)
+class Piece:
+    """The next bytes of a stored body, and how many follow them."""
+
+    body: bytes
+    left: int
+
+
+Outcome = Union[Answer, Send, More, Wait, Done]
+# What names a request under way.
+UnderWay = Union[Send, Answer, More]
 # The length of a body that stays with the caller, True if it isn't known yet, or None if the body is in the frame.
 Rest = Union[int, bool, None]
 
@@ -82,7 +130,12 @@ def now_ms() -> int:
 def bytes_of(line: Dict[str, Any], head: bytes, body: bytes) -> bytes:
     if head or body:
         line = {**line, "head": len(head), "body": len(body)}
-    return b"%s\n%s%s" % (json.dumps(line, separators=(",", ":")).encode(), head, body)
+    return b"%s\n%s%s" % (_encoded(line).encode(), head, body)
+
+
+def line_of(text: bytes) -> Dict[str, Any]:
+    line: Dict[str, Any] = _decoded(text.decode())
+    return line
 
 
 def lengths_of(line: Dict[str, Any]) -> Tuple[int, int, int]:
@@ -93,44 +146,125 @@ def time_or_now(at: Optional[int]) -> int:
     return now_ms() if at is None else at
 
 
-def ask_line(at: Optional[int], rest: Rest) -> Dict[str, Any]:
-    line = {"ask": 0, "at": time_or_now(at)}
-    return line if rest is None else {**line, "rest": rest}
+def ask_line(at: Optional[int], rest: Rest, pieces: Optional[int], wait: bool) -> Dict[str, Any]:
+    line: Dict[str, Any] = {"ask": 0, "at": time_or_now(at)}
+    if rest is not None:
+        line["rest"] = rest
+    if pieces is not None:
+        line["pieces"] = pieces
+    if wait:
+        line["wait"] = True
+    return line
 
 
-def received_line(send: Send, sent: Optional[int], at: Optional[int], rest: Rest) -> Dict[str, Any]:
+def received_line(
+    send: Send, sent: Optional[int], at: Optional[int], rest: Rest, collect: bool, pieces: Optional[int]
+) -> Dict[str, Any]:
     line = {"received": send.token, "at": time_or_now(at)}
-    if sent is not None:
-        line["sent"] = sent
-    return line if rest is None else {**line, "rest": rest}
+    return _with(line, sent=sent, rest=rest, collect=collect or None, pieces=pieces)
 
 
-def failed_line(token: int, why: str, at: Optional[int]) -> Dict[str, Any]:
-    return {"failed": token, "at": time_or_now(at), "why": why}
+def failed_line(token: int, why: str, at: Optional[int], pieces: Optional[int] = None) -> Dict[str, Any]:
+    return _with({"failed": token, "at": time_or_now(at), "why": why}, pieces=pieces)
+
+
+def complete_line(of: UnderWay, pieces: Optional[int]) -> Dict[str, Any]:
+    return _with({"complete": of.token}, pieces=pieces)
+
+
+def _with(line: Dict[str, Any], **members: Any) -> Dict[str, Any]:
+    line.update((name, value) for name, value in members.items() if value is not None)
+    return line
 
 
 def outcome_of(life: int, frame: Frame) -> Outcome:
     """Returns the outcome of a request from a reply. Raises `CacheError` if the process refuses the frame."""
     line = frame.line
     if "answer" in line:
-        due = Send(line["token"], frame.request, b"", False, life) if frame.request else None
-        return Answer(frame.head, frame.body, "rest" in line, due)
+        if frame.request:
+            due = Send(line["token"], frame.request, b"", False, life)
+            return Answer(frame.head, frame.body, "rest" in line, due)
+        token = line.get("token", 0)
+        return Answer(frame.head, frame.body, "rest" in line, None, line.get("store"), line.get("left", 0), token, life)
     if "send" in line:
         return Send(line["token"], frame.head, frame.body, "rest" in line, life)
+    if "more" in line:
+        return More(line["token"], line["store"], life)
+    if "wait" in line:
+        return Wait(line["token"], life)
     if "done" in line:
         return Done()
     return _refused(line)
 
 
+def check_part(frame: Frame) -> None:
+    """Raises `CacheError` if the process refuses a part."""
+    if "part" not in frame.line:
+        _refused(frame.line)
+
+
+def piece_of(frame: Frame) -> Piece:
+    """Returns the next piece of a body from a reply. Raises `CacheError` if the process refuses the frame."""
+    if "next" not in frame.line:
+        _refused(frame.line)
+    return Piece(frame.body, frame.line["left"])
+
+
 def _refused(line: Dict[str, Any]) -> NoReturn:
-    why = line.get("error", f"cacheserve wrote a reply of an unknown kind: {line}")
-    raise NoResponse(why) if why == "no response" else CacheError(why)
+    why, code = line.get("error", f"cacheserve wrote a reply of an unknown kind: {line}"), line.get("code", "")
+    raise NoResponse(why, code) if code == _NO_RESPONSE else CacheError(why, code)
 
 
 def count_of(frame: Frame, name: str) -> int:
     if name not in frame.line:
         _refused(frame.line)
     return int(frame.line[name])
+
+
+def token_left(reply: Dict[str, Any]) -> int:
+    """Returns the token of a request that a reply leaves under way, if the call that it is for has been cancelled, or 0."""
+    if "wait" in reply or "error" in reply and reply.get("code", "") in _NOTHING_LEFT:
+        return 0
+    named = reply.get("part") or ("left" in reply and reply["left"] > 0 and reply.get("next")) or reply.get("token")
+    return named or 0
+
+
+Signal = TypeVar("Signal")
+
+
+class Waits(Generic[Signal]):
+    """The requests under way that a `Wait` has named, with what signals their ends."""
+
+    def __init__(self, made: Callable[[], Signal], give: Callable[[Signal], object]) -> None:
+        """`made` makes a signal, and `give` gives it."""
+        self._made, self._give = made, give
+        self._by_token: Dict[int, Signal] = {}
+
+    def see(self, token: int, reply: Dict[str, Any]) -> None:
+        """Takes note of the reply to a frame, which has a token unless `token` is 0."""
+        if "wait" in reply:
+            if reply["token"] not in self._by_token:
+                self._by_token[reply["token"]] = self._made()
+        elif token in self._by_token and "store" not in reply and "part" not in reply:
+            if "error" in reply and reply.get("code") != _NO_RESPONSE:
+                return
+            signal = self._by_token[token]
+            if "send" in reply:
+                # The request goes on under another token, and some call may still look for this one.
+                self._by_token[reply["token"]] = signal
+                return
+            self._by_token = {known: other for known, other in self._by_token.items() if other is not signal}
+            self._give(signal)
+
+    def signal(self, wait: Wait) -> Optional[Signal]:
+        """Returns what signals the end of a request, or None if it is over."""
+        return self._by_token.get(wait.token)
+
+    def end(self) -> None:
+        """Gives all signals, since the process has ended."""
+        for signal in self._by_token.values():
+            self._give(signal)
+        self._by_token.clear()
 
 
 def check_protocol(line: Dict[str, Any]) -> None:

@@ -3,18 +3,15 @@
     session = requests.Session()
     session.mount("https://", CacheAdapter("cache.db"))
 
-The process `cacheserve --private` decides what is stored and what may be used again, and the adapter sends its requests. If the
-process can't be used, requests are sent without it, and the logger `http_cache_semantics` warns.
+The process `cacheserve --private` decides what is stored and what may be used again, and the adapter sends its requests. What a
+session returns is what it returns with the adapter of `requests`, but for what caching changes. If the process can't be used,
+requests are sent without it, and the logger `http_cache_semantics` warns.
 """
 from __future__ import annotations
 
-import contextlib
 import io
-import logging
-import threading
-from dataclasses import dataclass, replace
-from http.client import responses as REASONS
-from typing import Any, Dict, Iterable, List, Optional, Tuple, Union
+from dataclasses import replace
+from typing import Any, Dict, Iterator, Optional, Tuple, Type
 from urllib.parse import urlsplit
 
 from requests import PreparedRequest, Response
@@ -25,22 +22,18 @@ from urllib3 import HTTPResponse
 from urllib3._collections import HTTPHeaderDict
 from urllib3.exceptions import HTTPError
 
-from .process import Answer, Cache, CacheError, Outcome, ProcessOptions, Rest, Send, now_ms
-
-# A longer body isn't passed to the process, but streamed to the caller.
-_LONGEST_STORED = 8_388_608
-_PIECE = 65_536
-_SAFE = ("GET", "HEAD", "OPTIONS", "TRACE")
-# These fields frame a message on its connection.
-_LENGTHS = ("content-length", "transfer-encoding")
-_log = logging.getLogger("http_cache_semantics")
+from ._exchange import PIECE, Asked, BlockingAccess, Body, Exchange, Received, Reply, Steps, run, run_beside, text_of
+from .process import Cache, ProcessOptions, Send, now_ms
 
 
 class CacheAdapter(HTTPAdapter):
     """An adapter of `requests` with a private cache, which sessions and threads may share.
 
-    Each response has `from_cache`: whether it is a stored response, validated or not.
+    Each response has `from_cache`: whether it is a stored response, validated or not. A copy of the adapter has a process of
+    its own, and so has the adapter after a fork. Of several that name one file, only the first uses it.
     """
+
+    __attrs__ = [*HTTPAdapter.__attrs__, "_process"]
 
     def __init__(
         self,
@@ -48,14 +41,20 @@ class CacheAdapter(HTTPAdapter):
         process: ProcessOptions = ProcessOptions(private=True, name="requests"),
         **options: Any,
     ) -> None:
-        """Starts the process. With a file, stored responses outlive it.
-
-        `options` are the options of `HTTPAdapter`. Raises `ProgramNotFound`, or `StoreNotOpened` if the file can't be opened,
-        such as while another process uses it.
-        """
+        """Starts the process. With a file, stored responses outlive it. `options` are the options of `HTTPAdapter`."""
         super().__init__(**options)
-        self.cache = Cache(replace(process, file=file or process.file))
-        self._longest_stored = process.stored_body or _LONGEST_STORED
+        self._process = replace(process, file=file or process.file)
+        self._access = BlockingAccess(self._process)
+        self._access.start()
+
+    def __setstate__(self, state: Dict[str, Any]) -> None:
+        super().__setstate__(state)  # type: ignore[misc]
+        self._access = BlockingAccess(self._process)
+
+    @property
+    def cache(self) -> Cache:
+        """The client of the process. Raises `CacheError` if the process can't be used, such as `StoreNotOpened`."""
+        return self._access.client()
 
     def send(
         self,
@@ -68,24 +67,17 @@ class CacheAdapter(HTTPAdapter):
     ) -> Response:
         """Returns a stored response or the origin server's. Raises what `HTTPAdapter` raises."""
         how = {"timeout": timeout, "verify": verify, "cert": cert, "proxies": proxies}
-        try:
-            found: Union[Outcome, _Received] = self.cache.ask(_head_of(request), rest=True if request.body else None)
-            received: Optional[_Received] = None
-            while isinstance(found, Send):
-                found, received = self._sent(found, request, how)
-        except CacheError as error:
-            _log.warning("%s %s is sent without the cache: %s", request.method, request.url, error)
-            found = received = self._fetched(request, how)
-        if isinstance(found, Answer) and found.due:
-            threading.Thread(target=self._validate, args=(found.due, request, how), daemon=True).start()
-        if isinstance(found, _Received):
-            return self._uncached(request, found)
-        assert isinstance(found, Answer)
-        return self._response(request, found, received)
+        origin = _Origin(super().send, request, how)
+        reply = run(Exchange(self._access, origin.asked, origin).reply())
+        response: Response = self.build_response(request, _raw(reply, origin))  # type: ignore[no-untyped-call]
+        response.from_cache = reply.from_cache  # type: ignore[attr-defined]
+        return response
 
     def remove(self, url: str) -> int:
         """Removes what is stored for a URL. Returns how many responses it removes."""
-        return self.cache.remove(url)
+        request = PreparedRequest()
+        request.prepare_url(url, None)
+        return self.cache.remove(_target(request))
 
     def clear(self) -> None:
         """Removes all stored responses, and the file."""
@@ -94,163 +86,165 @@ class CacheAdapter(HTTPAdapter):
     def close(self) -> None:
         """Ends the process and the connections. A later request starts them again."""
         super().close()  # type: ignore[no-untyped-call]
-        self.cache.close()
+        self._access.close()
 
-    def _sent(
-        self, send: Send, request: PreparedRequest, how: Dict[str, Any]
-    ) -> Tuple[Union[Outcome, _Received], Optional[_Received]]:
-        """Sends a request, and returns what the process decides after it, and the response.
 
-        If the process can't be used for the response, the response itself is returned in place of the decision.
-        """
-        try:
-            received = self._fetched(_as_sent(request, send), how)
-        except RequestException as error:
-            try:
-                return self.cache.failed(send, "invalid" if isinstance(error, ChunkedEncodingError) else "none"), None
-            except CacheError:
-                raise error from None
-        except BaseException:
-            with contextlib.suppress(CacheError):
-                self.cache.failed(send)
-            raise
-        body = received.start if received.rest is None else b""
-        try:
-            found = self.cache.received(send, received.head(), body, received.sent, received.at, received.rest)
-        except CacheError:
-            with contextlib.suppress(CacheError):
-                self.cache.failed(send, "invalid")
-            if received.reply.status == 304:
-                # The 304 may be for a stored response, which only the process has.
-                raise
-            return received, received
-        return found, received
+class _Origin:
+    """Sends one request, and what the process wants sent for it, by the adapter of `requests`."""
 
-    def _fetched(self, request: PreparedRequest, how: Dict[str, Any]) -> _Received:
-        """Sends a request, and reads the response, but of a long body only the start."""
+    failures: Tuple[Type[Exception], ...] = (RequestException, HTTPError)
+
+    def __init__(self, send: Any, request: PreparedRequest, how: Dict[str, Any]) -> None:
+        self._send, self._request, self._how = send, request, how
+        fields = [(text_of(name), text_of(value)) for name, value in request.headers.items()]
+        self.asked = Asked(request.method or "", _target(request), fields, bool(request.body))
+        self.chunks: Optional[Iterator[bytes]] = None
+
+    def fetch(self, send: Optional[Send]) -> Received:
+        request = self._as_decided(send) if send else self._request
         sent = now_ms()
-        reply = super().send(request, stream=True, **how).raw
-        received = _Received(reply, b"", None, sent, now_ms())
-        start = bytearray()
-        try:
-            while len(start) <= self._longest_stored:
-                piece = reply.read(_PIECE, decode_content=False)
-                start += piece
-                if not piece:
-                    return replace(received, start=bytes(start))
-        except HTTPError as error:
-            raise ChunkedEncodingError(error, request=request) from error
-        length = reply.headers.get("content-length", "")
-        return replace(received, start=bytes(start), rest=int(length) if length.isdigit() else True)
+        reply = self._send(request, stream=True, **self._how).raw
+        fields = list(reply.headers.iteritems())
+        return Received(reply, request.method or "", reply.status, reply.reason or "", fields, sent, now_ms())
 
-    def _validate(self, due: Send, request: PreparedRequest, how: Dict[str, Any]) -> None:
-        found: Any = due
-        with contextlib.suppress(CacheError, RequestException):
-            while isinstance(found, Send):
-                found, received = self._sent(found, request, how)
-                if received:
-                    received.reply.close()
+    def _as_decided(self, send: Send) -> PreparedRequest:
+        request = self._request.copy()
+        request.method = send.head.split(b" ", 1)[0].decode("latin-1")
+        request.body = self._request.body if send.rest else send.body or None
+        joined = HTTPHeaderDict(self.asked.fields_to_send(send))
+        request.headers = CaseInsensitiveDict((name, joined[name]) for name in joined.keys())
+        return request
 
-    def _uncached(self, request: PreparedRequest, received: _Received) -> Response:
-        """Returns a response that the process hasn't seen. After an unsafe request, removes what is stored for the target."""
-        if request.method not in _SAFE:
-            try:
-                self.cache.remove(request.url or "")
-            except CacheError as error:
-                _log.warning("what is stored for %s may be out of date: %s", request.url, error)
-        has_rest = received.rest is not None
-        return self._response(request, Answer(received.head(), b"" if has_rest else received.start, has_rest), received)
+    def read(self, received: Received, most: int) -> bytes:
+        if self.chunks is not None:
+            return next(self.chunks, b"")
+        piece: bytes = received.reply.read(most, decode_content=False)
+        return piece
 
-    def _response(self, request: PreparedRequest, answer: Answer, received: Optional[_Received]) -> Response:
-        status = int(answer.head[9:12])
-        fields = HTTPHeaderDict(_fields_of(answer.head))
-        if received and not answer.rest:
-            received.reply.close()
-        reply = HTTPResponse(
-            body=_Joined(received) if received and answer.rest else io.BytesIO(answer.body),
-            headers=fields,
-            status=status,
-            version=11,
-            reason=REASONS.get(status, ""),
-            preload_content=False,
-            request_method=request.method,
-            # `requests` reads cookies from this, so only cookies that the origin server has just sent are set.
-            original_response=received.reply._original_response if received else None,
-        )
-        response: Response = self.build_response(request, reply)  # type: ignore[no-untyped-call]
-        is_own = received is not None and received.reply.status == status
-        is_generated = received is None and status == 504 and "; hit" not in fields.get("cache-status", "")
-        response.from_cache = not is_own and not is_generated  # type: ignore[attr-defined]
-        return response
+    def close(self, received: Received) -> None:
+        if received.length == 0:
+            received.reply.read(decode_content=False)
+        received.reply.close()
+        received.reply.release_conn()
+
+    def is_invalid(self, error: Exception) -> bool:
+        return isinstance(error, (ChunkedEncodingError, HTTPError))
+
+    def later(self, steps: Steps[None]) -> None:
+        run_beside(steps)
 
 
-@dataclass(frozen=True)
-class _Received:
-    """A response of the origin server, and its body as far as it was read. With `rest` there is more of it."""
-
-    reply: Any
-    start: bytes
-    rest: Rest
-    sent: int
-    at: int
-
-    def head(self) -> bytes:
-        """Returns the head without Transfer-Encoding, since the body isn't in chunks any more."""
-        fields = [field for field in self.reply.headers.iteritems() if field[0].lower() not in _LENGTHS]
-        fields += [("Content-Length", value) for value in set(self.reply.headers.getlist("content-length"))]
-        return _head(f"HTTP/1.1 {self.reply.status} ", fields)
+def _target(request: PreparedRequest) -> str:
+    """Returns the URL of a request, with the host that its field Host names, without user information and fragment."""
+    url = request.url or ""
+    parts = urlsplit(url)
+    named = request.headers.get("host") if request.headers else None
+    host = text_of(named or parts.netloc.rpartition("@")[2])
+    return f"{parts.scheme}://{host}/{url.split('#')[0].partition('://')[2].partition('/')[2]}"
 
 
-class _Joined(io.RawIOBase):
-    """The whole body of a response: the start that was read, and the rest that is still to be read."""
+def _raw(reply: Reply, origin: _Origin) -> HTTPResponse:
+    """Returns the response as the adapter of `requests` has it from urllib3."""
+    received, fields = reply.received, HTTPHeaderDict(reply.fields)
+    if received and reply.body is None and not (reply.copy or reply.start or reply.is_read):
+        raw: HTTPResponse = received.reply
+        raw.headers = fields
+        return raw
+    arguments = {
+        "headers": fields,
+        "status": reply.status,
+        "version": received.reply.version if received and reply.is_own else 11,
+        "reason": reply.reason,
+        "preload_content": False,
+        "decode_content": False,
+        "request_method": origin.asked.method,
+        # `requests` reads cookies from this, so only cookies that the origin server has just sent are set.
+        "original_response": received.reply._original_response if received else None,
+    }
+    if received and reply.body is None:
+        return _Streamed(_Source(Body(reply, origin, received), origin), **arguments)
+    return HTTPResponse(_Whole(reply.body or b""), **arguments)
 
-    def __init__(self, received: _Received) -> None:
-        self._start, self._reply = received.start, received.reply
 
-    def readable(self) -> bool:
-        return True
+class _Whole(io.BytesIO):
+    """A whole body as a file that is closed at its end, as urllib3 expects it of a connection."""
 
-    def readinto(self, buffer: Any) -> int:
-        length = len(buffer)
-        piece, self._start = self._start[:length], self._start[length:]
-        piece = piece or self._reply.read(length, decode_content=False)
-        buffer[: len(piece)] = piece
-        return len(piece)
+    def read(self, size: Optional[int] = -1) -> bytes:
+        if self.closed:
+            return b""
+        piece = super().read(size)
+        if self.tell() == self.getbuffer().nbytes:
+            self.close()
+        return piece
+
+
+class _Source:
+    """The body of a received response as a file, which urllib3 reads."""
+
+    def __init__(self, body: Body, origin: _Origin) -> None:
+        self._body, self._origin = body, origin
+        self.closed = False
+
+    def read(self, size: Optional[int] = None) -> bytes:
+        if size == 0 or self.closed:
+            return b""
+        if size is None or size < 0:
+            return b"".join(iter(lambda: self.read(PIECE), b""))
+        piece = run(self._body.piece(size))
+        if not piece:
+            self.close()
+        return piece
+
+    @property
+    def has_chunks(self) -> bool:
+        """Returns whether the chunks can be read one by one."""
+        return bool(self._body.received.reply.chunked) and not self._body.start.getvalue() and not self._body.reply.is_read
+
+    def chunks(self, size: Optional[int]) -> Iterator[bytes]:
+        if self._origin.chunks is None:
+            self._origin.chunks = self._body.received.reply.read_chunked(size, decode_content=False)
+        while not self.closed:
+            # Without a copy there is nothing to do but to read.
+            piece = run(self._body.piece()) if self._body.reply.copy else next(self._origin.chunks, b"")
+            if not piece:
+                return
+            yield piece
+
+    def read1(self, size: int = -1) -> bytes:
+        return self.read(size if size >= 0 else PIECE)
 
     def close(self) -> None:
+        # The garbage collector may call this, so nothing here waits for a lock.
         if not self.closed:
-            self._reply.close()
-            super().close()
+            self.closed = True
+            self._body.abandon()
+            self._body.received.reply.close()
+
+    def release(self) -> None:
+        self._body.received.reply.release_conn()
 
 
-def _text(value: Union[str, bytes]) -> str:
-    return value.decode("latin-1") if isinstance(value, bytes) else value
+class _Streamed(HTTPResponse):
+    """A response of urllib3 whose body is copied for the cache as it is read. Its chunks are yielded as they arrive."""
 
+    def __init__(self, source: Any, **arguments: Any) -> None:
+        self._source: _Source = source
+        super().__init__(source, **arguments)
 
-def _head(first: str, fields: Iterable[Tuple[Union[str, bytes], Union[str, bytes]]]) -> bytes:
-    lines = [first, *(f"{_text(name)}: {_text(value)}" for name, value in fields), "\r\n"]
-    return "\r\n".join(lines).encode("latin-1")
+    def release_conn(self) -> None:
+        self._source.release()
 
+    def supports_chunked_reads(self) -> bool:
+        return self._source.has_chunks
 
-def _fields_of(head: bytes) -> List[Tuple[str, str]]:
-    lines = head.decode("latin-1").split("\r\n")[1:-2]
-    return [(name, value.strip(" \t")) for name, _, value in (line.partition(":") for line in lines)]
-
-
-def _head_of(request: PreparedRequest) -> bytes:
-    """Returns the head of a request, with its whole URL as the target."""
-    url = urlsplit(request.url or "")
-    host = _text(request.headers.get("host") or url.netloc.rpartition("@")[2])
-    path = (request.url or "").split("#")[0].partition("://")[2].partition("/")[2]
-    others = [field for field in request.headers.items() if field[0].lower() != "host"]
-    return _head(f"{request.method} {url.scheme}://{host}/{path} HTTP/1.1", [("Host", host), *others])
-
-
-def _as_sent(request: PreparedRequest, send: Send) -> PreparedRequest:
-    """Returns the request as the process wants it sent."""
-    copy = request.copy()
-    copy.method = send.head.split(b" ", 1)[0].decode("latin-1")
-    copy.body = request.body if send.rest else send.body or None
-    joined = HTTPHeaderDict(_fields_of(send.head))
-    copy.headers = CaseInsensitiveDict((name, joined[name]) for name in joined.keys())
-    return copy
+    def read_chunked(self, amt: Optional[int] = None, decode_content: Optional[bool] = None) -> Iterator[bytes]:
+        coded: Any = super()
+        coded._init_decoder()
+        for piece in self._source.chunks(amt):
+            decoded = coded._decode(piece, decode_content, False)
+            if decoded:
+                yield decoded
+        decoded = coded._flush_decoder() if decode_content else b""
+        if decoded:
+            yield decoded
+        self._source.close()

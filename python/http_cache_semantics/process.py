@@ -7,6 +7,10 @@ and finds where messages end:
     while isinstance(found, Send):
         found = cache.received(found, ..)         # or failed, if there is no response
 
+A caller that streams passes `rest` and `collect`, and hands over a copy of the body by `part` and `complete` if the answer has
+`store`. It passes `pieces` to take a long stored body in pieces, by `next`. What it has begun and doesn't end by `complete` it
+ends by `failed`.
+
 The process replies to each frame with one frame, in order. `Cache` writes a frame and reads its reply under a lock, and
 `AsyncCache` reads whenever it can, so full pipes never make both sides wait. If the process has ended, the next request starts
 another, with the responses of its file. A `Send` of the old process is then refused.
@@ -15,12 +19,12 @@ from __future__ import annotations
 
 import asyncio
 import contextlib
-import json
 import os
 import subprocess
 import threading
+import weakref
 from collections import deque
-from typing import IO, Any, Deque, Dict, Optional, Tuple
+from typing import IO, Any, Deque, Dict, List, Optional, Tuple
 
 from ._frames import (
     Answer,
@@ -28,22 +32,32 @@ from ._frames import (
     CacheGone,
     Done,
     Frame,
+    More,
     NoResponse,
     Outcome,
+    Piece,
     Rest,
     Send,
     StoreNotOpened,
+    UnderWay,
+    Wait,
+    Waits,
     ask_line,
     bytes_of,
+    check_part,
     check_protocol,
+    complete_line,
     count_of,
     failed_line,
     gone,
     lengths_of,
+    line_of,
     now_ms,
     outcome_of,
+    piece_of,
     received_line,
     time_or_now,
+    token_left,
 )
 from ._program import ProcessOptions, ProgramNotFound
 
@@ -55,13 +69,17 @@ __all__ = [
     "CacheGone",
     "Done",
     "Frame",
+    "More",
     "NoResponse",
     "Outcome",
+    "Piece",
     "ProcessOptions",
     "ProgramNotFound",
     "Rest",
     "Send",
     "StoreNotOpened",
+    "UnderWay",
+    "Wait",
     "now_ms",
 ]
 
@@ -78,6 +96,7 @@ class Cache:
         self._lock = threading.Lock()
         self._life = 0
         self._child: Optional[subprocess.Popen[bytes]] = None
+        self._waits: Waits[threading.Event] = Waits(threading.Event, threading.Event.set)
         with self._lock:
             self._start()
 
@@ -97,6 +116,8 @@ class Cache:
             raise ProgramNotFound(f"{words[0]}: {error.strerror}") from error
         self._life += 1
         self._owner = os.getpid()
+        self._finalizer = weakref.finalize(self, _stop, self._child, self._owner)
+        _caches.add(self)
         try:
             check_protocol(self._read(self._child).line)
         except BaseException:
@@ -106,18 +127,17 @@ class Cache:
 
     def _end(self) -> None:
         child, self._child = self._child, None
+        self._waits.end()
         if child:
-            child.kill()
-            child.wait()
-            for pipe in (child.stdin, child.stdout, child.stderr):
-                _close(pipe)
+            self._finalizer.detach()
+            _kill(child)
 
     def _read(self, child: subprocess.Popen[bytes]) -> Frame:
         assert child.stdout
         text = child.stdout.readline()
         if not text.endswith(b"\n"):
             raise self._has_ended(child)
-        line = json.loads(text)
+        line = line_of(text)
         parts = [child.stdout.read(length) if length else b"" for length in lengths_of(line)]
         if [len(part) for part in parts] != list(lengths_of(line)):
             raise self._has_ended(child)
@@ -128,22 +148,26 @@ class Cache:
         stderr = child.stderr.read()
         return gone(child.wait(), stderr)
 
-    def exchange(self, line: Dict[str, Any], head: bytes = b"", body: bytes = b"", life: int = 0) -> Tuple[int, Frame]:
+    def exchange(
+        self, line: Dict[str, Any], head: bytes = b"", body: bytes = b"", of: Optional[UnderWay] = None
+    ) -> Tuple[int, Frame]:
         """Writes a frame, and returns the number of the process and its reply.
 
-        With `life`, the frame is only for the process with that number.
+        With `of`, the frame is only for the process that this request is under way in.
         """
         with self._lock:
             if self._child and self._owner != os.getpid():
                 raise CacheGone("cacheserve was started by another process; make a Cache in each process")
-            if life and (life != self._life or not self._child):
+            if of and (of.life != self._life or not self._child):
                 raise CacheGone("the cacheserve that this request belongs to has ended; ask again")
             child = self._child or self._start()
             assert child.stdin
             try:
                 child.stdin.write(bytes_of(line, head, body))
                 child.stdin.flush()
-                return self._life, self._read(child)
+                frame = self._read(child)
+                self._waits.see(of.token if of else 0, frame.line)
+                return self._life, frame
             except OSError as error:
                 gone = self._has_ended(child)
                 self._end()
@@ -153,9 +177,20 @@ class Cache:
                 self._end()
                 raise
 
-    def ask(self, head: bytes, body: bytes = b"", at: Optional[int] = None, rest: Rest = None) -> Outcome:
-        """Returns an `Answer` or a `Send` for a request that was received at the time `at`."""
-        return outcome_of(*self.exchange(ask_line(at, rest), head, body))
+    def ask(
+        self,
+        head: bytes,
+        body: bytes = b"",
+        at: Optional[int] = None,
+        rest: Rest = None,
+        pieces: Optional[int] = None,
+        wait: bool = False,
+    ) -> Outcome:
+        """Returns an `Answer` or a `Send` for a request that was received at the time `at`, or with `wait` perhaps a `Wait`.
+
+        With `pieces`, an answer's body has at most so many bytes, and the others follow by `next`.
+        """
+        return outcome_of(*self.exchange(ask_line(at, rest, pieces, wait), head, body))
 
     def received(
         self,
@@ -165,19 +200,45 @@ class Cache:
         sent: Optional[int] = None,
         at: Optional[int] = None,
         rest: Rest = None,
+        collect: bool = False,
+        pieces: Optional[int] = None,
     ) -> Outcome:
         """Passes the response to a `Send` to the process, and returns the next outcome.
 
-        `sent` is the time at which the request was sent, and `at` the time at which the head of the response was received.
+        `sent` is the time at which the request was sent, and `at` the time at which the head of the response was received. With
+        `rest` and `collect`, the outcome may be an `Answer` with `store`, or a `More`: a copy of the body is to be collected.
         """
-        return outcome_of(*self.exchange(received_line(send, sent, at, rest), head, body, send.life))
+        line = received_line(send, sent, at, rest, collect, pieces)
+        return outcome_of(*self.exchange(line, head, body, send))
 
-    def failed(self, send: Send, why: str = "", at: Optional[int] = None) -> Outcome:
-        """Reports that a `Send` has no response. `why` is "invalid" if the received bytes aren't a response.
+    def part(self, of: UnderWay, body: bytes) -> None:
+        """Hands over the next bytes of the copy of a body."""
+        check_part(self.exchange({"part": of.token}, b"", body, of)[1])
 
-        Returns an `Answer` if a stored response may be used instead, and raises `NoResponse` if none may.
+    def complete(self, of: UnderWay, body: bytes = b"", pieces: Optional[int] = None) -> Outcome:
+        """Hands over the last bytes of the copy of a body, which is whole by the framing of its message.
+
+        Returns a `Done`, or after a `More` the `Answer`.
         """
-        return outcome_of(*self.exchange(failed_line(send.token, why, at), life=send.life))
+        return outcome_of(*self.exchange(complete_line(of, pieces), b"", body, of))
+
+    def next(self, of: UnderWay) -> Piece:
+        """Returns the next bytes of the body of an answer that has some left."""
+        return piece_of(self.exchange({"next": of.token}, of=of)[1])
+
+    def failed(self, of: UnderWay, why: str = "", at: Optional[int] = None, pieces: Optional[int] = None) -> Outcome:
+        """Reports that a `Send` has no response, or ends what else is under way: nothing of a body that was begun is stored.
+
+        `why` is "invalid" if the received bytes aren't a response. Returns an `Answer` if a stored response may be used, and
+        raises `NoResponse` if none may. For an answer that was given already it returns a `Done`.
+        """
+        return outcome_of(*self.exchange(failed_line(of.token, why, at, pieces), of=of))
+
+    def over(self, wait: Wait, seconds: Optional[float] = None) -> bool:
+        """Waits until the request that a `Wait` names is over, or for so many seconds. Returns whether it is over."""
+        with self._lock:
+            signal = self._waits.signal(wait) if wait.life == self._life else None
+        return signal is None or signal.wait(seconds)
 
     def remove(self, target: str) -> int:
         """Removes what is stored for an absolute URL. Returns how many responses it removes."""
@@ -195,9 +256,7 @@ class Cache:
         """Removes all stored responses, and the file. Requests under way are lost."""
         with self._lock:
             self._stop()
-            for suffix in ("", "-journal", "-wal", "-shm") if self.options.file else ():
-                with contextlib.suppress(FileNotFoundError):
-                    os.unlink(f"{self.options.file}{suffix}")
+            _remove_file(self.options)
 
     def close(self) -> None:
         """Ends the process, once its file is closed. The next request starts another."""
@@ -207,9 +266,7 @@ class Cache:
     def _stop(self) -> None:
         child = self._child
         if child and self._owner == os.getpid():
-            _close(child.stdin)
-            with contextlib.suppress(subprocess.TimeoutExpired):
-                child.wait(10)
+            _stop(child, self._owner)
             self._end()
 
     def __enter__(self) -> Cache:
@@ -217,6 +274,52 @@ class Cache:
 
     def __exit__(self, *_: object) -> None:
         self.close()
+
+
+_caches: weakref.WeakSet[Cache] = weakref.WeakSet()
+# What a forked process has of its parent's. It isn't freed, since a thread of the parent may have held the lock of a buffer.
+_inherited: List[subprocess.Popen[bytes]] = []
+
+
+def _stop(child: subprocess.Popen[bytes], owner: int) -> None:
+    """Ends a process, once its file is closed. A forked process doesn't end that of its parent."""
+    if owner == os.getpid():
+        _close(child.stdin)
+        with contextlib.suppress(subprocess.TimeoutExpired):
+            child.wait(10)
+        _kill(child)
+
+
+def _kill(child: subprocess.Popen[bytes]) -> None:
+    child.kill()
+    child.wait()
+    for pipe in (child.stdin, child.stdout, child.stderr):
+        _close(pipe)
+
+
+def _let_go() -> None:
+    """Lets go of the parent's pipes after a fork. While a process has them, the parent can't end its cacheserve by them."""
+    null = os.open(os.devnull, os.O_RDWR)
+    for cache in list(_caches):
+        cache._lock = threading.Lock()
+        child = cache._child
+        for pipe in (child.stdin, child.stdout, child.stderr) if child else ():
+            if pipe and not pipe.closed:
+                os.dup2(null, pipe.fileno(), inheritable=False)
+        if child:
+            # Only the parent can wait for it.
+            child.returncode = 0
+            _inherited.append(child)
+    os.close(null)
+
+
+os.register_at_fork(after_in_child=_let_go)
+
+
+def _remove_file(options: ProcessOptions) -> None:
+    for suffix in ("", "-journal", "-wal", "-shm") if options.file else ():
+        with contextlib.suppress(FileNotFoundError):
+            os.unlink(f"{options.file}{suffix}")
 
 
 def _close(pipe: Optional[IO[bytes]]) -> None:
@@ -229,10 +332,12 @@ class _Pipes(asyncio.SubprocessProtocol):
     """Reads frames from the pipes of one process, and passes each to the call that has waited longest."""
 
     def __init__(self) -> None:
-        loop = asyncio.get_running_loop()
-        self.waiting: Deque[asyncio.Future[Frame]] = deque()
-        self.closed: asyncio.Future[None] = loop.create_future()
-        self.first = self._next()
+        self._loop = asyncio.get_running_loop()
+        # The calls that wait for their replies, with the tokens of their frames.
+        self._calls: Deque[Tuple[asyncio.Future[Frame], int]] = deque()
+        self.waits: Waits[asyncio.Future[None]] = Waits(self._loop.create_future, _give)
+        self.closed: asyncio.Future[None] = self._loop.create_future()
+        self.first = self._next(0)
         self.is_gone = False
         self.may_write = asyncio.Event()
         self.may_write.set()
@@ -240,21 +345,20 @@ class _Pipes(asyncio.SubprocessProtocol):
         self._line: Optional[Dict[str, Any]] = None
         self._stderr = b""
 
-    def connection_made(self, transport: asyncio.BaseTransport) -> None:
-        assert isinstance(transport, asyncio.SubprocessTransport)
-        self.transport = transport
+    def connection_made(self, transport: Any) -> None:
+        # Other loops than asyncio's have transports of classes of their own.
+        self.transport: asyncio.SubprocessTransport = transport
+        self._pipe: asyncio.WriteTransport = transport.get_pipe_transport(0)
 
-    def _next(self) -> asyncio.Future[Frame]:
-        future: asyncio.Future[Frame] = asyncio.get_running_loop().create_future()
-        self.waiting.append(future)
+    def _next(self, token: int) -> asyncio.Future[Frame]:
+        future: asyncio.Future[Frame] = self._loop.create_future()
+        self._calls.append((future, token))
         return future
 
-    def write(self, line: Dict[str, Any], head: bytes = b"", body: bytes = b"") -> asyncio.Future[Frame]:
+    def write(self, line: Dict[str, Any], head: bytes, body: bytes, token: int) -> asyncio.Future[Frame]:
         """Writes a frame; its reply becomes the result of the future."""
-        pipe = self.transport.get_pipe_transport(0)
-        assert isinstance(pipe, asyncio.WriteTransport)
-        pipe.write(bytes_of(line, head, body))
-        return self._next()
+        self._pipe.write(bytes_of(line, head, body))
+        return self._next(token)
 
     def pipe_data_received(self, fd: int, data: bytes) -> None:
         if fd == 2:
@@ -267,24 +371,27 @@ class _Pipes(asyncio.SubprocessProtocol):
                 end = self._data.find(b"\n", start)
                 if end < 0:
                     break
-                self._line = json.loads(self._data[start:end])
+                self._line = line_of(self._data[start:end])
                 start = end + 1
             head, body, request = lengths_of(self._line)
-            ends = start + head, start + head + body, start + head + body + request
-            if len(self._data) < ends[2]:
+            if len(self._data) < start + head + body + request:
                 break
-            parts = [bytes(self._data[a:b]) for a, b in zip((start, *ends), ends)]
-            found, self._line, start = Frame(self._line, *parts), None, ends[2]
+            parts = bytes(self._data[start : start + head + body + request])
+            found = Frame(self._line, parts[:head], parts[head : head + body], parts[head + body :])
+            self._line, start = None, start + len(parts)
             self._hand_on(found)
         del self._data[:start]
 
     def _hand_on(self, found: Frame) -> None:
-        future = self.waiting.popleft()
+        future, token = self._calls.popleft()
+        self.waits.see(token, found.line)
         if not future.done():
             future.set_result(found)
-        elif "token" in found.line and "error" not in found.line and not self.is_gone:
+        elif not self.is_gone:
             # The call was cancelled, so nobody else reports the outcome that the process waits for.
-            self.write(failed_line(found.line["token"], "", None)).cancel()
+            left = token_left(found.line)
+            if left:
+                self.write(failed_line(left, "", None), b"", b"", left).cancel()
 
     def pause_writing(self) -> None:
         self.may_write.clear()
@@ -300,11 +407,26 @@ class _Pipes(asyncio.SubprocessProtocol):
     def connection_lost(self, exc: Optional[Exception]) -> None:
         self.is_gone = True
         self.may_write.set()
-        for future in self.waiting:
+        for future, _ in self._calls:
             if not future.done():
                 future.set_exception(gone(self.transport.get_returncode(), self._stderr))
-        self.waiting.clear()
+        self._calls.clear()
+        self.waits.end()
+        self.transport.close()
         self.closed.set_result(None)
+
+
+def _end_input(loop: asyncio.AbstractEventLoop, transport: asyncio.SubprocessTransport) -> None:
+    """Has a process end whose `AsyncCache` is gone."""
+    pipe = transport.get_pipe_transport(0)
+    # A loop that is closed has closed the pipe.
+    if pipe and not loop.is_closed():
+        loop.call_soon_threadsafe(pipe.close)
+
+
+def _give(signal: asyncio.Future[None]) -> None:
+    if not signal.done():
+        signal.set_result(None)
 
 
 class AsyncCache:
@@ -343,28 +465,38 @@ class AsyncCache:
             check_protocol((await pipes.first).line)
             self._life += 1
             self._pipes = pipes
+            weakref.finalize(self, _end_input, loop, pipes.transport).atexit = False
 
     async def exchange(
-        self, line: Dict[str, Any], head: bytes = b"", body: bytes = b"", life: int = 0
+        self, line: Dict[str, Any], head: bytes = b"", body: bytes = b"", of: Optional[UnderWay] = None
     ) -> Tuple[int, Frame]:
-        """Writes a frame, and returns the life of the process and its reply. With `life`, only to that process."""
+        """Writes a frame, and returns the life of the process and its reply. With `of`, only to the process of that request."""
         while True:
-            if life and life != self._life:
-                raise CacheGone("the cacheserve that this request belongs to has ended; ask again")
             pipes = self._pipes
-            if pipes and not pipes.is_gone:
-                if pipes.may_write.is_set():
-                    life = self._life
-                    return life, await pipes.write(line, head, body)
-                await pipes.may_write.wait()
-            elif life:
+            if of and (of.life != self._life or not pipes or pipes.is_gone):
                 raise CacheGone("the cacheserve that this request belongs to has ended; ask again")
-            else:
+            if not pipes or pipes.is_gone:
                 await self.start()
+            elif pipes.may_write.is_set():
+                life = self._life
+                return life, await pipes.write(line, head, body, of.token if of else 0)
+            else:
+                await pipes.may_write.wait()
 
-    async def ask(self, head: bytes, body: bytes = b"", at: Optional[int] = None, rest: Rest = None) -> Outcome:
-        """Returns an `Answer` or a `Send` for a request that was received at the time `at`."""
-        return outcome_of(*await self.exchange(ask_line(at, rest), head, body))
+    async def ask(
+        self,
+        head: bytes,
+        body: bytes = b"",
+        at: Optional[int] = None,
+        rest: Rest = None,
+        pieces: Optional[int] = None,
+        wait: bool = False,
+    ) -> Outcome:
+        """Returns an `Answer` or a `Send` for a request that was received at the time `at`, or with `wait` perhaps a `Wait`.
+
+        With `pieces`, an answer's body has at most so many bytes, and the others follow by `next`.
+        """
+        return outcome_of(*await self.exchange(ask_line(at, rest, pieces, wait), head, body))
 
     async def received(
         self,
@@ -374,19 +506,46 @@ class AsyncCache:
         sent: Optional[int] = None,
         at: Optional[int] = None,
         rest: Rest = None,
+        collect: bool = False,
+        pieces: Optional[int] = None,
     ) -> Outcome:
         """Passes the response to a `Send` to the process, and returns the next outcome.
 
-        `sent` is the time at which the request was sent, and `at` the time at which the head of the response was received.
+        `sent` is the time at which the request was sent, and `at` the time at which the head of the response was received. With
+        `rest` and `collect`, the outcome may be an `Answer` with `store`, or a `More`: a copy of the body is to be collected.
         """
-        return outcome_of(*await self.exchange(received_line(send, sent, at, rest), head, body, send.life))
+        line = received_line(send, sent, at, rest, collect, pieces)
+        return outcome_of(*await self.exchange(line, head, body, send))
 
-    async def failed(self, send: Send, why: str = "", at: Optional[int] = None) -> Outcome:
-        """Reports that a `Send` has no response. `why` is "invalid" if the received bytes aren't a response.
+    async def part(self, of: UnderWay, body: bytes) -> None:
+        """Hands over the next bytes of the copy of a body."""
+        check_part((await self.exchange({"part": of.token}, b"", body, of))[1])
 
-        Returns an `Answer` if a stored response may be used instead, and raises `NoResponse` if none may.
+    async def complete(self, of: UnderWay, body: bytes = b"", pieces: Optional[int] = None) -> Outcome:
+        """Hands over the last bytes of the copy of a body, which is whole by the framing of its message.
+
+        Returns a `Done`, or after a `More` the `Answer`.
         """
-        return outcome_of(*await self.exchange(failed_line(send.token, why, at), life=send.life))
+        return outcome_of(*await self.exchange(complete_line(of, pieces), b"", body, of))
+
+    async def next(self, of: UnderWay) -> Piece:
+        """Returns the next bytes of the body of an answer that has some left."""
+        return piece_of((await self.exchange({"next": of.token}, of=of))[1])
+
+    async def failed(self, of: UnderWay, why: str = "", at: Optional[int] = None, pieces: Optional[int] = None) -> Outcome:
+        """Reports that a `Send` has no response, or ends what else is under way: nothing of a body that was begun is stored.
+
+        `why` is "invalid" if the received bytes aren't a response. Returns an `Answer` if a stored response may be used, and
+        raises `NoResponse` if none may. For an answer that was given already it returns a `Done`.
+        """
+        return outcome_of(*await self.exchange(failed_line(of.token, why, at, pieces), of=of))
+
+    async def over(self, wait: Wait) -> None:
+        """Waits until the request that a `Wait` names is over."""
+        pipes = self._pipes
+        signal = pipes.waits.signal(wait) if pipes and wait.life == self._life else None
+        if signal:
+            await asyncio.shield(signal)
 
     async def remove(self, target: str) -> int:
         """Removes what is stored for an absolute URL. Returns how many responses it removes."""
@@ -399,6 +558,11 @@ class AsyncCache:
     async def stats(self) -> Dict[str, Any]:
         """Returns what is stored now, and what was done since the process started (docs/PROTOCOL.md)."""
         return (await self.exchange({"stats": 0}))[1].line
+
+    async def clear(self) -> None:
+        """Ends the process, and removes its file, and so all stored responses. Requests under way are lost."""
+        await self.close()
+        _remove_file(self.options)
 
     async def close(self) -> None:
         """Ends the process, once its file is closed. Does nothing if it has ended."""

@@ -1,26 +1,32 @@
-"""Reads HTTP/1.1 messages from a connection: finds where a head and a body end (RFC 9112, section 6).
+"""Reads the requests of one connection from its bytes (RFC 9112): finds where a head and a body end.
 
-A message whose end is ambiguous is refused, so that no other reader of the same bytes can find another end. The module does
-nothing about caching.
+It knows neither sockets nor time nor caching: bytes go in by `feed`, and events come out of `next`. A request whose end is
+ambiguous is refused, so that no other reader of the same bytes can find another end.
 """
-
 from __future__ import annotations
 
-import asyncio
-import contextlib
 import re
-from asyncio import StreamReader, StreamWriter
-from dataclasses import dataclass
-from typing import AsyncIterator, Dict, Iterator, List, Optional
+from typing import Callable, Dict, List, NamedTuple, Optional, Tuple, Union
 
-# The length of a body that ends with the connection.
-UNTIL_CLOSE = -1
-_FIELD = re.compile(rb"(?im)^(content-length|transfer-encoding|connection|expect|host)[ \t]*:[ \t]*([^\r\n]*)")
-_PIECE = 65_536
-# The limits of what is read after a refused request. A connection that is closed with bytes unread is reset, so the client
-# might not read the refusal.
-_READ_ON_BYTES = 1_048_576
-_READ_ON_SECONDS = 2.0
+_TOKEN = rb"[!#$%&'*+\-.^_`|~0-9A-Za-z]+"
+_VALUE = rb"[\t -~\x80-\xff]*"
+_FIELDS = rb"(?:" + _TOKEN + rb":" + _VALUE + rb"\r\n)*"
+_HEAD = re.compile(rb"(" + _TOKEN + rb") ([!-~]+) HTTP/1\.([01])\r\n" + _FIELDS + rb"\r\n")
+_FIELD = re.compile(rb"(?m)^(" + _TOKEN + rb"):[ \t]*(" + _VALUE + rb")\r$")
+# The fields that decide where a request and its connection end.
+_FRAMING = re.compile(
+    rb"(?im)^(content-length|transfer-encoding|connection|expect|host|sec-websocket-key):[ \t]*([^\r\n]*)"
+)
+_TRAILER = re.compile(_FIELDS + rb"\r\n")
+_CHUNK = re.compile(rb"([0-9A-Fa-f]{1,15})(?:;" + _VALUE + rb")?[ \t]*\r\n")
+_LENGTH = re.compile(rb"[0-9]{1,18}")
+_BARE_LF = re.compile(rb"(?<!\r)\n")
+_MAY_BEGIN = frozenset(b"!#$%&'*+-.^_`|~0123456789ABCDEFGHIJKLMNOPQRSTUVWXYZabcdefghijklmnopqrstuvwxyz")
+# The longest line with the size of a chunk, and the longest piece of a body that is returned at once.
+_CHUNK_LINE = 4096
+PIECE = 65_536
+
+Fields = List[Tuple[bytes, bytes]]
 
 
 class BadMessage(Exception):
@@ -31,144 +37,226 @@ class BadMessage(Exception):
         self.status = status
 
 
-@dataclass(frozen=True)
-class WireLimits:
-    """The longest head and body in bytes, and how many seconds a piece of a body may take."""
+class Request:
+    """The head of a request as it was received, and what it says of the ends of the request and of the connection."""
 
-    head: int = 65_536
-    body: int = 67_108_864
-    transfer: float = 30.0
+    __slots__ = ("head", "method", "target", "is_1_1", "length", "is_last", "expects_100", "host", "opens_websocket")
+
+    def __init__(self, head: bytes, method: bytes, target: bytes, is_1_1: bool) -> None:
+        self.head, self.method, self.target, self.is_1_1 = head, method, target, is_1_1
+        fields: Dict[bytes, List[bytes]] = {}
+        for name, value in _FRAMING.findall(head):
+            fields.setdefault(name.lower(), []).append(value.rstrip(b" \t"))
+        hosts = fields.get(b"host", [])
+        if len(hosts) > 1 or (is_1_1 and not hosts):
+            raise BadMessage(400, "not one Host")
+        self.host = hosts[0] if hosts else b""
+        self.is_last = not is_1_1 or b"close" in _members(fields.get(b"connection"))
+        self.expects_100 = is_1_1 and b"100-continue" in _members(fields.get(b"expect"))
+        self.opens_websocket = b"sec-websocket-key" in fields
+        # The length of the body, or None if it is in chunks.
+        self.length = _length(fields, is_1_1)
+
+    @property
+    def first_line(self) -> bytes:
+        return self.head[: self.head.index(b"\r")]
+
+    @property
+    def has_body(self) -> bool:
+        return self.length != 0
 
 
-class Head:
-    """The bytes of a head, and the fields that decide where the message and the connection end."""
+def _members(values: Optional[List[bytes]]) -> List[bytes]:
+    return [piece.strip(b" \t").lower() for value in values for piece in value.split(b",")] if values else []
 
-    def __init__(self, raw: bytes) -> None:
-        self.raw = raw
-        self.first_line = raw.split(b"\n", 1)[0].rstrip(b"\r")
-        self.fields: Dict[bytes, List[bytes]] = {}
-        for name, value in _FIELD.findall(raw):
-            self.fields.setdefault(name.lower(), []).append(value.strip(b" \t"))
-        status = re.match(rb"HTTP/1\.[01] ([1-9][0-9][0-9])(?![^ ])", self.first_line)
-        self.status = int(status[1]) if status else 0
-        self.is_1_1 = b"HTTP/1.1" == (self.first_line[:8] if status else self.first_line[-8:])
-        self.is_last = not self.is_1_1 or self.has(b"connection", b"close")
 
-    def has(self, name: bytes, word: bytes) -> bool:
-        """Returns whether the list value of a field has a member."""
-        return any(word == piece.strip(b" \t").lower() for value in self.fields.get(name, ()) for piece in value.split(b","))
+def _length(fields: Dict[bytes, List[bytes]], is_1_1: bool) -> Optional[int]:
+    """Returns the length of a body, or None for chunks. Raises `BadMessage` if it is ambiguous (RFC 9112, section 6.3)."""
+    codings, lengths = fields.get(b"transfer-encoding"), fields.get(b"content-length")
+    if codings:
+        if lengths or not is_1_1:
+            raise BadMessage(400, "transfer-encoding beside content-length, or in HTTP/1.0")
+        if b",".join(codings).lower() != b"chunked":
+            raise BadMessage(501, "a transfer coding other than chunked")
+        return None
+    if not lengths:
+        return 0
+    first, *further = set(_members(lengths))
+    if further or not _LENGTH.fullmatch(first):
+        raise BadMessage(400, "content-length isn't one length")
+    return int(first)
 
-    def length(self, unsaid: int = 0) -> Optional[int]:
-        """Returns the length of the body, None for chunks, and `unsaid` if no field states it.
 
-        Raises `BadMessage` if the length is ambiguous (RFC 9112, section 6.3).
-        """
-        codings, lengths = self.fields.get(b"transfer-encoding"), self.fields.get(b"content-length")
-        if codings:
-            if lengths or not self.is_1_1:
-                raise BadMessage(400, "transfer-encoding beside content-length, or in HTTP/1.0")
-            if b",".join(codings).lower() != b"chunked":
-                raise BadMessage(501, "a transfer coding other than chunked")
+class End(NamedTuple):
+    """The end of a request, and the fields of its trailer."""
+
+    trailer: Fields
+
+
+class Closed(NamedTuple):
+    """The end of the connection, where no request has begun."""
+
+
+# `bytes` is a piece of a body. None means that more bytes have to be fed.
+Event = Union[Request, bytes, End, Closed, None]
+
+
+def fields_of(lines: bytes) -> Fields:
+    """Returns the names and values of the field lines in a head or a trailer that was read."""
+    return [(name, value.rstrip(b" \t")) for name, value in _FIELD.findall(lines)]
+
+
+class RequestReader:
+    """Reads requests from bytes. After the end of a request it reads on only once `restart` is called."""
+
+    def __init__(self, longest_head: int = 65_536) -> None:
+        self.longest_head = longest_head
+        self._data = bytearray()
+        self._has_ended = False
+        self._searched = 0
+        self._left = 0
+        self._read: Callable[[], Event] = self._head
+        # Whether the whole request was read.
+        self.is_over = False
+
+    @property
+    def unread(self) -> int:
+        """Returns how many bytes were fed and not read yet."""
+        return len(self._data)
+
+    def feed(self, data: bytes) -> None:
+        """Takes the next bytes of the connection, or none at its end."""
+        self._has_ended = self._has_ended or not data
+        self._data += data
+
+    def next(self) -> Event:
+        """Returns the next event. Raises `BadMessage` if the bytes are no request, and then again and again."""
+        return self._read()
+
+    def restart(self) -> None:
+        """Lets the next request be read, after a request that is over."""
+        assert self.is_over
+        self._read, self.is_over = self._head, False
+
+    def _head(self) -> Event:
+        data = self._data
+        # A client may send an empty line after a request (RFC 9112, section 2.2).
+        while data[:2] == b"\r\n":
+            del data[:2]
+        end = data.find(b"\r\n\r\n", max(0, self._searched - 3), self.longest_head)
+        if end < 0:
+            return self._part_of_head()
+        self._searched = 0
+        head = bytes(data[: end + 4])
+        found = _HEAD.fullmatch(head)
+        if not found:
+            raise BadMessage(400, "the head is malformed")
+        request = Request(head, found[1], found[2], found[3] == b"1")
+        del data[: end + 4]
+        if request.length is None:
+            self._read = self._size
+        elif request.length:
+            self._left, self._read = request.length, self._body
+        else:
+            self._finish(self._end)
+        return request
+
+    def _finish(self, state: Callable[[], Event]) -> None:
+        self._read, self.is_over = state, True
+
+    def _part_of_head(self) -> Event:
+        data = self._data
+        if data and data[0] not in _MAY_BEGIN and data != b"\r":
+            raise BadMessage(400, "the head is malformed")
+        self._refuse_bare_lf(self.longest_head)
+        if len(data) >= self.longest_head:
+            raise BadMessage(431, "the head is too long")
+        if self._has_ended:
+            if data:
+                raise BadMessage(400, "the head is incomplete")
+            return Closed()
+        return None
+
+    def _refuse_bare_lf(self, most: int) -> None:
+        """Refuses a line that ends without CR, before its message is whole."""
+        if _BARE_LF.search(self._data, self._searched, most):
+            raise BadMessage(400, "a line ends without CR")
+        self._searched = len(self._data)
+
+    def _body(self) -> Event:
+        piece = self._piece()
+        if piece and not self._left:
+            self._finish(self._end)
+        return piece
+
+    def _piece(self) -> Optional[bytes]:
+        if not self._data:
+            self._want_more()
             return None
-        if not lengths:
-            return unsaid
-        first, *further = {piece.strip(b" \t") for value in lengths for piece in value.split(b",")}
-        if further or not re.fullmatch(rb"[0-9]{1,18}", first):
-            raise BadMessage(400, "content-length isn't one length")
-        return int(first)
+        piece = bytes(self._data[: min(self._left, PIECE)])
+        del self._data[: len(piece)]
+        self._left -= len(piece)
+        return piece
 
-    def target_uri(self) -> str:
-        """Returns the target URI of a request as its head has it (RFC 9112, section 3.3)."""
-        target = (self.first_line.split(b" ") + [b""])[1]
-        if target.startswith(b"/"):
-            target = b"http://" + b"".join(self.fields.get(b"host", [])) + target
-        return target.decode("latin-1")
+    def _want_more(self) -> None:
+        if self._has_ended:
+            raise BadMessage(400, "the body is incomplete")
 
-
-class Peer:
-    """One end of a connection."""
-
-    def __init__(self, reader: StreamReader, writer: StreamWriter, limits: WireLimits) -> None:
-        self.reader, self.writer, self.limits = reader, writer, limits
-
-    async def head(self) -> Optional[Head]:
-        """Reads a head. Returns None if the connection ends before one."""
-        try:
-            raw = b""
-            while not raw:
-                raw = (await self.reader.readuntil(b"\r\n\r\n")).lstrip(b"\r\n")
-            return Head(raw)
-        except asyncio.IncompleteReadError as error:
-            if error.partial.strip(b"\r\n"):
-                raise BadMessage(400, "the head is incomplete") from error
+    def _size(self) -> Event:
+        end = self._data.find(b"\r\n", 0, _CHUNK_LINE)
+        if end < 0:
+            self._refuse_bare_lf(_CHUNK_LINE)
+            if len(self._data) >= _CHUNK_LINE:
+                raise BadMessage(400, "the size of a chunk is too long")
+            self._want_more()
             return None
-        except asyncio.LimitOverrunError as error:
-            raise BadMessage(431, "the head is too long") from error
-
-    async def pieces(self, length: Optional[int]) -> AsyncIterator[bytes]:
-        """Reads a body in pieces. An incomplete body ends early, but raises `BadMessage` if it is in chunks."""
-        left = length or 0
-        while True:
-            with self.within(self.limits.transfer):
-                if length is None and left == 0:
-                    left = await self._chunk_size()
-                if left == 0:
-                    return
-                piece = await self.reader.read(_PIECE if length == UNTIL_CLOSE else min(left, _PIECE))
-                left -= len(piece)
-                if length is None and left == 0 and await self._line():
-                    raise BadMessage(400, "a chunk is malformed")
-            if not piece:
-                if length is None:
-                    raise BadMessage(400, "a chunk is incomplete")
-                return
-            yield piece
-
-    async def _line(self) -> bytes:
-        try:
-            return (await self.reader.readuntil(b"\r\n"))[:-2]
-        except (asyncio.IncompleteReadError, asyncio.LimitOverrunError) as error:
-            raise BadMessage(400, "a chunk is incomplete") from error
-
-    async def _chunk_size(self) -> int:
-        """Reads the size of a chunk, and after the last chunk the trailer."""
-        size = (await self._line()).split(b";")[0].strip(b" \t")
-        if not re.fullmatch(rb"[0-9A-Fa-f]{1,15}", size):
+        self._searched = 0
+        found = _CHUNK.fullmatch(self._data, 0, end + 2)
+        if not found:
             raise BadMessage(400, "the size of a chunk is malformed")
-        if int(size, 16) == 0:
-            while await self._line():
-                pass
-        return int(size, 16)
+        self._left = int(found[1], 16)
+        del found
+        del self._data[: end + 2]
+        self._read = self._chunk if self._left else self._trailer
+        return self.next()
 
-    async def body(self, length: Optional[int]) -> bytes:
-        """Reads a whole body. Raises `BadMessage` if it is longer than the limit."""
-        body = bytearray()
-        async for piece in self.pieces(length):
-            body += piece
-            if len(body) > self.limits.body:
-                raise BadMessage(413, "the body is too long")
-        return bytes(body)
+    def _chunk(self) -> Event:
+        piece = self._piece()
+        if piece and not self._left:
+            self._read = self._end_of_chunk
+        return piece
 
-    @contextlib.contextmanager
-    def within(self, seconds: float) -> Iterator[None]:
-        """Aborts the connection if the `with` block takes longer than `seconds`."""
-        timer = asyncio.get_running_loop().call_later(seconds, self.writer.transport.abort)
-        try:
-            yield
-        finally:
-            timer.cancel()
+    def _end_of_chunk(self) -> Event:
+        two = self._data[:2]
+        if two != b"\r\n"[: len(two)]:
+            raise BadMessage(400, "a chunk is malformed")
+        if len(two) < 2:
+            self._want_more()
+            return None
+        del self._data[:2]
+        self._read = self._size
+        return self.next()
 
-    async def refuse(self, head: bytes) -> None:
-        """Sends a last response, and reads for a while what the client still sends, so that it can read the response."""
-        self.writer.write(head)
-        with contextlib.suppress(OSError), self.within(_READ_ON_SECONDS):
-            if self.writer.can_write_eof():
-                self.writer.write_eof()
-            for _ in range(_READ_ON_BYTES // _PIECE):
-                if not await self.reader.read(_PIECE):
-                    return
+    def _trailer(self) -> Event:
+        data = self._data
+        end = -2 if data[:2] == b"\r\n" else data.find(b"\r\n\r\n", max(0, self._searched - 3), self.longest_head)
+        if end == -1:
+            self._refuse_bare_lf(self.longest_head)
+            if len(data) >= self.longest_head:
+                raise BadMessage(431, "the trailer is too long")
+            self._want_more()
+            return None
+        self._searched = 0
+        lines = bytes(data[: end + 4])
+        if not _TRAILER.fullmatch(lines) or re.search(rb"(?im)^(content-length|transfer-encoding):", lines):
+            raise BadMessage(400, "the trailer is malformed")
+        del data[: end + 4]
+        self._finish(self._over)
+        return End(fields_of(lines))
 
-    def close(self) -> None:
-        """Closes the connection, once all that was written is sent."""
-        with contextlib.suppress(Exception):
-            self.writer.close()
+    def _end(self) -> Event:
+        self._read = self._over
+        return End([])
+
+    def _over(self) -> Event:
+        return None

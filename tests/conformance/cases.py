@@ -12,8 +12,8 @@ HOST = "conf.test"
 START = 1_767_225_600
 BETWEEN_STEPS = 0.03
 WEEKDAYS = ["Monday", "Tuesday", "Wednesday", "Thursday", "Friday", "Saturday", "Sunday"]
-# The only case that fails though it is a case for a caching client: docs/CONFORMANCE.md explains why.
-KNOWN = "fresh-max-age-33-digits"
+# The cases that fail though they are cases for a caching client, in the order of the files: docs/CONFORMANCE.md explains why.
+KNOWN = ["max-age-plus", "fresh-max-age-33-digits"]
 # The statuses of answers that never have a body.
 BODILESS = (204, 304)
 

@@ -19,8 +19,23 @@ def received_request(pipe):
         return None
     method, target, _ = lines[0].split(" ")
     headers = [line.split(": ", 1) for line in lines[1:]]
-    length = int((values(headers, "content-length") or ["0"])[0])
-    return {"method": method, "target": target, "headers": headers, "body": pipe.read(length)}
+    if "chunked" in [value.lower() for value in values(headers, "transfer-encoding")]:
+        body = chunks_of(pipe)
+    else:
+        body = pipe.read(int((values(headers, "content-length") or ["0"])[0]))
+    return None if body is None else {"method": method, "target": target, "headers": headers, "body": body}
+
+
+def chunks_of(pipe):
+    """Returns a body in chunks, after its trailer, or None if it is cut off."""
+    body = b""
+    while line := pipe.readline():
+        size = int(line.split(b";")[0], 16)
+        if size == 0:
+            return body if head_of(pipe) is not None else None
+        body += pipe.read(size)
+        pipe.readline()
+    return None
 
 
 def chosen(answer, headers):

@@ -1,16 +1,15 @@
-"""Runs the cases for a private cache by CacheAdapter, over real sockets, with the program that $CACHESERVE names.
+"""Runs the cases for a private cache by CacheAdapter over real sockets, with the program that $CACHESERVE names.
 
 Cases that `requests` can't send are left out: other forms of target, bytes on the connection, an empty query. So are the cases
 of what an intermediary does."""
 import sys
 
 sys.dont_write_bytecode = True
-import requests
 from cases_over_sockets import STEP, OriginServer, run_cases
 from cases import KNOWN, load, needs_bytes, request_of
-from http_cache_semantics.adapter import CacheAdapter
 
-OF_INTERMEDIARIES = ("proxy", "hop-by-hop")
+# Categories and ids.
+OF_INTERMEDIARIES = {"proxy", "hop-by-hop", "te", "keep-alive-resp"}
 
 
 def is_written_by_requests(case):
@@ -24,14 +23,36 @@ def is_written_by_requests(case):
     )
 
 
-def main():
-    origin = OriginServer()
+NO_RESPONSE = {"status": 504, "headers": [], "body": b"", "is_cut_off": False}
+
+
+def by_requests():
+    """Returns a function that sends a request by `requests`, and what closes its session."""
+    import requests
+    from http_cache_semantics.adapter import CacheAdapter
+
     session = requests.Session()
     session.headers.clear()
     session.trust_env = False
     session.mount("http://", CacheAdapter(pool_maxsize=100))
 
+    def ask(method, url, headers, body):
+        try:
+            got = session.request(method, url, headers=dict(headers), data=body, allow_redirects=False, timeout=20)
+        except requests.RequestException:
+            return NO_RESPONSE
+        fields = [[name, value] for name, value in got.raw.headers.iteritems()]
+        return {"status": got.status_code, "headers": fields, "body": got.content, "is_cut_off": False}
+
+    return ask, session.close
+
+
+def main(send, close):
+    """Runs the cases by a function that sends a request. Returns 0 if they pass."""
+    origin = OriginServer()
+
     def ask(case, number, now):
+        """Returns the answer. The libraries raise an exception if there is none, and a proxy answers 504 then."""
         request = request_of(case, case["steps"][number], now)
         headers = {STEP: f"{case['id']}.{number}"}
         for name, value in request["headers"]:
@@ -39,22 +60,15 @@ def main():
                 known = next((other for other in headers if other.lower() == name.lower()), name)
                 headers[known] = f"{headers[known]}, {value}" if known in headers else value
         url, body = f"http://127.0.0.1:{origin.port}{request['target']}", bytes.fromhex(request["body_hex"]) or None
-        encoded = {name: value.encode("latin-1") for name, value in headers.items()}
-        try:
-            got = session.request(request["method"], url, headers=encoded, data=body, allow_redirects=False, timeout=20)
-        except requests.RequestException:
-            # `requests` raises an exception if there is no response. A proxy answers 504 then.
-            return {"status": 504, "headers": [], "body": b"", "is_cut_off": False}
-        fields = [[name, value] for name, value in got.raw.headers.iteritems()]
-        return {"status": got.status_code, "headers": fields, "body": got.content, "is_cut_off": False}
+        return send(request["method"], url, [(name, value.encode("latin-1")) for name, value in headers.items()], body)
 
-    cases = [case for case in load() if case["cache"] != "shared" and case["category"] not in OF_INTERMEDIARIES]
+    cases = [case for case in load() if case["cache"] != "shared" and not OF_INTERMEDIARIES & {case["category"], case["id"]}]
     cases = [case for case in cases if is_written_by_requests(case) and not case.get("wire") and not needs_bytes(case)]
     passed, wrong = run_cases(origin, cases, ask)
-    session.close()
-    print(passed, *wrong, sep="\n")
-    return 0 if [line.split(":")[0] for line in wrong] == [KNOWN] and passed["must"] == 127 else 1
+    close()
+    print(len(cases), passed, *wrong, sep="\n")
+    return 0 if [line.split(":")[0] for line in wrong] == KNOWN and passed["must"] == 155 else 1
 
 
 if __name__ == "__main__":
-    sys.exit(main())
+    sys.exit(main(*by_requests()))

@@ -28,6 +28,17 @@ async def read_head(reader):
     return first, {name.strip().lower(): value.strip() for name, _, value in fields}
 
 
+async def read_body(reader, fields):
+    """Returns a body, which is in chunks if its length isn't known when its head is sent."""
+    if fields.get(b"transfer-encoding") != b"chunked":
+        return await reader.readexactly(int(fields.get(b"content-length", 0)))
+    body = b""
+    while size := int(await reader.readuntil(b"\r\n"), 16):
+        body += (await reader.readexactly(size + 2))[:-2]
+    await reader.readuntil(b"\r\n")
+    return body
+
+
 class Origin:
     """An origin server with pages that change. It counts its requests."""
 
@@ -129,7 +140,7 @@ class Load:
         if numbers.random() < POSTS:
             writer.write(b"POST /%d HTTP/1.1\r\nHost: load.test\r\nContent-Length: 4\r\n\r\nnext" % number)
             first, fields = await read_head(reader)
-            await reader.readexactly(int(fields.get(b"content-length", 0)))
+            await read_body(reader, fields)
             self.count(None if first.split()[1] == b"204" else f"POST: {first.decode()}", "failed posts")
             return fields.get(b"connection") == b"close"
         language = numbers.choice(LANGUAGES)
@@ -139,7 +150,7 @@ class Load:
         writer.write(b"GET /%d HTTP/1.1\r\nHost: load.test\r\nAccept-Language: %s\r\n%s\r\n" % (number, language.encode(), conditional))
         first, fields = await read_head(reader)
         status = int(first.split()[1])
-        body = b"" if status == 304 else await reader.readexactly(int(fields[b"content-length"]))
+        body = b"" if status == 304 else await read_body(reader, fields)
         self.counts["hits"] += b"; hit" in fields.get(b"cache-status", b"")
         self.count(self.wrong(number, language, status, fields, body, began, mine), "wrong")
         if status == 200:

@@ -1,16 +1,11 @@
-"""Tests the modules process, wire and proxy of the Python package, with the program that $CACHESERVE names."""
+"""Tests the module process of the Python package, with the program that $CACHESERVE names."""
 import asyncio
 import contextlib
+import json
 import os
-import re
-import shutil
 import signal
-import socket
-import ssl
-import subprocess
 import sys
 import tempfile
-import time
 import unittest
 from concurrent.futures import ThreadPoolExecutor
 from pathlib import Path
@@ -23,18 +18,17 @@ from http_cache_semantics.process import (
     Cache,
     CacheError,
     CacheGone,
+    Done,
+    More,
     NoResponse,
+    Piece,
     ProcessOptions,
     ProgramNotFound,
     Send,
     StoreNotOpened,
+    Wait,
 )
-from http_cache_semantics.wire import BadMessage, Head, Peer, WireLimits
-from servers import SmallOrigin
-from cases import values
-from started import children, free_port, proxy, with_package
 
-PROGRAM = os.environ["CACHESERVE"]
 START = 1_767_225_600_000
 PAGE = b"HTTP/1.1 200 OK\r\nCache-Control: max-age=60, must-revalidate\r\nContent-Length: 4\r\n\r\n"
 MEGABYTE = 1_048_576
@@ -48,6 +42,151 @@ def store(cache, path, body=b"page"):
     """Has the process store a page, and returns the answer."""
     send = cache.ask(get(path), at=START)
     return cache.received(send, PAGE, body, START, START)
+
+
+# A program that writes the replies of a list for each frame that it reads, and adds the line of the frame to a file. Several
+# replies are written at once, as a busy process does.
+SCRIPTED = """#!{python}
+import json, sys
+replies = json.load(open(sys.argv[0] + ".replies"))
+seen = open(sys.argv[0] + ".seen", "w")
+print(json.dumps(dict(protocol=1)), flush=True)
+for several in replies:
+    line = json.loads(sys.stdin.buffer.readline() or "null")
+    if line is None:
+        break
+    sys.stdin.buffer.read(line.pop("head", 0) + line.pop("body", 0))
+    line.pop("at", 0)
+    seen.write(json.dumps(line) + chr(10))
+    seen.flush()
+    for reply in several:
+        print(json.dumps(reply) + chr(10) + "." * (reply.get("head", 0) + reply.get("body", 0)), end="", flush=True)
+sys.stdin.buffer.read()
+"""
+
+
+class Scripted(unittest.TestCase):
+    """A program with written replies, and the frames that it has read."""
+
+    def scripted(self, *replies):
+        folder = tempfile.TemporaryDirectory()
+        self.addCleanup(folder.cleanup)
+        self.path = Path(folder.name) / "program"
+        self.path.write_text(SCRIPTED.format(python=sys.executable))
+        self.path.chmod(0o755)
+        lists = [reply if isinstance(reply, list) else [reply] for reply in replies]
+        Path(f"{self.path}.replies").write_text(json.dumps(lists))
+        return ProcessOptions(program=str(self.path))
+
+    def seen(self):
+        return [json.loads(line) for line in Path(f"{self.path}.seen").read_text().splitlines()]
+
+
+SEND = {"send": 0, "token": 7}
+UNKNOWN = {"error": "unknown token", "code": "unknown-token", "token": 7}
+
+
+class Frames(Scripted):
+    def test_a_body_on_its_way(self):
+        answer = {"answer": 0, "token": 7, "store": 100, "head": 3, "rest": True}
+        with Cache(self.scripted(SEND, answer, {"part": 7}, {"done": 0})) as cache:
+            send = cache.ask(b"", rest=5, pieces=9, wait=True)
+            found = cache.received(send, b"", rest=True, collect=True)
+            self.assertEqual(found, Answer(b"...", b"", True, None, 100, 0, 7, 1))
+            self.assertEqual((cache.part(found, b"abc"), cache.complete(found, b"d")), (None, Done()))
+        self.assertEqual(
+            self.seen(),
+            [
+                {"ask": 0, "rest": 5, "pieces": 9, "wait": True},
+                {"received": 7, "rest": True, "collect": True},
+                {"part": 7},
+                {"complete": 7},
+            ],
+        )
+
+    def test_more_is_wanted_before_the_answer(self):
+        with Cache(self.scripted(SEND, {"more": 0, "token": 7, "store": 100}, {"answer": 0, "body": 2})) as cache:
+            found = cache.received(cache.ask(b""), b"", rest=4, collect=True)
+            self.assertEqual(found, More(7, 100, 1))
+            self.assertEqual(cache.complete(found, b"abcd").body, b"..")
+
+    def test_a_stored_body_in_pieces(self):
+        first = {"answer": 0, "token": 7, "left": 3, "head": 1, "body": 2}
+        more = ({"next": 7, "left": 1, "body": 2}, {"next": 7, "left": 0, "body": 1})
+        with Cache(self.scripted(first, *more, UNKNOWN)) as cache:
+            found = cache.ask(b"", pieces=2)
+            self.assertEqual((found.left, cache.next(found), cache.next(found)), (3, Piece(b"..", 1), Piece(b".", 0)))
+            with self.assertRaises(CacheError) as refused:
+                cache.next(found)
+        self.assertEqual((refused.exception.code, str(refused.exception)), ("unknown-token", "unknown token"))
+
+    def test_codes(self):
+        no_response = {"error": "none", "code": "no-response", "id": 0, "token": 7}
+        with Cache(self.scripted(SEND, no_response, SEND, {"error": "anything"})) as cache:
+            with self.assertRaises(NoResponse) as refused:
+                cache.failed(cache.ask(b""), "none")
+            self.assertEqual(refused.exception.code, "no-response")
+            with self.assertRaises(CacheError) as refused:
+                cache.part(cache.ask(b""), b"")
+            self.assertEqual((type(refused.exception), refused.exception.code), (CacheError, ""))
+
+    def test_a_request_that_waits_for_another(self):
+        wait, store = {"wait": 0, "token": 7}, {"answer": 0, "token": 7, "store": 9}
+        with Cache(self.scripted(SEND, wait, store, {"part": 7}, {"done": 0})) as cache:
+            send, waits = cache.ask(b""), cache.ask(b"", wait=True)
+            self.assertEqual(waits, Wait(7, 1))
+            held = [cache.over(waits, 0)]
+            cache.received(send, b"", rest=True, collect=True)
+            cache.part(send, b"a")
+            held.append(cache.over(waits, 0))
+            cache.complete(send)
+            self.assertEqual((held, cache.over(waits, 0)), ([False, False], True))
+
+    def test_a_wait_ends_with_the_process(self):
+        cache = Cache(self.scripted(SEND, {"wait": 0, "token": 7}))
+        cache.ask(b"")
+        waits = cache.ask(b"", wait=True)
+        cache.close()
+        self.assertTrue(cache.over(waits))
+
+
+class AsynchronousFrames(Scripted, unittest.IsolatedAsyncioTestCase):
+    async def test_a_request_that_waits_for_another(self):
+        # The reply to the second frame and the end of the first request are read at once.
+        cache = AsyncCache(self.scripted(SEND, [], [{"wait": 0, "token": 7}, {"send": 0, "token": 8}], {"done": 0}))
+        send = await cache.ask(b"")
+        waits, again = await asyncio.gather(cache.ask(b"", wait=True), cache.received(send, b""))
+        over = asyncio.ensure_future(cache.over(waits))
+        await asyncio.sleep(0.05)
+        self.assertFalse(over.done())
+        await asyncio.gather(over, cache.received(again, b""))
+        await cache.over(waits)
+        await cache.close()
+
+    async def test_a_cancelled_call_ends_what_is_under_way(self):
+        answer, more = {"answer": 0, "token": 7, "left": 1}, {"more": 0, "token": 7, "store": 1}
+        for reply in (answer, more, {"part": 7}, {"next": 7, "left": 1}):
+            cache = AsyncCache(self.scripted([], [reply, {"stats": 0}], {"done": 0}, {"stats": 0}))
+            await cache.start()
+            call = asyncio.ensure_future(cache.ask(b""))
+            await asyncio.sleep(0)
+            call.cancel()
+            await cache.stats()
+            await cache.stats()
+            self.assertEqual((reply, [next(iter(line)) for line in self.seen()]), (reply, ["ask", "stats", "failed", "stats"]))
+            await cache.close()
+
+    async def test_a_cancelled_call_with_nothing_under_way_ends_nothing(self):
+        for reply in ({"wait": 0, "token": 7}, {"answer": 0}, {"next": 7, "left": 0}, UNKNOWN):
+            cache = AsyncCache(self.scripted([], [reply, {"stats": 0}], {"stats": 0}))
+            await cache.start()
+            call = asyncio.ensure_future(cache.ask(b""))
+            await asyncio.sleep(0)
+            call.cancel()
+            await cache.stats()
+            await cache.stats()
+            self.assertEqual((reply, [next(iter(line)) for line in self.seen()]), (reply, ["ask", "stats", "stats"]))
+            await cache.close()
 
 
 class Processes(unittest.TestCase):
@@ -266,249 +405,6 @@ class Asynchronous(unittest.IsolatedAsyncioTestCase):
             with Cache(options):
                 with self.assertRaisesRegex(StoreNotOpened, ": another process uses the file$"):
                     await AsyncCache(options).start()
-
-
-class Lengths(unittest.TestCase):
-    def length(self, *fields, version=b"1.1"):
-        return Head(b"\r\n".join([b"POST / HTTP/" + version, *fields, b"", b""])).length()
-
-    def test_lengths(self):
-        self.assertEqual(self.length(), 0)
-        self.assertEqual(self.length(b"content-LENGTH :\t7 "), 7)
-        self.assertEqual(self.length(b"Content-Length: 7, 7", b"Content-Length: 7"), 7)
-        self.assertIsNone(self.length(b"Transfer-Encoding: Chunked"))
-
-    def test_unclear_lengths(self):
-        for status, *fields in (
-            (400, b"Content-Length: 7", b"Content-Length: 8"),
-            (400, b"Content-Length: 7, 8"),
-            (400, b"Content-Length: +7"),
-            (400, b"Content-Length: -7"),
-            (400, b"Content-Length: 7a"),
-            (400, b"Content-Length: 0x7"),
-            (400, b"Content-Length:"),
-            (400, b"Content-Length:\r\n 7"),
-            (400, b"Content-Length: " + b"9" * 19),
-            (400, b"Content-Length: 7", b"Transfer-Encoding: chunked"),
-            (400, b"X: 1\nContent-Length: 7", b"Content-Length: 8"),
-            (501, b"Transfer-Encoding: gzip, chunked"),
-            (501, b"Transfer-Encoding: xchunked"),
-            (501, b"Transfer-Encoding: chunked", b"Transfer-Encoding: chunked"),
-        ):
-            with self.assertRaises(BadMessage) as refused:
-                self.length(*fields)
-            self.assertEqual((fields, refused.exception.status), (fields, status))
-        with self.assertRaises(BadMessage):
-            self.length(b"Transfer-Encoding: chunked", version=b"1.0")
-
-    def test_first_lines(self):
-        for line, status, is_1_1 in (
-            (b"GET / HTTP/1.1", 0, True),
-            (b"GET /HTTP/1.1 HTTP/1.0", 0, False),
-            (b"HTTP/1.1 204 ", 204, True),
-            (b"HTTP/1.1 204", 204, True),
-            (b"HTTP/1.0 200 HTTP/1.1", 200, False),
-            (b"HTTP/1.1 2000 OK", 0, False),
-        ):
-            head = Head(line + b"\r\n\r\n")
-            self.assertEqual((line, head.status, head.is_1_1), (line, status, is_1_1))
-
-    def test_the_end_of_a_connection(self):
-        self.assertTrue(Head(b"GET / HTTP/1.1\r\nConnection: a, CLOSE\r\n\r\n").is_last)
-        self.assertFalse(Head(b"GET / HTTP/1.1\r\nConnection: closed\r\n\r\n").is_last)
-        self.assertTrue(Head(b"GET / HTTP/1.0\r\nConnection: keep-alive\r\n\r\n").is_last)
-
-
-class Bodies(unittest.IsolatedAsyncioTestCase):
-    async def body(self, data, length, limits=WireLimits()):
-        reader = asyncio.StreamReader()
-        reader.feed_data(data)
-        reader.feed_eof()
-        return await Peer(reader, mock.Mock(), limits).body(length)
-
-    async def test_bodies(self):
-        self.assertEqual(await self.body(b"abcdef", 4), b"abcd")
-        self.assertEqual(await self.body(b"abc", 4), b"abc")
-        self.assertEqual(await self.body(b"abcdef", -1), b"abcdef")
-        self.assertEqual(await self.body(b"3;x=1\r\nabc\r\n0A\r\n0123456789\r\n0\r\nX: 1\r\n\r\nGET", None), b"abc0123456789")
-
-    async def test_chunks_that_are_none(self):
-        for data in (b"", b"3\r\nab", b"3\r\nabcd\r\n0\r\n\r\n", b"-3\r\nabc\r\n0\r\n\r\n", b"3\r\nabc\r\n", b"g\r\n", b"3\nabc\n0\n\n"):
-            with self.assertRaises(BadMessage) as refused:
-                await self.body(data, None)
-            self.assertEqual((data, refused.exception.status), (data, 400))
-
-    async def test_the_limit(self):
-        with self.assertRaises(BadMessage) as refused:
-            await self.body(b"5\r\nabcde\r\n0\r\n\r\n", None, WireLimits(body=4))
-        self.assertEqual(refused.exception.status, 413)
-
-
-def answer(request, _):
-    """Returns the origin server's answer: three paths have a long body, one takes a second, and one gets no response."""
-    path, long = request["target"], 9 * MEGABYTE
-    if path == "/gone":
-        return None
-    if path == "/slow":
-        time.sleep(1)
-    if path == "/known":
-        return b"HTTP/1.1 200 OK\r\nContent-Length: %d\r\n\r\n" % long + b"k" * long
-    if path == "/chunks":
-        chunk = b"%x\r\n%s\r\n" % (MEGABYTE, b"c" * MEGABYTE)
-        return b"HTTP/1.1 200 OK\r\nTransfer-Encoding: chunked\r\n\r\n" + chunk * 9 + b"0\r\n\r\n"
-    if path == "/open":
-        return b"HTTP/1.1 200 OK\r\n\r\n" + b"o" * long
-    return b"HTTP/1.1 200 OK\r\nCache-Control: max-age=60\r\nContent-Length: 4\r\n\r\npage"
-
-
-class Proxies(unittest.TestCase):
-    def setUp(self):
-        self.origin = SmallOrigin(answer)
-        self.addCleanup(self.origin.stop)
-
-    @contextlib.contextmanager
-    def proxy(self, *words, **how):
-        with proxy(PROGRAM, self.origin.port, *words, **how) as (run, self.port):
-            yield run
-
-    def reply(self, data, closes=True):
-        """Returns all that the proxy writes on a connection."""
-        with socket.create_connection(("127.0.0.1", self.port), 20) as connection:
-            connection.sendall(data)
-            if closes:
-                connection.shutdown(socket.SHUT_WR)
-            return b"".join(iter(lambda: connection.recv(65_536), b""))
-
-    def test_several_requests_on_a_connection(self):
-        with self.proxy():
-            got = self.reply(get(b"/a") + get(b"/a") + get(b"/a").replace(b"\r\n\r\n", b"\r\nConnection: close\r\n\r\n"), False)
-        self.assertEqual((got.count(b"HTTP/1.1 200 "), got.count(b"\r\n\r\npage")), (3, 3))
-        self.assertEqual((len(self.origin.asked), got.count(b"cacheserve; hit")), (1, 2))
-
-    def test_bodies_that_are_too_long_to_store(self):
-        with self.proxy():
-            for path, letter in ((b"/known", b"k"), (b"/chunks", b"c"), (b"/open", b"o")):
-                head, _, body = self.reply(get(path).replace(b"1.1", b"1.0")).partition(b"\r\n\r\n")
-                self.assertEqual((path, len(body), set(body)), (path, 9 * MEGABYTE, set(letter)))
-                self.assertNotIn(b"transfer-encoding", head.lower())
-            self.assertIn(b"\r\ntransfer-encoding: chunked\r\n", self.reply(get(b"/open")))
-        self.assertEqual(len(self.origin.asked), 4)
-
-    def test_unclear_framing_reaches_nobody(self):
-        post = b"POST /a HTTP/1.1\r\nHost: a.test\r\n"
-        with self.proxy():
-            for status, data in (
-                (400, post + b"Content-Length: 4\r\nContent-Length: 5\r\n\r\nabcde"),
-                (400, post + b"Content-Length: 4\r\nTransfer-Encoding: chunked\r\n\r\n0\r\n\r\n"),
-                (400, post + b"Transfer-Encoding: chunked\r\n\r\nx\r\n"),
-                (501, post + b"Transfer-Encoding: identity\r\n\r\n"),
-                (400, post + b"Content-Length : 0\r\n\r\n"),
-                (400, post + b"X: 1\n\nGET /b HTTP/1.1\r\n\r\n"),
-                (400, post + b"X: a\rb\r\n\r\n"),
-                (400, post + b" folded: 1\r\n\r\n"),
-                (400, b"GET /a HTTP/1.1\r\n\r\n"),
-                (400, b"GET /a HTTP/1.1\r\nHost: a\r\nHost: b\r\n\r\n"),
-                (400, b"no request\r\n\r\n"),
-                (413, post + b"Content-Length: 99999999999\r\n\r\n"),
-                (431, b"GET /a HTTP/1.1\r\nX: " + b"x" * 70_000 + b"\r\n\r\n"),
-            ):
-                reply = self.reply(data)
-                self.assertEqual((data[:90], reply[9:12]), (data[:90], b"%d" % status))
-                self.assertEqual(reply.count(b"HTTP/1.1"), 1)
-        self.assertEqual(self.origin.asked, [])
-
-    def test_a_body_is_forwarded_out_of_its_chunks(self):
-        head = b"POST /a HTTP/1.1\r\nHost: a.test\r\nExpect: 100-continue\r\nTransfer-Encoding: chunked\r\n\r\n"
-        with self.proxy():
-            reply = self.reply(head + b"3\r\nabc\r\n1\r\nd\r\n0\r\n\r\n")
-        self.assertTrue(reply.startswith(b"HTTP/1.1 100 Continue\r\n\r\nHTTP/1.1 200"))
-        [request] = self.origin.asked
-        self.assertEqual((request["body"], values(request["headers"], "content-length")), (b"abcd", ["4"]))
-        self.assertEqual(values(request["headers"], "transfer-encoding"), [])
-
-    def test_the_origin_server_sends_no_response(self):
-        with self.proxy():
-            self.assertEqual(self.reply(get(b"/gone"))[:12], b"HTTP/1.1 504")
-        with proxy(PROGRAM, free_port()) as (_, self.port):
-            self.assertEqual(self.reply(get(b"/a"))[:12], b"HTTP/1.1 504")
-
-    @unittest.skipUnless(shutil.which("openssl"), "no openssl")
-    def test_an_origin_server_with_tls(self):
-        with tempfile.TemporaryDirectory() as folder:
-            key, certificate = f"{folder}/key", f"{folder}/certificate"
-            request = ["openssl", "req", "-x509", "-newkey", "rsa:2048", "-nodes", "-subj", "/CN=localhost", "-days", "1"]
-            names = ["-addext", "subjectAltName=DNS:localhost", "-keyout", key, "-out", certificate]
-            subprocess.run([*request, *names], check=True, capture_output=True)
-            context = ssl.SSLContext(ssl.PROTOCOL_TLS_SERVER)
-            context.load_cert_chain(certificate, key)
-            self.origin.socket = context.wrap_socket(self.origin.socket, server_side=True)
-            there = f"--origin=https://localhost:{self.origin.port}"
-            with mock.patch.dict(os.environ, SSL_CERT_FILE=certificate), self.proxy(there):
-                self.assertTrue(self.reply(get(b"/a")).endswith(b"\r\n\r\npage"))
-            with self.proxy(there):
-                self.assertEqual(self.reply(get(b"/a"))[9:12], b"504")
-
-    def test_a_request_under_way_ends_before_the_proxy(self):
-        with self.proxy() as run:
-            with socket.create_connection(("127.0.0.1", self.port), 20) as slow, socket.create_connection(
-                ("127.0.0.1", self.port), 20
-            ) as idle:
-                slow.sendall(get(b"/slow"))
-                time.sleep(0.3)
-                run.send_signal(signal.SIGTERM)
-                self.assertEqual(idle.recv(100), b"")
-                reply = b"".join(iter(lambda: slow.recv(65_536), b""))
-            self.assertTrue(reply.startswith(b"HTTP/1.1 200 ") and reply.endswith(b"\r\n\r\npage"))
-            self.assertIn(b"connection: close", reply)
-            self.assertEqual(run.wait(10), 0)
-
-    def test_the_access_log(self):
-        with self.proxy("--log", "--name=edge", stdout=subprocess.PIPE, text=True) as run:
-            self.reply(b"nothing\r\n\r\n")
-            self.reply(get(b"/a?\\b"))
-            self.reply(get(b"/b") + get(b"/b"))
-        lines = [re.sub(r"\[.*?\]|ttl=(59|60)", "[]", line) for line in run.stdout.read().splitlines()]
-        run.stdout.close()
-        self.assertEqual(
-            lines,
-            [
-                '127.0.0.1 - - [] "-" 400 0 "-"',
-                r'127.0.0.1 - - [] "GET /a?\x5cb HTTP/1.1" 200 4 "edge; fwd=uri-miss; fwd-status=200; stored; []"',
-                '127.0.0.1 - - [] "GET /b HTTP/1.1" 200 4 "edge; fwd=uri-miss; fwd-status=200; stored; []"',
-                '127.0.0.1 - - [] "GET /b HTTP/1.1" 200 4 "edge; hit; []"',
-            ],
-        )
-
-    def test_an_unsafe_request_whose_process_is_killed(self):
-        with tempfile.TemporaryDirectory() as folder, self.proxy(f"--file={folder}/c.db", stderr=subprocess.DEVNULL) as run:
-            self.reply(get(b"/slow"))
-            self.assertIn(b"; hit", self.reply(get(b"/slow")))
-            with socket.create_connection(("127.0.0.1", self.port), 20) as connection:
-                connection.sendall(b"POST /slow HTTP/1.1\r\nHost: a.test\r\nContent-Length: 0\r\nConnection: close\r\n\r\n")
-                time.sleep(0.3)
-                for process in children(run.pid):
-                    os.kill(process, signal.SIGKILL)
-                self.assertEqual(connection.recv(12), b"HTTP/1.1 502")
-            # The POST may have changed the page, so the response in the file must not be used any more.
-            self.assertNotIn(b"; hit", self.reply(get(b"/slow")))
-
-    def words_of(self, *words, program=PROGRAM):
-        command = [sys.executable, "-m", "http_cache_semantics.proxy", *words]
-        return subprocess.run(command, env=with_package(program), capture_output=True, text=True, timeout=60)
-
-    def test_the_command_line(self):
-        run = self.words_of("--help")
-        self.assertEqual((run.returncode, "--origin URL" in run.stdout), (0, True))
-        for words in ((), ("--origin=127.0.0.1:80",), ("--origin=http://a/b",), ("--origin=http://a", "--listen=a:b")):
-            self.assertEqual(self.words_of(*words).returncode, 2)
-        run = self.words_of("--origin=http://127.0.0.1:1", program="/nowhere")
-        self.assertEqual((run.returncode, run.stderr), (1, "proxy: /nowhere: No such file or directory\n"))
-        with tempfile.TemporaryDirectory() as folder, Cache(ProcessOptions(file=f"{folder}/c.db")):
-            run = self.words_of("--origin=http://127.0.0.1:1", f"--file={folder}/c.db")
-            self.assertEqual((run.returncode, f"{folder}/c.db: " in run.stderr, "Traceback" in run.stderr), (1, True, False))
-        with socket.create_server(("127.0.0.1", 0)) as taken:
-            run = self.words_of("--origin=http://127.0.0.1:1", f"--listen=127.0.0.1:{taken.getsockname()[1]}")
-            self.assertEqual((run.returncode, "Traceback" in run.stderr), (1, False))
 
 
 if __name__ == "__main__":

@@ -1,5 +1,6 @@
 """Starts the proxy of the Python package, and finds its child processes."""
 import contextlib
+import functools
 import os
 import signal
 import socket
@@ -21,12 +22,24 @@ def with_package(program):
     return {**os.environ, "PYTHONPATH": str(PACKAGE), "PYTHONDONTWRITEBYTECODE": "1", "CACHESERVE": program}
 
 
+@functools.lru_cache(maxsize=None)
+def python_with(package):
+    """Returns a Python that has a package, or None."""
+    for python in (sys.executable, "/usr/bin/python3"):
+        if subprocess.run([python, "-c", f"import {package}"], stderr=subprocess.DEVNULL).returncode == 0:
+            return python
+    return None
+
+
 @contextlib.contextmanager
 def proxy(program, origin_port, *words, command=("-m", "http_cache_semantics.proxy"), **how):
     """Runs a proxy, as a context of its process and its port."""
     port = free_port()
     there = [f"--listen=127.0.0.1:{port}", f"--origin=http://127.0.0.1:{origin_port}"]
-    command = [sys.executable, *command, *there, *words]
+    python = python_with("h11")
+    if not python:
+        sys.exit("started.py: the proxy needs h11: apt-get install python3-h11")
+    command = [python, *command, *there, *words]
     run = subprocess.Popen(command, env=with_package(program), **how)
     try:
         wait_for(port, run)
@@ -62,3 +75,9 @@ def memory(pid):
     """Returns the resident memory of a process in kilobytes."""
     lines = Path(f"/proc/{pid}/status").read_text().splitlines()
     return int(next(line for line in lines if line.startswith("VmRSS")).split()[1])
+
+
+def peak(pid):
+    """Returns the most resident memory that a process has had, in kilobytes."""
+    lines = Path(f"/proc/{pid}/status").read_text().splitlines()
+    return int(next(line for line in lines if line.startswith("VmHWM")).split()[1])
