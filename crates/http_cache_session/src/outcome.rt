@@ -102,7 +102,7 @@ impl<S: Shelf + Drop> Session<S> {
         self.invalidations.add_all(alloc, targets, next_token);
     }
 
-    // Returns the times of a response to a request that waits for one.
+    // Returns the times of a response.
     fn times_of(
         &self,
         token: u64,
@@ -110,11 +110,11 @@ impl<S: Shelf + Drop> Session<S> {
         received: Timestamp,
     ) -> Result<Times, Fault> {
         match self.under_way.by_token.get(&token) {
-            Some(under_way) if under_way.coming.is_none() => Ok(Times {
+            Some(under_way) => Ok(Times {
                 sent: sent.unwrap_or(under_way.sent),
                 received,
             }),
-            _ => Err(Fault::Refused(Reason::UnknownToken)),
+            None => Err(Fault::Refused(Reason::UnknownToken)),
         }
     }
 
