@@ -77,7 +77,8 @@ impl Validation {
 
     /// Takes the head of the request to send out of the token.
     pub fn take_request(&mut self, alloc: Global) -> request::Parts
-        ensures { result ≡ self.old.request.value }
+        ensures taken { result ≡ self.old.request.value }
+        ensures kept { self.new.id ≡ self.old.id }
     {
         mem::replace(&mut *self.request, request::Parts::new(alloc))
     }

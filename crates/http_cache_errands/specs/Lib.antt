@@ -1,3 +1,4 @@
 pub mod UnderWay
 pub mod Bodies
 pub mod Invalidations
+pub mod Void

@@ -1,8 +1,9 @@
 -- The requests under way, by token.
-use Rattle.std.specs.Prelude.{◌≡◌, ◌==◌, ℕ, Bool, false, Option, None, option_map, option_and_then, unwrap_or, nat_eq, if◌then◌else◌}
+use Rattle.std.specs.Prelude.{◌≡◌, ◌==◌, ℕ, List, Bool, false, Option, None, option_map, option_and_then, unwrap_or, nat_eq, if◌then◌else◌}
 use Rattle.std.specs.List.{list_any}
 use Rattle.std.specs.BTreeMap.{BTreeMap, get, values}
 use Rattle.std.specs.Ordering.{nat_cmp}
+use Rattle.http_cache_storage.specs.Target.{text_of}
 use Rattle.http_cache_errands.specs.declared.errands.Errand.{Errand}
 use Rattle.http_cache_errands.specs.declared.errands.Errand.TheVariants.{Check}
 use Rattle.http_cache_errands.specs.declared.errands.UnderWay.{UnderWay}
@@ -38,3 +39,10 @@ are_validating id requests = list_any (validates id) (values requests)
 
 abbrev pub validated_at : ByToken → ℕ → Option ℕ
 validated_at requests token = option_and_then validated (get nat_cmp requests token)
+
+-- the text of the target for which a response may be stored
+abbrev pub target_of : UnderWay → Option (List ℕ)
+target_of u = option_map text_of u.target
+
+abbrev pub target_at : ByToken → ℕ → Option (List ℕ)
+target_at requests token = option_and_then target_of (get nat_cmp requests token)

@@ -1,9 +1,11 @@
 //! Requests whose outcome the caller has to report.
-ghost use Rattle.std.specs.Prelude.{◌≡◌, ◌≤◌, ◌+◌, ◌++◌, ◌⊎◌, ℕ, length, Some, None, option_map, IfOk, IfSome, OnErr};
+ghost use Rattle.std.specs.Prelude.{◌≡◌, ◌≤◌, ◌+◌, ◌++◌, ◌⊎◌, ℕ, length, true, Some, None, option_map, is_some, IfOk, IfSome, OnErr};
 ghost use Rattle.http.specs.Response.{head_of, body_of};
 ghost use Rattle.std.specs.BTreeMap.{get};
 ghost use Rattle.std.specs.Ordering.{nat_cmp};
+ghost use Rattle.http_cache_storage.specs.Target.{text_of};
 ghost use Rattle.http_cache_errands.specs.UnderWay.{Changes, KeepsIds, id_at, validates, are_validating};
+ghost use Rattle.http_cache_errands.specs.UnderWay.{target_of, target_at, validated_at};
 ghost use Rattle.http_cache_errands.specs.Bodies.{IsUnstorable};
 
 use bytes::Bytes;
@@ -146,7 +148,9 @@ impl UnderWay {
     }
 
     /// Returns whether a page is requested for a target, so that it may be stored there.
-    pub fn is_page_for(&self, target: &Target) -> bool {
+    pub fn is_page_for(&self, target: &Target) -> bool
+        ensures { result ≡ true → target_of self.now ≡ Some (text_of target.now) }
+    {
         let is_own = matches!(&self.errand, Some(Errand::Own(_)));
         is_own && *self.request.method() == Method::GET && self.target.as_ref() == Some(target)
     }
@@ -188,17 +192,33 @@ impl UnderWays {
     }
 
     /// Returns the token of a request that validates a stored response.
-    pub fn validation_of(&self, id: ResponseId) -> Option<u64> {
-        let mut all = self.by_token.iter();
-        all.find(|(_, one)| one.validates(id))
-            .map(|(token, _)| *token)
+    pub fn validation_of(&self, id: ResponseId) -> Option<u64>
+        ensures response { IfSome result (λ token.
+            validated_at self.now.by_token token ≡ Some id.0) }
+        ensures under_way { IfSome result (λ token.
+            is_some (id_at self.now.by_token token) ≡ true) }
+    {
+        for (token, one) in self.by_token.iter() {
+            if one.validates(id) {
+                return Some(*token);
+            }
+        }
+        None
     }
 
     /// Returns the token of a request for a page that may be stored for a target.
-    pub fn page_for(&self, target: &Target) -> Option<u64> {
-        let mut all = self.by_token.iter();
-        all.find(|(_, one)| one.is_page_for(target))
-            .map(|(token, _)| *token)
+    pub fn page_for(&self, target: &Target) -> Option<u64>
+        ensures target { IfSome result (λ token.
+            target_at self.now.by_token token ≡ Some (text_of target.now)) }
+        ensures under_way { IfSome result (λ token.
+            is_some (id_at self.now.by_token token) ≡ true) }
+    {
+        for (token, one) in self.by_token.iter() {
+            if one.is_page_for(target) {
+                return Some(*token);
+            }
+        }
+        None
     }
 
     /// Adds a request, and returns its token, which no request had before.

@@ -1,5 +1,5 @@
 //! Which requests under way may be older than an invalidation of their target.
-ghost use Rattle.std.specs.Prelude.{◌≡◌, ◌≤◌, ◌⊎◌, ℕ, List, OnOk};
+ghost use Rattle.std.specs.Prelude.{◌≡◌, ◌≤◌, ◌⊎◌, ℕ, List, All, OnOk};
 ghost use Rattle.http_cache_storage.specs.Target.{text_of};
 ghost use Rattle.http_cache_errands.specs.Invalidations.{token_at, last_of};
 
@@ -65,7 +65,12 @@ impl Invalidations {
     }
 
     /// Records the invalidation of several targets.
-    pub fn add_all(&mut self, alloc: Global, targets: &[Target], next_token: u64) {
+    pub fn add_all(&mut self, alloc: Global, targets: &[Target], next_token: u64)
+        ensures added { All (λ target. next_token
+            ≤ last_of self.new.floor self.new.by_text (text_of target)) targets.now }
+        ensures kept { (text : List ℕ) → last_of self.old.floor self.old.by_text text
+            ≤ last_of self.new.floor self.new.by_text text }
+    {
         for target in targets {
             self.add(alloc, target, next_token);
         }

@@ -1,8 +1,10 @@
 //! What is replied to a request: an answer, or a request to send.
-ghost use Rattle.std.specs.Prelude.{◌≡◌, ◌≢◌, false, Some, None, IfOk, IfSome, OnErr};
+ghost use Rattle.std.specs.Prelude.{◌≡◌, true, Some, None, option_map, is_some, IfOk, IfSome, OnErr};
 ghost use Rattle.http_cache_storage.specs.Shelf.{KeepsAll};
-ghost use Rattle.http_cache_wire.specs.Wire.{IsReplyFor, given_token};
-ghost use Rattle.http_cache_session.specs.Session.{AddsGiven, KeepsUnderWay, is_validated};
+ghost use Rattle.http_cache_wire.specs.Wire.{IsPlain, IsReplyFor, given_token, waits_for};
+ghost use Rattle.http_cache_errands.specs.UnderWay.{id_at, are_validating, validated_at};
+ghost use Rattle.http_cache_session.specs.Session.{AddsGiven, KeepsUnderWay, IsOnlyCheck};
+ghost use Rattle.http_cache_session.specs.Session.{NamesUnderWay, is_validated};
 
 use crate::session::{Session, more};
 use bytes::Bytes;
@@ -51,6 +53,7 @@ fn target_of(alloc: Global, request: &Request<Bytes>) -> Result<Option<Target>, 
 fn wait(id: u64, token: u64) -> Reply
     ensures none { given_token result ≡ None }
     ensures reply { IsReplyFor id result }
+    ensures waits { waits_for result ≡ Some token }
 {
     Reply::Notice(Notice::Wait { id, token })
 }
@@ -83,6 +86,7 @@ impl<S: Shelf + Drop> Session<S> {
     ) -> Result<Option<Reply>, Fault>
         ensures none { IfOk result (λ reply. IfSome reply (λ one. given_token one ≡ None)) }
         ensures reply { IfOk result (λ reply. IfSome reply (IsReplyFor id)) }
+        ensures plain { IfOk result (λ reply. IfSome reply IsPlain) }
     {
         let Some(intermediary) = self.settings.intermediary.as_ref() else {
             return Ok(None);
@@ -111,12 +115,18 @@ impl<S: Shelf + Drop> Session<S> {
     }
 
     // Returns the token of a request that validates the same stored response.
-    fn validation_of(&self, check: &Validation) -> Option<u64> {
+    fn validation_of(&self, check: &Validation) -> Option<u64>
+        ensures { IfSome result (λ token.
+            is_some (id_at self.now.under_way.by_token token) ≡ true) }
+    {
         self.under_way.validation_of(check.id()?)
     }
 
     // Returns the token of a request under way for the same page.
-    fn page_for(&self, alloc: Global, request: &Request<Bytes>) -> Result<Option<u64>, AllocError> {
+    fn page_for(&self, alloc: Global, request: &Request<Bytes>) -> Result<Option<u64>, AllocError>
+        ensures { IfOk result (λ page. IfSome page (λ token.
+            is_some (id_at self.now.under_way.by_token token) ≡ true)) }
+    {
         Ok(match target_of(alloc, request)? {
             Some(target) => self.under_way.page_for(&target),
             None => None,
@@ -134,6 +144,8 @@ impl<S: Shelf + Drop> Session<S> {
         is_answered: bool,
     ) -> Result<(u64, Written), Fault>
         ensures kept { self.new.client.shelf ≡ self.old.client.shelf }
+        ensures checks { IfOk result (λ sent.
+            validated_at self.new.under_way.by_token sent.0 ≡ option_map (λ one. one.0) check.id) }
         ensures given { IfOk result (λ sent. AddsGiven (Some sent.0) id
             self.old.under_way self.new.under_way) }
         ensures ungiven { OnErr result (KeepsUnderWay self.old.under_way self.new.under_way) }
@@ -165,6 +177,7 @@ impl<S: Shelf + Drop> Session<S> {
         now: Timestamp,
     ) -> Result<Reply, Fault>
         ensures reply { IfOk result (IsReplyFor id) }
+        ensures plain { IfOk result IsPlain }
         ensures kept { self.new.client.shelf ≡ self.old.client.shelf }
         ensures given { IfOk result (λ reply. AddsGiven (given_token reply) id
             self.old.under_way self.new.under_way) }
@@ -188,6 +201,7 @@ impl<S: Shelf + Drop> Session<S> {
         now: Timestamp,
     ) -> Result<Reply, Fault>
         ensures reply { IfOk result (IsReplyFor id) }
+        ensures plain { IfOk result IsPlain }
         ensures kept { self.new.client.shelf ≡ self.old.client.shelf }
         ensures given { IfOk result (λ reply. AddsGiven (given_token reply) id
             self.old.under_way self.new.under_way) }
@@ -224,8 +238,10 @@ impl<S: Shelf + Drop> Session<S> {
     ) -> Result<Reply, Fault>
         ensures reply { IfOk result (IsReplyFor id) }
         ensures kept { self.new.client.shelf ≡ self.old.client.shelf }
-        ensures single { IfOk result (λ reply. given_token reply ≢ None
-            → is_validated due self.old.under_way.by_token ≡ false) }
+        ensures no_wait { IfOk result (λ reply. waits_for reply ≡ None) }
+        ensures only { IfOk result (λ reply. IsOnlyCheck reply
+            (λ id. are_validating id self.old.under_way.by_token)
+            (validated_at self.new.under_way.by_token)) }
         ensures given { IfOk result (λ reply. AddsGiven (given_token reply) id
             self.old.under_way self.new.under_way) }
         ensures ungiven { OnErr result (KeepsUnderWay self.old.under_way self.new.under_way) }
@@ -249,6 +265,7 @@ impl<S: Shelf + Drop> Session<S> {
         asked: &Asked,
     ) -> Result<Reply, Fault>
         ensures reply { IfOk result (IsReplyFor id) }
+        ensures plain { IfOk result IsPlain }
         ensures kept { self.new.client.shelf ≡ self.old.client.shelf }
         ensures given { IfOk result (λ reply. AddsGiven (given_token reply) id
             self.old.under_way self.new.under_way) }
@@ -271,6 +288,11 @@ impl<S: Shelf + Drop> Session<S> {
         asked: &Asked,
     ) -> Result<Reply, Fault>
         ensures reply { IfOk result (IsReplyFor id) }
+        ensures waits { IfOk result (λ reply.
+            NamesUnderWay reply (id_at self.old.under_way.by_token)) }
+        ensures only { IfOk result (λ reply. IsOnlyCheck reply
+            (λ id. are_validating id self.old.under_way.by_token)
+            (validated_at self.new.under_way.by_token)) }
         ensures kept { KeepsAll (S.stored self.old.client.shelf) (S.next_id self.old.client.shelf)
             (S.stored self.new.client.shelf) (S.next_id self.new.client.shelf) }
         ensures given { IfOk result (λ reply. AddsGiven (given_token reply) id
@@ -307,6 +329,11 @@ impl<S: Shelf + Drop> Session<S> {
 
     pub(crate) fn ask(&mut self, alloc: Global, id: u64, frame: Frame) -> Result<Reply, Fault>
         ensures reply { IfOk result (IsReplyFor id) }
+        ensures waits { IfOk result (λ reply.
+            NamesUnderWay reply (id_at self.old.under_way.by_token)) }
+        ensures only { IfOk result (λ reply. IsOnlyCheck reply
+            (λ id. are_validating id self.old.under_way.by_token)
+            (validated_at self.new.under_way.by_token)) }
         ensures kept { KeepsAll (S.stored self.old.client.shelf) (S.next_id self.old.client.shelf)
             (S.stored self.new.client.shelf) (S.next_id self.new.client.shelf) }
         ensures given { IfOk result (λ reply. AddsGiven (given_token reply) id

@@ -2,8 +2,9 @@
 ghost use Rattle.std.specs.Prelude.{◌≡◌, true, false, None, IfOk, IfErr, IfSome, OnErr};
 ghost use Rattle.serde_json.specs.View.{view};
 ghost use Rattle.http_cache_storage.specs.Shelf.{KeepsAll};
-ghost use Rattle.http_cache_wire.specs.Wire.{IsRefused, IsRefusal, IsReplyFor, HasRest, asks_for_body, given_token};
+ghost use Rattle.http_cache_wire.specs.Wire.{IsRefused, IsRefusal, IsReplyFor, IsPlain, HasRest, asks_for_body, given_token};
 ghost use Rattle.http_cache_errands.specs.UnderWay.{id_at};
+ghost use Rattle.http_cache_errands.specs.Void.{is_void};
 ghost use Rattle.http_cache_session.specs.Session.{AddsGiven, Ends, GivesNext, KeepsUnderWay};
 
 use crate::session::Session;
@@ -42,6 +43,7 @@ impl<S: Shelf + Drop> Session<S> {
         ensures kept { KeepsAll (S.stored self.old.client.shelf) (S.next_id self.old.client.shelf)
             (S.stored self.new.client.shelf) (S.next_id self.new.client.shelf) }
         ensures under_way { self.new.under_way ≡ self.old.under_way }
+        ensures invalidations { self.new.invalidations ≡ self.old.invalidations }
     {
         let (client, under_ways) = (&mut self.client, &self.under_way);
         let Some(under_way) = under_ways.by_token.get(&token) else {
@@ -92,6 +94,8 @@ impl<S: Shelf + Drop> Session<S> {
     ) -> Result<Option<Reply>, Fault>
         ensures kept { KeepsAll (S.stored self.old.client.shelf) (S.next_id self.old.client.shelf)
             (S.stored self.new.client.shelf) (S.next_id self.new.client.shelf) }
+        ensures as_outdated { is_void self.new.invalidations self.new.under_way.by_token token
+            ≡ is_void self.old.invalidations self.old.under_way.by_token token }
         ensures under_way { KeepsUnderWay self.old.under_way self.new.under_way }
         ensures none { IfOk result (λ reply. IfSome reply (λ r. given_token r ≡ None)) }
         ensures reply { IfOk result (λ reply. IfSome reply (λ r. ¬ (IsRefusal r))) }
@@ -145,6 +149,8 @@ impl<S: Shelf + Drop> Session<S> {
 
     // Takes what was collected, unless it is too long with the last piece.
     fn take_coming(&mut self, token: u64, last: &Bytes) -> Result<Coming, Fault>
+        ensures as_outdated { is_void self.new.invalidations self.new.under_way.by_token token
+            ≡ is_void self.old.invalidations self.old.under_way.by_token token }
         ensures under_way { KeepsUnderWay self.old.under_way self.new.under_way }
         ensures client { self.new.client ≡ self.old.client }
     {
@@ -178,6 +184,8 @@ impl<S: Shelf + Drop> Session<S> {
             self.old.under_way.next_token self.new.under_way.next_token) }
         ensures rest { HasRest (view frame.line)
             → S.next_id self.new.client.shelf ≡ S.next_id self.old.client.shelf }
+        ensures outdated { is_void self.old.invalidations self.old.under_way.by_token token ≡ true
+            → S.next_id self.new.client.shelf ≡ S.next_id self.old.client.shelf }
         ensures reply { IfOk result (λ reply. ¬ (IsRefusal reply)) }
         ensures ends { IfOk result (λ reply. asks_for_body reply ≡ false) }
         ensures over { IfOk result (λ reply. Ends token reply
@@ -210,6 +218,7 @@ impl<S: Shelf + Drop> Session<S> {
         now: Timestamp,
     ) -> Result<Reply, Fault>
         ensures reply { IfOk result (IsReplyFor id) }
+        ensures plain { IfOk result IsPlain }
         ensures kept { self.new.client ≡ self.old.client }
         ensures given { IfOk result (λ reply. AddsGiven (given_token reply) id
             self.old.under_way self.new.under_way) }

@@ -1,11 +1,13 @@
 //! What is replied to the outcome of a request that the caller has sent.
-ghost use Rattle.std.specs.Prelude.{◌≡◌, true, false, None, IfOk, IfErr, IfSome, OnErr};
+ghost use Rattle.std.specs.Prelude.{◌≡◌, ◌≤◌, true, false, None, All, IfOk, IfErr, IfSome, OnErr};
 ghost use Rattle.http.specs.Response.{body_of};
 ghost use Rattle.serde_json.specs.View.{view};
 ghost use Rattle.http_cache_plans.specs.Plan.{IsElsewhere};
 ghost use Rattle.http_cache_storage.specs.Shelf.{KeepsAll};
+ghost use Rattle.http_cache_storage.specs.Target.{text_of};
 ghost use Rattle.http_cache_wire.specs.Wire.{IsRefused, IsRefusal, IsReplyFor, asks_for_body, given_token, HasRest};
 ghost use Rattle.http_cache_errands.specs.UnderWay.{id_at};
+ghost use Rattle.http_cache_errands.specs.Void.{is_void, last_invalidation, IsUnstorableAt};
 ghost use Rattle.http_cache_session.specs.Session.{AddsGiven, Ends, GivesNext, KeepsUnderWay};
 
 use crate::session::Session;
@@ -30,6 +32,10 @@ impl<S: Shelf + Drop> Session<S> {
     // Forbids to store the response to a request that is older than an invalidation of its target
     // (RFC 9111, section 4.4).
     pub(crate) fn forbid_if_invalidated(&mut self, token: u64)
+        ensures outdated { is_void self.old.invalidations self.old.under_way.by_token token ≡ true
+            → IsUnstorableAt self.new.under_way.by_token token }
+        ensures as_outdated { is_void self.new.invalidations self.new.under_way.by_token token
+            ≡ is_void self.old.invalidations self.old.under_way.by_token token }
         ensures under_way { KeepsUnderWay self.old.under_way self.new.under_way }
         ensures client { self.new.client ≡ self.old.client }
     {
@@ -56,6 +62,8 @@ impl<S: Shelf + Drop> Session<S> {
             (S.next_id self.old.client.shelf)
             (S.stored self.new.client.shelf) (S.next_id self.new.client.shelf)) }
         ensures rest { IsElsewhere (body_of response)
+            → S.next_id self.new.client.shelf ≡ S.next_id self.old.client.shelf }
+        ensures outdated { IsUnstorableAt self.old.under_way.by_token token
             → S.next_id self.new.client.shelf ≡ S.next_id self.old.client.shelf }
         ensures under_way { KeepsUnderWay self.old.under_way self.new.under_way }
     {
@@ -95,6 +103,8 @@ impl<S: Shelf + Drop> Session<S> {
 
     // Records the invalidation of targets. What was asked for before isn't stored any more.
     pub(crate) fn invalidate(&mut self, alloc: Global, targets: &[Target])
+        ensures recorded { All (λ target. self.old.under_way.next_token
+            ≤ last_invalidation self.new.invalidations (text_of target)) targets.now }
         ensures client { self.new.client ≡ self.old.client }
         ensures under_way { self.new.under_way ≡ self.old.under_way }
     {
@@ -188,6 +198,8 @@ impl<S: Shelf + Drop> Session<S> {
             (S.stored self.new.client.shelf) (S.next_id self.new.client.shelf)) }
         ensures rest { IsElsewhere (body_of response)
             → S.next_id self.new.client.shelf ≡ S.next_id self.old.client.shelf }
+        ensures outdated { is_void self.old.invalidations self.old.under_way.by_token token ≡ true
+            → S.next_id self.new.client.shelf ≡ S.next_id self.old.client.shelf }
         ensures under_way { IfErr result (λ fault. IsRefused fault
             → KeepsUnderWay self.old.under_way self.new.under_way) }
         ensures next { IfOk result (λ reply. GivesNext (given_token reply)
@@ -228,6 +240,8 @@ impl<S: Shelf + Drop> Session<S> {
             → KeepsAll (S.stored self.old.client.shelf) (S.next_id self.old.client.shelf)
             (S.stored self.new.client.shelf) (S.next_id self.new.client.shelf)) }
         ensures rest { HasRest (view frame.line)
+            → S.next_id self.new.client.shelf ≡ S.next_id self.old.client.shelf }
+        ensures outdated { is_void self.old.invalidations self.old.under_way.by_token token ≡ true
             → S.next_id self.new.client.shelf ≡ S.next_id self.old.client.shelf }
         ensures under_way { IfErr result (λ fault. IsRefused fault
             → KeepsUnderWay self.old.under_way self.new.under_way) }

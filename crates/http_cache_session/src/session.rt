@@ -4,10 +4,13 @@ ghost use Rattle.serde_json.specs.View.{view};
 ghost use Rattle.http_cache_frames.specs.Line.{number_under};
 ghost use Rattle.http_cache_storage.specs.Shelf.{KeepsAll};
 ghost use Rattle.http_cache_wire.specs.Wire.{IsRefused, IsRefusal, IsReplyFor, given_token, reply_id};
-ghost use Rattle.http_cache_wire.specs.Wire.{HandsOver, HasRest, asks_for_body};
+ghost use Rattle.http_cache_wire.specs.Wire.{HandsOver, HasRest, IsPlain, asks_for_body};
 ghost use Rattle.http_cache_session.specs.Session.{GivesNext, KeepsUnderWay, Ends};
-ghost use Rattle.http_cache_errands.specs.UnderWay.{id_at};
+ghost use Rattle.http_cache_session.specs.Session.{IsOnlyCheck, NamesUnderWay};
+ghost use Rattle.http_cache_errands.specs.UnderWay.{id_at, are_validating, validated_at};
+ghost use Rattle.http_cache_errands.specs.Void.{is_void};
 ghost use Rattle.http_cache_session.specs.State.{shelf_of, next_token, id_under_way};
+ghost use Rattle.http_cache_session.specs.State.{is_being_validated, is_outdated, validated_under_way};
 
 use http::{Method, Response};
 use http_cache_client::{Body, Client};
@@ -153,6 +156,18 @@ impl<S: Shelf + Drop> Session<S> {
         ensures reply { IfOk result (λ reply. ¬ (IsRefusal reply)) }
         ensures id { (id : ℕ) → operation ≡ Operation.Ask id
             → IfOk result (λ reply. reply_id reply ≡ Some id) }
+        ensures waits { (id : ℕ) → operation ≡ Operation.Ask id
+            → IfOk result (λ reply. NamesUnderWay reply (id_at self.old.under_way.by_token)) }
+        ensures only { (id : ℕ) → operation ≡ Operation.Ask id
+            → IfOk result (λ reply. IsOnlyCheck reply
+            (λ one. are_validating one self.old.under_way.by_token)
+            (validated_at self.new.under_way.by_token)) }
+        ensures outdated { (token : ℕ)
+            → (operation ≡ Operation.Received (Some token))
+            ⊎ (operation ≡ Operation.Failed (Some token))
+            ⊎ (operation ≡ Operation.Complete (Some token))
+            → is_void self.old.invalidations self.old.under_way.by_token token ≡ true
+            → S.next_id self.new.client.shelf ≡ S.next_id self.old.client.shelf }
         ensures over { (token : ℕ)
             → (operation ≡ Operation.Received (Some token))
             ⊎ (operation ≡ Operation.Failed (Some token))
@@ -190,6 +205,7 @@ impl<S: Shelf + Drop> Session<S> {
         ensures under_way { self.new.under_way ≡ self.old.under_way }
         ensures none { given_token result.reply ≡ None }
         ensures id { reply_id result.reply ≡ id }
+        ensures plain { IsPlain result.reply }
         ensures refusal { IsRefusal result.reply }
     {
         more(&mut self.counts.errors);
@@ -230,7 +246,17 @@ impl<S: Shelf + Drop> Session<S> {
         ensures id { IfOk result (λ turn. (id : ℕ)
             → number_under (codes "ask") (view frame.line) ≡ Some id
             → reply_id turn.reply ≡ Some id) }
+        ensures waits { IfOk result (λ turn. (id : ℕ)
+            → number_under (codes "ask") (view frame.line) ≡ Some id
+            → NamesUnderWay turn.reply (id_under_way self.old)) }
+        ensures only { IfOk result (λ turn. (id : ℕ)
+            → number_under (codes "ask") (view frame.line) ≡ Some id
+            → IsOnlyCheck turn.reply (is_being_validated self.old)
+            (validated_under_way self.new)) }
         ensures rest { HasRest (view frame.line)
+            → S.next_id (shelf_of self.new) ≡ S.next_id (shelf_of self.old) }
+        ensures outdated { (token : ℕ) → HandsOver (view frame.line) token
+            → is_outdated self.old token ≡ true
             → S.next_id (shelf_of self.new) ≡ S.next_id (shelf_of self.old) }
     {
         more(&mut self.counts.frames);

@@ -84,6 +84,24 @@ asks_for_body (reply.Notice said) = asks_for_body_by said
 asks_for_body (reply.Collect id token most head body) = true
 asks_for_body _ = false
 
+abbrev pub notice_waits_for : Notice → Option ℕ
+notice_waits_for (notice.Wait id token) = Some token
+notice_waits_for _ = None
+
+-- the request for whose end the reply says to wait
+abbrev pub waits_for : Reply → Option ℕ
+waits_for (reply.Notice said) = notice_waits_for said
+waits_for _ = None
+
+-- the validation to send after the reply has answered with a stale response
+abbrev pub later_check : Reply → Option ℕ
+later_check (reply.Stale id token head body request) = Some token
+later_check _ = None
+
+-- the reply neither says to wait nor asks for a validation after an answer
+abbrev pub IsPlain : Reply → Type 0
+IsPlain r = (waits_for r ≡ None) × (later_check r ≡ None)
+
 -- the reply has this id, refuses nothing, and asks for no body
 abbrev pub IsReplyFor : ℕ → Reply → Type 0
 IsReplyFor id r = (reply_id r ≡ Some id) × ¬ (IsRefusal r) × (asks_for_body r ≡ false)

@@ -1,6 +1,7 @@
 //! Writes messages for replies.
 ghost use Rattle.std.specs.Prelude.{◌≡◌, Some, None, true};
-ghost use Rattle.http_cache_wire.specs.Wire.{IsReplyFor, asks_for_body, given_token};
+ghost use Rattle.http_cache_wire.specs.Wire.{IsPlain, IsReplyFor, asks_for_body, given_token};
+ghost use Rattle.http_cache_wire.specs.Wire.{later_check, waits_for};
 
 use bytes::Bytes;
 use http::{Method, Request, Response, StatusCode, request, response};
@@ -25,6 +26,7 @@ impl Written {
     pub fn answer(self, id: u64) -> Reply
         ensures none { given_token result ≡ None }
         ensures reply { IsReplyFor id result }
+        ensures plain { IsPlain result }
     {
         let Written { head, body } = self;
         Reply::Answer { id, head, body }
@@ -49,6 +51,8 @@ impl Written {
     pub fn stale(self, id: u64, token: u64, check: Written) -> Reply
         ensures given { given_token result ≡ Some token }
         ensures reply { IsReplyFor id result }
+        ensures no_wait { waits_for result ≡ None }
+        ensures later { later_check result ≡ Some token }
     {
         let Written { head, body } = self;
         Reply::Stale {
@@ -64,6 +68,7 @@ impl Written {
     pub fn send(self, id: u64, token: u64) -> Reply
         ensures given { given_token result ≡ Some token }
         ensures reply { IsReplyFor id result }
+        ensures plain { IsPlain result }
     {
         let Written { head, body } = self;
         Reply::Send {

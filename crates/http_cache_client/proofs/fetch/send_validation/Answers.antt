@@ -12,7 +12,7 @@ returns-clause-response g c =
     let validating : IsValidating c.from_parts-asking.result = record {
       no_body = c.from_parts-asking.ensures.body ∙ c.new.ensures;
       stored = c.requires.0;
-      clean = subst IsCleanHead (sym (c.from_parts-asking.ensures.head ∙ c.take_request.ensures)) c.requires.1;
+      clean = subst IsCleanHead (sym (c.from_parts-asking.ensures.head ∙ c.take_request.ensures.taken)) c.requires.1;
     } in
     (elim c.send.result as (λ r. IfOk r (λ received. g.O.Origin.sent c.args.origin.now c.from_parts-asking.result
     (Some (received.0, received.1.nanosecond)) c.send.new.self)
@@ -32,7 +32,7 @@ returns-clause-no_response g c =
     let validating : IsValidating c.from_parts-asking.result = record {
       no_body = c.from_parts-asking.ensures.body ∙ c.new.ensures;
       stored = c.requires.0;
-      clean = subst IsCleanHead (sym (c.from_parts-asking.ensures.head ∙ c.take_request.ensures)) c.requires.1;
+      clean = subst IsCleanHead (sym (c.from_parts-asking.ensures.head ∙ c.take_request.ensures.taken)) c.requires.1;
     } in
     (elim c.send.result as (λ r. OnErr r (g.O.Origin.sent c.args.origin.now c.from_parts-asking.result None
     c.send.new.self)

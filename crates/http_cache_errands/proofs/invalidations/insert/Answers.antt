@@ -1,5 +1,5 @@
 -- An insertion changes the token of one text only.
-use Rattle.std.proofs.Common.{rules, ◌≡◌, ◌⊎◌, ℕ, List, Bool, true, false, Option, Some, cond, bytes_eq, string_bytes, unwrap_or, subst, sym, refl, inl, inr}
+use Rattle.std.proofs.Common.{rules, ◌≡◌, ◌⊎◌, ℕ, Bool, true, false, Option, Some, cond, bytes_eq, string_bytes, unwrap_or, subst, sym, refl, inl, inr}
 use Rattle.std.specs.BTreeMap.{get_by_text}
 use Rattle.std.proofs.lemmas.Map.Text.{btree_map_updates_text}
 use Rattle.http_cache_errands.proofs.invalidations.insert.Goals as goal
