@@ -342,32 +342,44 @@ class Copy:
         """Returns whether all bytes of a body of known length are there."""
         return self.length in (None, self.total)
 
+    @property
+    def is_too_long(self) -> bool:
+        return self.total > self._most
+
     def add(self, piece: bytes) -> bool:
         """Adds bytes, and returns whether `hand_over` has something to do."""
         self._pieces.append(piece)
         self._held += len(piece)
         self.total += len(piece)
-        return self._held >= self._batch_size or self.total > self._most
+        return self._held >= self._batch_size or self.is_too_long
 
     def _batch(self) -> bytes:
         batch, self._pieces, self._held = b"".join(self._pieces), [], 0
         return batch
 
     def hand_over(self) -> Steps[None]:
-        """Hands over what was added. Ends a copy that is too long, or that the process doesn't want."""
+        """Hands over what was added. Ends a copy that the process doesn't want, or that is too long if there is an answer."""
         batch = self._batch()
         try:
-            if self.total > self._most:
+            if not self.is_too_long:
+                yield partial(self._cache.part, self._of, batch)
+            elif isinstance(self._of, Answer):
                 yield from self.failed("")
-                return
-            yield partial(self._cache.part, self._of, batch)
         except CacheError:
             self.abandon()
 
     def complete(self) -> Steps[Outcome]:
         """Has the process store the body, which is whole. Raises `CacheError`."""
+        return (yield from self._last(partial(self._cache.complete, self._of, self._batch())))
+
+    def passed_on(self, send: Send, received: Received) -> Steps[Outcome]:
+        """Hands the response over again after a `More`, without its body, which is too long. Raises `CacheError`."""
+        times, rest = (received.sent, received.at), received.length or True
+        return (yield from self._last(partial(self._cache.received, send, received.head(), b"", *times, rest)))
+
+    def _last(self, call: Callable[[], Any]) -> Steps[Outcome]:
         try:
-            found: Outcome = yield partial(self._cache.complete, self._of, self._batch())
+            found: Outcome = yield call
         except CacheError:
             self.abandon()
             raise
@@ -511,12 +523,17 @@ class Exchange:
         except CacheError as error:
             return (yield from self._unseen(cache, send, received, error))
         if isinstance(found, More):
-            return (yield from self._collected(Copy(self._access, cache, found, found.store, received), received))
+            copy = Copy(self._access, cache, found, found.store, received)
+            return (yield from self._collected(cache, send, copy, received))
+        return (yield from self._decided(cache, found, received))
+
+    def _decided(self, cache: Any, found: Outcome, received: Received, start: bytes = b"") -> Steps[Union[Reply, Send]]:
+        """Returns what follows from an outcome for a response, of whose body `start` was read."""
         copy = None
         if isinstance(found, Answer) and found.store is not None:
             copy = Copy(self._access, cache, found, found.store, received)
         if isinstance(found, Answer) and found.rest:
-            return Reply(found, received, copy)
+            return Reply(found, received, copy, start)
         if copy:
             self._origin.later(self._drained(copy, received))
         else:
@@ -535,7 +552,7 @@ class Exchange:
 
     def _read(self, copy: Copy, received: Received, pieces: List[bytes]) -> Steps[bool]:
         """Reads a body into the copy and the list, while the copy is wanted. Returns whether the body is at its end."""
-        while copy.is_open:
+        while copy.is_open and not copy.is_too_long:
             piece = yield partial(self._origin.read, received, PIECE)
             if not piece:
                 return True
@@ -544,7 +561,7 @@ class Exchange:
                 yield from copy.hand_over()
         return False
 
-    def _collected(self, copy: Copy, received: Received) -> Steps[Reply]:
+    def _collected(self, cache: Any, send: Send, copy: Copy, received: Received) -> Steps[Union[Reply, Send]]:
         """Reads a body before anything is answered, since a stored response may be used if it is cut off."""
         pieces: List[bytes] = []
         error: Optional[Exception] = None
@@ -552,11 +569,14 @@ class Exchange:
             is_read = yield from self._read(copy, received, pieces)
         except self._origin.failures as failure:
             is_read, error = True, failure
-        unanswered = Reply(None, received, None, b"".join(pieces), is_read, error)
-        if not is_read:
-            return self._unanswered(unanswered)
-        is_whole = error is None and copy.is_whole
+        start, is_whole = b"".join(pieces), is_read and error is None and copy.is_whole
+        unanswered = Reply(None, received, None, start, is_read, error)
         try:
+            if copy.is_too_long:
+                found = yield from copy.passed_on(send, received)
+                return (yield from self._decided(cache, found, received, start))
+            if not is_read:
+                return self._unanswered(unanswered)
             found = yield from copy.complete() if is_whole else copy.failed(self._why(error) if error else "invalid")
         except CacheError:
             return self._unanswered(unanswered)

@@ -119,15 +119,20 @@ class Forward:
     async def _handed_over(self, send: Send, response: Response) -> Outcome:
         cache, times = self.by.cache, (response.sent, response.at)
         if response.has_ended or await self._is_there(response):
-            return await cache.received(send, response.head, response.start, *times, pieces=PIECE)
+            return self._settled(await cache.received(send, response.head, response.start, *times, pieces=PIECE))
         length = True if response.length is None else response.length
         collect = self.by.room.has_room_for_copy(response.length or PIECE)
         found = await cache.received(send, response.head, b"", *times, length, collect, PIECE)
         if isinstance(found, More):
-            return await self._collected(found, response)
+            return await self._collected(send, found, response)
         if isinstance(found, Answer) and found.store is not None:
             self.copy = Copy(cache, self.by.room, found, found.store)
-        elif not (isinstance(found, Answer) and found.rest):
+            return found
+        return self._settled(found)
+
+    def _settled(self, found: Outcome) -> Outcome:
+        """Returns an outcome, and ends the exchange if that doesn't need the body."""
+        if not (isinstance(found, Answer) and found.rest):
             self.close()
         return found
 
@@ -141,30 +146,33 @@ class Forward:
         finally:
             room.give(PIECE)
 
-    async def _collected(self, more: More, response: Response) -> Outcome:
+    async def _collected(self, send: Send, more: More, response: Response) -> Outcome:
         """Collects a body before anything is answered, and returns what the process decides.
 
-        It isn't dropped for want of room, since there would be no answer then.
+        The response is handed over again to be passed on, with what was read of its body, if that is too long, or if there is no
+        room for a copy.
         """
-        cache, room, left, held, why = self.by.cache, self.by.room, more.store, 0, ""
+        cache, room, copied = self.by.cache, self.by.room, 0
+        response.keep()
         try:
             piece = await response.piece()
-            while not response.has_ended and len(piece) <= left:
-                room.take(len(piece))
-                held, left = held + len(piece), left - len(piece)
+            while not response.has_ended and copied + len(piece) <= more.store and room.take_for_copy(len(piece)):
+                copied += len(piece)
                 await cache.part(more, piece)
                 piece = await response.piece()
-            if response.has_ended and len(piece) <= left:
-                return await cache.complete(more, piece, PIECE)
+            if response.has_ended and copied + len(piece) <= more.store:
+                return self._settled(await cache.complete(more, piece, PIECE))
+            length, times = response.length or True, (response.sent, response.at)
+            return self._settled(await cache.received(send, response.head, b"", *times, length, pieces=PIECE))
         except LOST as error:
-            self.by.note(error)
-            why = "invalid" if isinstance(error, BadMessage) else "none"
-        finally:
-            room.give(held)
             self.close()
             # Part of its body was read, so it is of no use any more.
             self.response = None
-        return await cache.failed(more, why, pieces=PIECE)
+            self.by.note(error)
+            return await cache.failed(more, "invalid" if isinstance(error, BadMessage) else "none", pieces=PIECE)
+        finally:
+            room.give(copied)
+            response.rewind()
 
     def close(self) -> None:
         """Ends the exchange with the origin server, if there is one."""

@@ -180,9 +180,11 @@ class Response:
         self.length = _length_of(self.fields, method, self.status)
         self.trailer: Fields = []
         self.upload: Optional[asyncio.Task[None]] = None
-        # What was read ahead of the body, and whether it is read to its end.
-        self.start = b""
-        self.has_ended = False
+        # What was read ahead of the body, and what `piece` has returned that is kept. Both are counted as memory.
+        self._ahead = bytearray()
+        self._kept: Optional[bytearray] = None
+        self._counted = 0
+        self._is_read = False
         self._server, self._peer = server, peer
         if self.length == 0:
             self._finish(peer.ready())
@@ -192,8 +194,18 @@ class Response:
         """Returns the head as frames have it."""
         return self._first_line + b"".join(b"%s: %s\r\n" % field for field in self.fields) + b"\r\n"
 
+    @property
+    def start(self) -> bytes:
+        """Returns what was read ahead of the body."""
+        return bytes(self._ahead)
+
+    @property
+    def has_ended(self) -> bool:
+        """Returns whether `piece` has returned the whole body."""
+        return self._is_read and not self._ahead
+
     def _finish(self, event: Any) -> None:
-        self.has_ended = True
+        self._is_read = True
         if isinstance(event, h11.EndOfMessage):
             self.trailer = for_trailer(event.headers.raw_items())
         self._server.keep(self._peer)
@@ -211,9 +223,36 @@ class Response:
 
         Raises `OSError`, or `BadMessage` if the body is cut off or malformed, or stalls for the idle time.
         """
-        if self.start or self.has_ended:
-            piece, self.start = self.start, b""
-            return piece
+        piece = self._piece_ahead() if self._ahead or self._is_read else await self._read()
+        if self._kept is not None:
+            self._kept += piece
+            self._count(len(piece))
+        return piece
+
+    def _piece_ahead(self) -> bytes:
+        piece = bytes(self._ahead[:PIECE])
+        del self._ahead[:PIECE]
+        # A response that is closed is counted no longer.
+        self._count(-min(len(piece), self._counted))
+        return piece
+
+    def _count(self, change: int) -> None:
+        self._counted += change
+        if change > 0:
+            self._peer.room.take(change)
+        else:
+            self._peer.room.give(-change)
+
+    def keep(self) -> None:
+        """Keeps what `piece` returns from now on."""
+        self._kept = bytearray()
+
+    def rewind(self) -> None:
+        """Has `piece` return again what was kept."""
+        if self._kept is not None:
+            self._ahead, self._kept = self._kept + self._ahead, None
+
+    async def _read(self) -> bytes:
         peer = self._peer
         try:
             event = await peer.event(peer.loop.time() + peer.idle)
@@ -222,7 +261,7 @@ class Response:
         parts = [self._take(event)]
         length = len(parts[0])
         # Of many small chunks, which are there already, a piece is made.
-        while not self.has_ended and length < PIECE and peer.unread:
+        while not self._is_read and length < PIECE and peer.unread:
             try:
                 event = peer.ready()
             except BadMessage:
@@ -237,16 +276,18 @@ class Response:
     async def read_ahead(self, most: int, seconds: float) -> bool:
         """Reads on for so many seconds, and returns whether `start` is the whole body, of at most `most` bytes."""
         due = self._peer.loop.time() + seconds
-        while not self.has_ended and len(self.start) <= most:
+        while not self._is_read and len(self._ahead) <= most:
             event = self._peer.ready()
             if event is not h11.NEED_DATA:
-                self.start += self._take(event)
+                piece = self._take(event)
+                self._ahead += piece
+                self._count(len(piece))
                 continue
             try:
                 await self._peer.more(due)
             except asyncio.TimeoutError:
                 return False
-        return self.has_ended and len(self.start) <= most
+        return self._is_read and len(self._ahead) <= most
 
     def end_upload(self) -> None:
         """Reads no more of the body of the request."""
@@ -256,7 +297,8 @@ class Response:
     def close(self) -> None:
         """Ends the exchange, and closes the connection, unless the pool has it because the response has ended."""
         self.end_upload()
-        if not self.has_ended:
+        self._count(-self._counted)
+        if not self._is_read:
             self._peer.close()
 
 

@@ -90,9 +90,12 @@ class Proxy(Forwarder):
     async def validate(self, due: Send) -> None:
         """Sends a validation that nobody waits for."""
         forward, found = Forward(self, None), cast(Outcome, due)
-        with contextlib.suppress(CacheError):
-            while isinstance(found, Send):
-                found = await forward.outcome(found)
+        try:
+            with contextlib.suppress(CacheError):
+                while isinstance(found, Send):
+                    found = await forward.outcome(found)
+        finally:
+            forward.close()
 
     async def stop(self) -> None:
         """Ends idle connections at once, and the others after their requests under way."""

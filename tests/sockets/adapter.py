@@ -357,13 +357,32 @@ class Streams(unittest.TestCase):
     def test_a_body_is_passed_on_if_it_turns_out_too_long(self):
         adapter = CacheAdapter(process=ProcessOptions(private=True, stored_body=20_000))
         with session_with(adapter) as session:
-            lengths = []
-            for path in ("/stale/chunks/longer-later", "/stale/chunks/longer-later", "/fresh/chunks/30000"):
-                got = session.get(self.origin.base + path, timeout=5)
-                lengths.append((got.from_cache, len(got.content)))
-            self.assertEqual(lengths, [(False, 10_000), (False, 30_000), (False, 30_000)])
+            got = [session.get(self.origin.base + "/stale/chunks/longer-later", timeout=5) for _ in range(2)]
+            self.assertEqual([(it.from_cache, it.content) for it in got], [(False, PIECE * 10), (False, PIECE * 30)])
+            # The process has decided on the response, and the stale one isn't stored any more.
+            self.assertIn("fwd=stale; fwd-status=200", got[1].headers["Cache-Status"])
             stats = adapter.cache.stats()
-            self.assertEqual((stats["responses"], stats["under_way"]), (1, 0))
+            self.assertEqual((stats["responses"], stats["under_way"]), (0, 0))
+            got = session.get(self.origin.base + "/fresh/chunks/30000", timeout=5)
+            self.assertEqual((got.from_cache, got.content, adapter.cache.stats()["under_way"]), (False, PIECE * 30, 0))
+
+    def test_a_body_that_turned_out_too_long_may_still_be_cut(self):
+        def answer(request):
+            is_first = values(request["headers"], "if-none-match") == []
+            yield b"HTTP/1.1 200 OK\r\n%sTransfer-Encoding: chunked\r\n\r\n" % STALE
+            yield from [CHUNK] * (10 if is_first else 300)
+            yield b"0\r\n\r\n" if is_first else None
+
+        self.origin.answer = answer
+        adapter = CacheAdapter(process=ProcessOptions(private=True, stored_body=20_000))
+        with session_with(adapter) as session:
+            session.get(self.origin.base, timeout=5)
+            got, pieces = session.get(self.origin.base, timeout=5, stream=True), []
+            with self.assertRaises(requests.exceptions.ChunkedEncodingError):
+                pieces.extend(got.iter_content(1000))
+            body = b"".join(pieces)
+            self.assertEqual((got.from_cache, len(body) >= 65_536, set(body)), (False, True, {ord("x")}))
+            self.assertEqual(adapter.cache.stats()["under_way"], 0)
 
     def test_a_body_that_isnt_the_answer_is_stored(self):
         count = itertools.count(1)

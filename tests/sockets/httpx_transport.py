@@ -17,7 +17,7 @@ import unittest
 import httpx
 from http_cache_semantics.process import AsyncCache, ProcessOptions, ProgramNotFound, StoreNotOpened
 from http_cache_semantics.transport import AsyncCacheTransport, CacheTransport
-from scenario_origin import PAGES, TEXT, ZIPPED, answer
+from scenario_origin import PAGES, TEXT, ZIPPED, answer, chunked
 from started import ROOT, children
 from stream_origin import StreamOrigin
 
@@ -264,6 +264,29 @@ class Transports:
         self.assertEqual([next(pieces) for _ in range(3)], [b"data: 0\n\n", b"data: 1\n\n", b"data: 2\n\n"])
         self.client.close(response)
         self.assertEqual(self.state(), (0, 0))
+
+    def test_a_body_that_turns_out_too_long_replaces_a_stale_one(self):
+        # Each number is in one place of the new body.
+        new = b"".join(b"%07d\n" % number for number in range(30_000))
+
+        def answer(request):
+            is_first = not any(name.lower() == "if-none-match" for name, _ in request["headers"])
+            body = b"old" if is_first else new
+            pieces = [body[at : at + 10_000] for at in range(0, len(body), 10_000)]
+            return chunked(b'Cache-Control: max-age=0, stale-if-error=60\r\nETag: "a"\r\n', *pieces)
+
+        self.origin.answer = answer
+        for most in (100_000, len(new) - 1, len(new)):
+            options = ProcessOptions(private=True, name="httpx", stored_body=most)
+            client = self.made(lambda: type(self.client.transport)(process=options))
+            first = client.request("GET", self.origin.base + "/")
+            again = client.opened(self.origin.base + "/")
+            self.assertEqual((first.content, b"".join(client.pieces(again)) == new), (b"old", True))
+            self.assertEqual((again.extensions["from_cache"], again.reason_phrase), (False, "OK"))
+            self.assertIn("httpx; fwd=stale; fwd-status=200", again.headers["Cache-Status"])
+            stats = client.stats()
+            self.assertEqual((stats["responses"], stats["under_way"]), (int(most == len(new)), 0))
+            client.close()
 
     def test_what_isnt_read_isnt_stored(self):
         response = self.client.opened(self.origin.base + "/long")

@@ -1,4 +1,5 @@
 """Tests bodies that stream through the proxy in both directions, what is stored of them, and what memory they take."""
+import itertools
 import socket
 import threading
 import time
@@ -151,6 +152,38 @@ class Responses(ProxyTest):
             found = [self.ask(b"/cut")[::2] for _ in range(3)]
         self.assertEqual(found, [(200, b"old"), (200, b"new page"), (200, b"new page")])
         self.assertEqual(self.origin.count(b"/cut"), 3)
+
+    def test_a_page_that_turns_out_too_long_replaces_a_stale_one(self):
+        grown = {b"/grown": (0.0, 0.03), b"/grown-until-close": (0.03, 0.0)}
+        old = response(b"old", b"Cache-Control: max-age=1, stale-if-error=60", b'ETag: "1"')
+
+        def answer(turn):
+            path = turn.head.split(b" ")[1]
+            if self.origin.count(path) == 1:
+                return old
+            is_chunked, pauses = path == b"/grown", itertools.cycle(grown[path])
+            turn.write(CHUNKED if is_chunked else b"HTTP/1.1 200 OK\r\nCache-Control: max-age=600\r\n\r\n")
+            for at in range(0, len(LONG), 50_000):
+                time.sleep(next(pauses))
+                piece = LONG[at : at + 50_000]
+                turn.write(chunk(piece) if is_chunked else piece)
+            if is_chunked:
+                return b"0\r\n\r\n"
+
+        for path in grown:
+            self.origin.answers[path] = answer
+        for most in (100_000, len(LONG) - 1):
+            self.origin.asked.clear()
+            with self.proxy(f"--stored-body={most}"):
+                for path in grown:
+                    self.ask(path)
+                time.sleep(2)
+                for path in grown:
+                    # The stale page isn't stored any more then.
+                    for number, reason in ((2, b"stale"), (3, b"uri-miss")):
+                        head, body = self.whole(path)
+                        self.assertEqual((path, most, body == LONG, self.origin.count(path)), (path, most, True, number))
+                        self.assertIn(b"cache-status: cacheserve; fwd=%s; fwd-status=200" % reason, head)
 
     def test_a_slow_client_gets_a_stored_page_in_pieces(self):
         with self.proxy() as run, Client(self.port) as client:
@@ -317,6 +350,31 @@ class Memory(ProxyTest):
         with self.proxy("--memory=1000000"):
             heads = [self.ask(b"/page")[1:] for _ in range(2)]
         self.assertEqual([(is_hit(head), len(body)) for head, body in heads], [(False, MEGABYTE)] * 2)
+
+    def test_pages_that_are_collected_before_they_are_answered(self):
+        # Each has room for a copy when it begins, and together they haven't.
+        old = response(b"old", b"Cache-Control: max-age=1, stale-if-error=60")
+
+        def answer(turn):
+            path = turn.head.split(b" ")[1]
+            if self.origin.count(path) == 1:
+                return old
+            turn.write(b"HTTP/1.1 200 OK\r\nContent-Length: 600000\r\n\r\n")
+            for _ in range(6):
+                time.sleep(0.1)
+                turn.write(b"x" * 100_000)
+            return b""
+
+        paths = [b"/%d" % number for number in range(6)]
+        self.origin.answers.update(dict.fromkeys(paths, answer))
+        with self.proxy("--memory=1000000", "--idle=3"), ThreadPoolExecutor(6) as pool:
+            for path in paths:
+                self.ask(path)
+            time.sleep(2)
+            begun = time.monotonic()
+            bodies = [body for _, _, body in pool.map(self.ask, paths)]
+            self.assertLess(time.monotonic() - begun, 2.5)
+        self.assertEqual([len(body) for body in bodies], [600_000] * 6)
 
     def test_clients_that_send_and_do_not_read_are_held_up(self):
         held = threading.Event()
