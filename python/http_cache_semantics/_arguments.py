@@ -93,6 +93,7 @@ def parsed(description: Optional[str], words: Optional[Sequence[str]] = None) ->
     add("--log", action="store_true", help="write a line for each request to standard output")
     add("--timeout", type=_seconds, default=30.0, metavar="SECONDS", help="the wait for a response head (30)")
     add("--idle", type=_seconds, default=60.0, metavar="SECONDS", help="the longest silence in a body, or of a client (60)")
+    add("--cache-timeout", type=_seconds, default=30.0, metavar="SECONDS", help="the wait for a reply of cacheserve (30)")
     add("--memory", type=_memory, default=268_435_456, metavar="BYTES", help="for bodies that are on their way (268435456)")
     add("--collapse", action="store_true", help="let requests for one page wait for the first, if that may be stored")
     add("--name", help="the proxy's name in Via and Cache-Status (cacheserve)")

@@ -22,6 +22,7 @@ from functools import cached_property, partial
 from http.client import responses as REASONS
 from typing import Any, Callable, Deque, Dict, Generator, Iterable, List, Optional, Protocol, Set, Tuple, Type, TypeVar, Union
 
+from ._frames import checked_timeout
 from .process import Answer, Cache, CacheError, CacheGone, More, Outcome, ProcessOptions, Send, StoreNotOpened, UnderWay
 
 Fields = List[Tuple[str, str]]
@@ -284,15 +285,16 @@ class Access:
 class BlockingAccess(Access):
     """Access to a process for code that blocks. After a fork another process is started."""
 
-    def __init__(self, options: ProcessOptions) -> None:
+    def __init__(self, options: ProcessOptions, timeout: float) -> None:
+        """Raises `ValueError` if `timeout` isn't a positive number."""
         super().__init__(self._open, os.getpid)
-        self._options = options
+        self._options, self._timeout = options, checked_timeout(timeout, "cache_timeout")
         # A lock for each process, since a fork copies one that another thread may hold.
         self._locks: Dict[int, threading.Lock] = {}
 
     def _open(self) -> Any:
         with self._locks.setdefault(os.getpid(), threading.Lock()):
-            return self.mine() or self.keep(Cache(self._options))
+            return self.mine() or self.keep(Cache(self._options, self._timeout))
 
     def start(self) -> None:
         """Starts the process, unless that isn't possible now."""

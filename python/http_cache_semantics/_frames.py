@@ -2,11 +2,15 @@
 from __future__ import annotations
 
 import json
+import math
 import time
+from collections import deque
 from dataclasses import dataclass
-from typing import Any, Callable, Dict, Generic, NamedTuple, NoReturn, Optional, Tuple, TypeVar, Union
+from typing import Any, Callable, Deque, Dict, Generic, NamedTuple, NoReturn, Optional, Tuple, TypeVar, Union
 
 PROTOCOL = 1
+# How many seconds a reply may take, unless the caller says otherwise.
+REPLY_SECONDS = 30.0
 # The exit status of a process whose file can't be opened.
 _FILE_NOT_OPENED = 6
 # These are made once, since `json.dumps` and `json.loads` with options look for them at each call.
@@ -32,7 +36,7 @@ class NoResponse(CacheError):
 
 
 class CacheGone(CacheError):
-    """Raised if the process has ended. Frames that it hasn't answered get no reply, and its requests under way are lost."""
+    """Raised if the process has ended, or was ended since it didn't reply in time. Its requests under way are lost."""
 
 
 class StoreNotOpened(CacheGone):
@@ -133,13 +137,67 @@ def bytes_of(line: Dict[str, Any], head: bytes, body: bytes) -> bytes:
     return b"%s\n%s%s" % (_encoded(line).encode(), head, body)
 
 
-def line_of(text: bytes) -> Dict[str, Any]:
-    line: Dict[str, Any] = _decoded(text.decode())
-    return line
+class FrameReader:
+    """Reads frames from the bytes that the process writes."""
+
+    def __init__(self) -> None:
+        # What was fed, from the index `_at` of the first on. A long body is joined once.
+        self._fed: Deque[bytes] = deque()
+        self._at = self._unread = 0
+        self._line: Optional[Dict[str, Any]] = None
+
+    def feed(self, data: bytes) -> None:
+        self._fed.append(data)
+        self._unread += len(data)
+
+    def next(self) -> Optional[Frame]:
+        """Returns the next frame, or None if it isn't whole. Raises `CacheGone` if a line is none of a frame."""
+        if self._line is None:
+            length = self._line_length()
+            if not length:
+                return None
+            self._line = _line_of(self._taken(length))
+        line = self._line
+        head, body, request = line.get("head", 0), line.get("body", 0), line.get("request", 0)
+        if self._unread < head + body + request:
+            return None
+        self._line = None
+        return Frame(line, self._taken(head), self._taken(body), self._taken(request))
+
+    def _line_length(self) -> int:
+        """Returns the length of the line that is next, or 0 if it isn't whole."""
+        while self._fed:
+            end = self._fed[0].find(b"\n", self._at)
+            if end >= 0:
+                return end + 1 - self._at
+            if len(self._fed) == 1:
+                break
+            self._fed.appendleft(self._fed.popleft() + self._fed.popleft())
+        return 0
+
+    def _taken(self, count: int) -> bytes:
+        self._unread -= count
+        parts = []
+        while count:
+            first = self._fed[0]
+            parts.append(first[self._at : self._at + count])
+            count -= len(parts[-1])
+            self._at += len(parts[-1])
+            if self._at == len(first):
+                self._fed.popleft()
+                self._at = 0
+        return b"".join(parts)
 
 
-def lengths_of(line: Dict[str, Any]) -> Tuple[int, int, int]:
-    return line.get("head", 0), line.get("body", 0), line.get("request", 0)
+def _line_of(text: bytes) -> Dict[str, Any]:
+    try:
+        line = _decoded(text.decode())
+        if isinstance(line, dict):
+            return line
+    except ValueError:
+        pass
+    shown = text[:80].decode(errors="replace").strip()
+    raise CacheGone(f"the program cacheserve wrote a line that isn't one of a frame: {shown!r}")
 
 
 def time_or_now(at: Optional[int]) -> int:
@@ -270,6 +328,19 @@ class Waits(Generic[Signal]):
 def check_protocol(line: Dict[str, Any]) -> None:
     if line.get("protocol") != PROTOCOL:
         raise CacheError(f"the process speaks protocol {line.get('protocol')}, not {PROTOCOL}")
+
+
+def checked_timeout(seconds: float, name: str = "timeout") -> float:
+    """Returns a time limit. Raises `ValueError` unless it is a positive number."""
+    is_number = isinstance(seconds, (int, float)) and not isinstance(seconds, bool)
+    if not is_number or not 0 < seconds < math.inf:
+        raise ValueError(f"{name} isn't a positive number of seconds: {seconds!r}")
+    return seconds
+
+
+def no_reply(seconds: float) -> CacheGone:
+    """Returns the exception for a process that hasn't replied for so many seconds."""
+    return CacheGone(f"cacheserve hasn't replied for {seconds:g} s")
 
 
 def gone(status: Optional[int], stderr: bytes) -> CacheGone:

@@ -23,7 +23,7 @@ from urllib3._collections import HTTPHeaderDict
 from urllib3.exceptions import HTTPError
 
 from ._exchange import PIECE, Asked, BlockingAccess, Body, Exchange, Received, Reply, Steps, run, run_beside, text_of
-from .process import Cache, ProcessOptions, Send, now_ms
+from .process import REPLY_SECONDS, Cache, ProcessOptions, Send, now_ms
 
 
 class CacheAdapter(HTTPAdapter):
@@ -33,23 +33,27 @@ class CacheAdapter(HTTPAdapter):
     its own, and so has the adapter after a fork. Of several that name one file, only the first uses it.
     """
 
-    __attrs__ = [*HTTPAdapter.__attrs__, "_process"]
+    __attrs__ = [*HTTPAdapter.__attrs__, "_process", "_cache_timeout"]
 
     def __init__(
         self,
         file: Optional[str] = None,
         process: ProcessOptions = ProcessOptions(private=True, name="requests"),
+        cache_timeout: float = REPLY_SECONDS,
         **options: Any,
     ) -> None:
-        """Starts the process. With a file, stored responses outlive it. `options` are the options of `HTTPAdapter`."""
+        """Starts the process. With a file, stored responses outlive it. `options` are the options of `HTTPAdapter`.
+
+        A process that hasn't replied for `cache_timeout` seconds is killed. Raises `ValueError` if that isn't a positive number.
+        """
         super().__init__(**options)
-        self._process = replace(process, file=file or process.file)
-        self._access = BlockingAccess(self._process)
+        self._process, self._cache_timeout = replace(process, file=file or process.file), cache_timeout
+        self._access = BlockingAccess(self._process, cache_timeout)
         self._access.start()
 
     def __setstate__(self, state: Dict[str, Any]) -> None:
         super().__setstate__(state)  # type: ignore[misc]
-        self._access = BlockingAccess(self._process)
+        self._access = BlockingAccess(self._process, self._cache_timeout)
 
     @property
     def cache(self) -> Cache:

@@ -28,8 +28,11 @@ class Keeper:
         self._task: Optional[asyncio.Task[None]] = None
 
     def lost(self, error: CacheError) -> None:
-        """Begins to start the process again, after it has ended or hasn't started. The log gets one line until it runs."""
-        if self.is_up:
+        """Begins to start the process again, after it has ended or hasn't started. The log gets one line until it runs.
+
+        A request may have been under way in an earlier process than the one that runs.
+        """
+        if self.is_up and not self.cache.is_running:
             self.is_up = False
             self._say(f"no cache, so requests are forwarded: {error}")
             self._task = asyncio.ensure_future(self._start_again())

@@ -12,26 +12,28 @@ A caller that streams passes `rest` and `collect`, and hands over a copy of the 
 ends by `failed`.
 
 The process replies to each frame with one frame, in order. `Cache` writes a frame and reads its reply under a lock, and
-`AsyncCache` reads whenever it can, so full pipes never make both sides wait. If the process has ended, the next request starts
-another, with the responses of its file. A `Send` of the old process is then refused.
+`AsyncCache` reads whenever it can, so full pipes never make both sides wait. If the process has ended, or was killed since it
+didn't reply in time, the next request starts another, with the responses of its file. A `Send` of the old process is then
+refused.
 """
 from __future__ import annotations
 
 import asyncio
 import contextlib
 import os
-import subprocess
 import threading
 import weakref
 from collections import deque
-from typing import IO, Any, Deque, Dict, List, Optional, Tuple
+from typing import Any, Deque, Dict, Optional, Tuple
 
 from ._frames import (
+    REPLY_SECONDS,
     Answer,
     CacheError,
     CacheGone,
     Done,
     Frame,
+    FrameReader,
     More,
     NoResponse,
     Outcome,
@@ -46,12 +48,12 @@ from ._frames import (
     bytes_of,
     check_part,
     check_protocol,
+    checked_timeout,
     complete_line,
     count_of,
     failed_line,
     gone,
-    lengths_of,
-    line_of,
+    no_reply,
     now_ms,
     outcome_of,
     piece_of,
@@ -59,7 +61,12 @@ from ._frames import (
     time_or_now,
     token_left,
 )
+from ._pipes import Pipes
 from ._program import ProcessOptions, ProgramNotFound
+
+# How many seconds the process may take to close its file.
+_STOP_SECONDS = 10.0
+_GRACE_SECONDS = 0.1
 
 __all__ = [
     "Answer",
@@ -75,6 +82,7 @@ __all__ = [
     "Piece",
     "ProcessOptions",
     "ProgramNotFound",
+    "REPLY_SECONDS",
     "Rest",
     "Send",
     "StoreNotOpened",
@@ -87,15 +95,19 @@ __all__ = [
 class Cache:
     """A caching client in a process of its own, whose methods block. Threads may share it, but forked processes may not.
 
-    Each method raises `CacheGone` if the process ends, and `CacheError` if it refuses the frame.
+    Each method raises `CacheGone` if the process ends, and `CacheError` if it refuses the frame. A process that hasn't replied
+    for `timeout` seconds is killed.
     """
 
-    def __init__(self, options: ProcessOptions = ProcessOptions()) -> None:
-        """Starts the process. Raises `ProgramNotFound`, or `StoreNotOpened` if its file can't be opened."""
-        self.options = options
+    def __init__(self, options: ProcessOptions = ProcessOptions(), timeout: float = REPLY_SECONDS) -> None:
+        """Starts the process. Raises `ProgramNotFound`, or `StoreNotOpened` if its file can't be opened.
+
+        Raises `ValueError` if `timeout` isn't a positive number.
+        """
+        self.options, self.timeout = options, checked_timeout(timeout)
         self._lock = threading.Lock()
         self._life = 0
-        self._child: Optional[subprocess.Popen[bytes]] = None
+        self._pipes: Optional[Pipes] = None
         self._waits: Waits[threading.Event] = Waits(threading.Event, threading.Event.set)
         with self._lock:
             self._start()
@@ -103,50 +115,32 @@ class Cache:
     @property
     def pid(self) -> Optional[int]:
         """Returns the process ID, or None if the process has ended."""
-        child = self._child
-        return child.pid if child else None
+        pipes = self._pipes
+        return pipes.process.pid if pipes else None
 
-    def _start(self) -> subprocess.Popen[bytes]:
-        pipe = subprocess.PIPE
+    def _start(self) -> Pipes:
         words = self.options.command()
         try:
-            # In a session of its own, so that only the caller gets the SIGINT of a Ctrl-C.
-            self._child = subprocess.Popen(words, stdin=pipe, stdout=pipe, stderr=pipe, start_new_session=True)
+            pipes = self._pipes = Pipes(words, self.timeout)
         except OSError as error:
             raise ProgramNotFound(f"{words[0]}: {error.strerror}") from error
         self._life += 1
         self._owner = os.getpid()
-        self._finalizer = weakref.finalize(self, _stop, self._child, self._owner)
+        self._finalizer = weakref.finalize(self, _stop, pipes, self._owner)
         _caches.add(self)
         try:
-            check_protocol(self._read(self._child).line)
+            check_protocol(pipes.reply(b"").line)
         except BaseException:
             self._end()
             raise
-        return self._child
+        return pipes
 
     def _end(self) -> None:
-        child, self._child = self._child, None
+        pipes, self._pipes = self._pipes, None
         self._waits.end()
-        if child:
+        if pipes:
             self._finalizer.detach()
-            _kill(child)
-
-    def _read(self, child: subprocess.Popen[bytes]) -> Frame:
-        assert child.stdout
-        text = child.stdout.readline()
-        if not text.endswith(b"\n"):
-            raise self._has_ended(child)
-        line = line_of(text)
-        parts = [child.stdout.read(length) if length else b"" for length in lengths_of(line)]
-        if [len(part) for part in parts] != list(lengths_of(line)):
-            raise self._has_ended(child)
-        return Frame(line, *parts)
-
-    def _has_ended(self, child: subprocess.Popen[bytes]) -> CacheGone:
-        assert child.stderr
-        stderr = child.stderr.read()
-        return gone(child.wait(), stderr)
+            pipes.kill()
 
     def exchange(
         self, line: Dict[str, Any], head: bytes = b"", body: bytes = b"", of: Optional[UnderWay] = None
@@ -156,22 +150,15 @@ class Cache:
         With `of`, the frame is only for the process that this request is under way in.
         """
         with self._lock:
-            if self._child and self._owner != os.getpid():
+            if self._pipes and self._owner != os.getpid():
                 raise CacheGone("cacheserve was started by another process; make a Cache in each process")
-            if of and (of.life != self._life or not self._child):
+            if of and (of.life != self._life or not self._pipes):
                 raise CacheGone("the cacheserve that this request belongs to has ended; ask again")
-            child = self._child or self._start()
-            assert child.stdin
+            pipes = self._pipes or self._start()
             try:
-                child.stdin.write(bytes_of(line, head, body))
-                child.stdin.flush()
-                frame = self._read(child)
+                frame = pipes.reply(bytes_of(line, head, body))
                 self._waits.see(of.token if of else 0, frame.line)
                 return self._life, frame
-            except OSError as error:
-                gone = self._has_ended(child)
-                self._end()
-                raise gone from error
             except BaseException:
                 # Otherwise the next call would read the reply to this frame.
                 self._end()
@@ -264,9 +251,9 @@ class Cache:
             self._stop()
 
     def _stop(self) -> None:
-        child = self._child
-        if child and self._owner == os.getpid():
-            _stop(child, self._owner)
+        pipes = self._pipes
+        if pipes and self._owner == os.getpid():
+            _stop(pipes, self._owner)
             self._end()
 
     def __enter__(self) -> Cache:
@@ -277,40 +264,22 @@ class Cache:
 
 
 _caches: weakref.WeakSet[Cache] = weakref.WeakSet()
-# What a forked process has of its parent's. It isn't freed, since a thread of the parent may have held the lock of a buffer.
-_inherited: List[subprocess.Popen[bytes]] = []
 
 
-def _stop(child: subprocess.Popen[bytes], owner: int) -> None:
+def _stop(pipes: Pipes, owner: int) -> None:
     """Ends a process, once its file is closed. A forked process doesn't end that of its parent."""
     if owner == os.getpid():
-        _close(child.stdin)
-        with contextlib.suppress(subprocess.TimeoutExpired):
-            child.wait(10)
-        _kill(child)
-
-
-def _kill(child: subprocess.Popen[bytes]) -> None:
-    child.kill()
-    child.wait()
-    for pipe in (child.stdin, child.stdout, child.stderr):
-        _close(pipe)
+        pipes.end(_STOP_SECONDS)
 
 
 def _let_go() -> None:
     """Lets go of the parent's pipes after a fork. While a process has them, the parent can't end its cacheserve by them."""
-    null = os.open(os.devnull, os.O_RDWR)
     for cache in list(_caches):
         cache._lock = threading.Lock()
-        child = cache._child
-        for pipe in (child.stdin, child.stdout, child.stderr) if child else ():
-            if pipe and not pipe.closed:
-                os.dup2(null, pipe.fileno(), inheritable=False)
-        if child:
-            # Only the parent can wait for it.
-            child.returncode = 0
-            _inherited.append(child)
-    os.close(null)
+        if cache._pipes:
+            # Only the parent can wait for its process.
+            cache._pipes.process.returncode = 0
+            cache._pipes.close()
 
 
 os.register_at_fork(after_in_child=_let_go)
@@ -322,68 +291,98 @@ def _remove_file(options: ProcessOptions) -> None:
             os.unlink(f"{options.file}{suffix}")
 
 
-def _close(pipe: Optional[IO[bytes]]) -> None:
-    with contextlib.suppress(OSError):
-        if pipe:
-            pipe.close()
-
-
 class _Pipes(asyncio.SubprocessProtocol):
     """Reads frames from the pipes of one process, and passes each to the call that has waited longest."""
 
-    def __init__(self) -> None:
+    def __init__(self, timeout: float) -> None:
         self._loop = asyncio.get_running_loop()
-        # The calls that wait for their replies, with the tokens of their frames.
-        self._calls: Deque[Tuple[asyncio.Future[Frame], int]] = deque()
+        self._timeout = timeout
+        # The calls that wait for their replies, with the tokens of their frames and the times at which they have waited too long.
+        self._calls: Deque[Tuple[asyncio.Future[Frame], int, float]] = deque()
+        self._timer: Optional[asyncio.TimerHandle] = None
         self.waits: Waits[asyncio.Future[None]] = Waits(self._loop.create_future, _give)
         self.closed: asyncio.Future[None] = self._loop.create_future()
-        self.first = self._next(0)
-        self.is_gone = False
+        self.first: asyncio.Future[Frame] = self._loop.create_future()
+        # Otherwise asyncio logs an exception that nobody waits for, after a start that was cancelled.
+        self.first.add_done_callback(lambda first: first.cancelled() or first.exception())
+        self.is_gone = self._is_ending = self._has_exited = False
         self.may_write = asyncio.Event()
         self.may_write.set()
-        self._data = bytearray()
-        self._line: Optional[Dict[str, Any]] = None
+        self._frames = FrameReader()
         self._stderr = b""
 
     def connection_made(self, transport: Any) -> None:
         # Other loops than asyncio's have transports of classes of their own.
         self.transport: asyncio.SubprocessTransport = transport
         self._pipe: asyncio.WriteTransport = transport.get_pipe_transport(0)
+        self._expect(self.first, 0)
 
-    def _next(self, token: int) -> asyncio.Future[Frame]:
-        future: asyncio.Future[Frame] = self._loop.create_future()
-        self._calls.append((future, token))
-        return future
+    def _expect(self, future: asyncio.Future[Frame], token: int) -> None:
+        due = self._loop.time() + self._timeout
+        self._calls.append((future, token, due))
+        self._timer = self._timer or self._loop.call_at(due, self._look)
+
+    def _look(self) -> None:
+        """Looks whether the call that has waited longest has waited too long."""
+        self._timer = None
+        if self._calls:
+            future, _, due = self._calls[0]
+            if self._loop.time() >= due:
+                # If the loop itself was held up, the reply may be there and is read first.
+                self._timer = self._loop.call_later(_GRACE_SECONDS, self._end_if_first, future)
+            else:
+                self._timer = self._loop.call_at(due, self._look)
+
+    def _end_if_first(self, future: asyncio.Future[Frame]) -> None:
+        if self._calls and self._calls[0][0] is future:
+            self._fail(no_reply(self._timeout))
+        else:
+            self._look()
+
+    def _fail(self, error: CacheGone) -> None:
+        """Ends the process, whose replies can't be waited for any more."""
+        self._lose(error)
+        self.end()
+
+    def end(self) -> None:
+        """Kills the process, unless it has ended, and then closes the pipes, which others may still have."""
+        self.is_gone = self._is_ending = True
+        if self._has_exited:
+            self.transport.close()
+        else:
+            with contextlib.suppress(ProcessLookupError):
+                self.transport.kill()
+
+    def process_exited(self) -> None:
+        self._has_exited = True
+        if self._is_ending:
+            self.transport.close()
 
     def write(self, line: Dict[str, Any], head: bytes, body: bytes, token: int) -> asyncio.Future[Frame]:
         """Writes a frame; its reply becomes the result of the future."""
         self._pipe.write(bytes_of(line, head, body))
-        return self._next(token)
+        future: asyncio.Future[Frame] = self._loop.create_future()
+        self._expect(future, token)
+        return future
 
     def pipe_data_received(self, fd: int, data: bytes) -> None:
         if fd == 2:
             self._stderr = (self._stderr + data)[-4096:]
             return
-        self._data += data
-        start = 0
-        while True:
-            if self._line is None:
-                end = self._data.find(b"\n", start)
-                if end < 0:
-                    break
-                self._line = line_of(self._data[start:end])
-                start = end + 1
-            head, body, request = lengths_of(self._line)
-            if len(self._data) < start + head + body + request:
-                break
-            parts = bytes(self._data[start : start + head + body + request])
-            found = Frame(self._line, parts[:head], parts[head : head + body], parts[head + body :])
-            self._line, start = None, start + len(parts)
-            self._hand_on(found)
-        del self._data[:start]
+        self._frames.feed(data)
+        try:
+            found = self._frames.next()
+            while found:
+                self._hand_on(found)
+                found = self._frames.next()
+        except CacheGone as error:
+            self._fail(error)
 
     def _hand_on(self, found: Frame) -> None:
-        future, token = self._calls.popleft()
+        if not self._calls:
+            # They have failed already.
+            return
+        future, token, _ = self._calls.popleft()
         self.waits.see(token, found.line)
         if not future.done():
             future.set_result(found)
@@ -405,15 +404,21 @@ class _Pipes(asyncio.SubprocessProtocol):
             self.may_write.set()
 
     def connection_lost(self, exc: Optional[Exception]) -> None:
-        self.is_gone = True
-        self.may_write.set()
-        for future, _ in self._calls:
-            if not future.done():
-                future.set_exception(gone(self.transport.get_returncode(), self._stderr))
-        self._calls.clear()
-        self.waits.end()
+        self._lose(gone(self.transport.get_returncode(), self._stderr))
         self.transport.close()
         self.closed.set_result(None)
+
+    def _lose(self, error: CacheGone) -> None:
+        self.is_gone = True
+        self.may_write.set()
+        for future, *_ in self._calls:
+            if not future.done():
+                future.set_exception(type(error)(str(error)))
+        self._calls.clear()
+        self.waits.end()
+        if self._timer:
+            self._timer.cancel()
+            self._timer = None
 
 
 def _end_input(loop: asyncio.AbstractEventLoop, transport: asyncio.SubprocessTransport) -> None:
@@ -432,11 +437,13 @@ def _give(signal: asyncio.Future[None]) -> None:
 class AsyncCache:
     """A caching client in a process of its own, for asyncio. Any number of calls may be under way.
 
-    Each method raises `CacheGone` if the process ends, and `CacheError` if it refuses the frame.
+    Each method raises `CacheGone` if the process ends, and `CacheError` if it refuses the frame. A process that hasn't replied
+    for `timeout` seconds is killed.
     """
 
-    def __init__(self, options: ProcessOptions = ProcessOptions()) -> None:
-        self.options = options
+    def __init__(self, options: ProcessOptions = ProcessOptions(), timeout: float = REPLY_SECONDS) -> None:
+        """Raises `ValueError` if `timeout` isn't a positive number."""
+        self.options, self.timeout = options, checked_timeout(timeout)
         self._pipes: Optional[_Pipes] = None
         self._starting: Optional[asyncio.Lock] = None
         self._life = 0
@@ -446,25 +453,36 @@ class AsyncCache:
         """Returns the process ID, or None before the first start."""
         return self._pipes.transport.get_pid() if self._pipes else None
 
+    @property
+    def is_running(self) -> bool:
+        """Returns whether the process was started and hasn't ended."""
+        return self._pipes is not None and not self._pipes.is_gone
+
     async def start(self) -> None:
         """Starts the process if none is running. Raises `ProgramNotFound` or `StoreNotOpened`."""
         # Before Python 3.10 a lock belongs to the loop that runs when it is made, so it isn't made earlier.
         self._starting = self._starting or asyncio.Lock()
         async with self._starting:
-            if self._pipes and not self._pipes.is_gone:
+            if self.is_running:
                 return
             if self._pipes:
                 # The file is free once the old process has ended.
-                await self._pipes.closed
+                await asyncio.wait([self._pipes.closed], timeout=self.timeout)
             words = self.options.command()
             loop = asyncio.get_running_loop()
             try:
-                _, pipes = await loop.subprocess_exec(_Pipes, *words, start_new_session=True)
+                _, pipes = await loop.subprocess_exec(lambda: _Pipes(self.timeout), *words, start_new_session=True)
             except OSError as error:
                 raise ProgramNotFound(f"{words[0]}: {error.strerror}") from error
-            check_protocol((await pipes.first).line)
+            try:
+                check_protocol((await pipes.first).line)
+            except BaseException:
+                pipes.end()
+                raise
+            finally:
+                # The next start waits for the end of one that has failed.
+                self._pipes = pipes
             self._life += 1
-            self._pipes = pipes
             weakref.finalize(self, _end_input, loop, pipes.transport).atexit = False
 
     async def exchange(
@@ -571,5 +589,5 @@ class AsyncCache:
             pipe = pipes.transport.get_pipe_transport(0)
             assert pipe
             pipe.close()
-            await asyncio.wait([pipes.closed], timeout=10)
-            pipes.transport.close()
+            await asyncio.wait([pipes.closed], timeout=_STOP_SECONDS)
+            pipes.end()

@@ -34,7 +34,8 @@ async def run(words: argparse.Namespace) -> None:
         bytes=words.bytes, stored_body=words.stored_body, variants=words.variants,
     )  # fmt: skip
     name = re.sub(rb"[^!#$%&'*+\-.^_`|~0-9A-Za-z]", b"-", (words.name or _NAME).encode())
-    proxy = Proxy(AsyncCache(options), OriginServer(origin, room), room, log, name, words.collapse, words.log)
+    cache = AsyncCache(options, words.cache_timeout)
+    proxy = Proxy(cache, OriginServer(origin, room), room, log, name, words.collapse, words.log)
 
     def lost(client: Client) -> None:
         proxy.clients.discard(client)

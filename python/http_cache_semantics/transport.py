@@ -32,7 +32,8 @@ from ._exchange import (
     run_async,
     run_beside,
 )
-from .process import AsyncCache, Cache, CacheError, ProcessOptions, Send, now_ms
+from ._frames import checked_timeout
+from .process import REPLY_SECONDS, AsyncCache, Cache, CacheError, ProcessOptions, Send, now_ms
 
 _OPTIONS = ProcessOptions(private=True, name="httpx")
 
@@ -48,10 +49,14 @@ class CacheTransport(httpx.BaseTransport):
         file: Optional[str] = None,
         process: ProcessOptions = _OPTIONS,
         transport: Optional[httpx.BaseTransport] = None,
+        cache_timeout: float = REPLY_SECONDS,
     ) -> None:
-        """Starts the process. With a file, stored responses outlive it. `transport` sends the requests."""
+        """Starts the process. With a file, stored responses outlive it. `transport` sends the requests.
+
+        A process that hasn't replied for `cache_timeout` seconds is killed. Raises `ValueError` if that isn't a positive number.
+        """
         self._transport = transport or httpx.HTTPTransport()
-        self._access = BlockingAccess(replace(process, file=file or process.file))
+        self._access = BlockingAccess(replace(process, file=file or process.file), cache_timeout)
         self._access.start()
 
     @property
@@ -91,15 +96,20 @@ class AsyncCacheTransport(httpx.AsyncBaseTransport):
         file: Optional[str] = None,
         process: ProcessOptions = _OPTIONS,
         transport: Optional[httpx.AsyncBaseTransport] = None,
+        cache_timeout: float = REPLY_SECONDS,
     ) -> None:
-        """With a file, stored responses outlive the process. `transport` sends the requests."""
+        """With a file, stored responses outlive the process. `transport` sends the requests.
+
+        A process that hasn't replied for `cache_timeout` seconds is killed. Raises `ValueError` if that isn't a positive number.
+        """
+        self._timeout = checked_timeout(cache_timeout, "cache_timeout")
         self._transport = transport or httpx.AsyncHTTPTransport()
         self._options = replace(process, file=file or process.file)
         self._access = Access(self._opened, _owner)
         self._tasks: Set[asyncio.Task[None]] = set()
 
     async def _opened(self) -> Any:
-        return self._access.keep(AsyncCache(self._options))
+        return self._access.keep(AsyncCache(self._options, self._timeout))
 
     async def cache(self) -> AsyncCache:
         """Returns the client of the process. Raises `CacheError` if the process can't be used."""

@@ -506,6 +506,34 @@ class Outages(unittest.TestCase):
         [line] = log.output
         self.assertIn(f"GET {self.base}/page is sent without the cache: ", line)
 
+    def test_a_process_that_hangs(self):
+        adapter = CacheAdapter(self.file, cache_timeout=2)
+        with session_with(adapter) as session, self.assertLogs("http_cache_semantics", "WARNING") as log:
+            self.assertEqual(self.numbers(session, "/page", "/page"), [False, True])
+            pid = adapter.cache.pid
+            os.kill(pid, signal.SIGSTOP)
+            begun = time.monotonic()
+            self.assertEqual(self.numbers(session, "/page"), [False])
+            self.assertAlmostEqual(time.monotonic() - begun, 2.3, delta=0.8)
+            # The file outlives the process that was killed.
+            self.assertEqual(self.numbers(session, "/page"), [True])
+            self.assertFalse(Path(f"/proc/{pid}").exists())
+        [line] = log.output
+        self.assertIn("requests are sent without the cache: cacheserve hasn't replied for 2 s", line)
+
+    def test_a_process_that_hangs_while_a_body_is_read(self):
+        adapter = CacheAdapter(cache_timeout=2)
+        with session_with(adapter) as session:
+            got = session.get(self.base + "/chunks", timeout=20, stream=True)
+            pieces = got.iter_content(65_536)
+            first = next(pieces)
+            os.kill(adapter.cache.pid, signal.SIGSTOP)
+            self.assertEqual(first + b"".join(pieces) == b"c" * LONG, True)
+
+    def test_a_time_limit_that_is_none(self):
+        with self.assertRaisesRegex(ValueError, "^cache_timeout isn't a positive number of seconds: -1$"):
+            CacheAdapter(cache_timeout=-1)
+
     def test_an_unsafe_request_in_an_outage(self):
         adapter = CacheAdapter(self.file)
         with session_with(adapter) as session, self.assertLogs("http_cache_semantics", "WARNING"):
@@ -604,11 +632,12 @@ class Copies(unittest.TestCase):
         self.assertFalse(Path(f"/proc/{int(run.stdout)}").exists())
 
     def test_copies(self):
-        with session_with(CacheAdapter()) as session:
+        with session_with(CacheAdapter(cache_timeout=7)) as session:
             self.assertEqual(gets_twice(session, self.url), [False, True])
             self.assertEqual(gets_twice(copy.copy(session), self.url), [True, True])
             for made in (copy.deepcopy(session), pickle.loads(pickle.dumps(session))):
                 self.assertEqual(gets_twice(made, self.url), [False, True])
+                self.assertEqual(made.get_adapter(self.url).cache.timeout, 7)
                 made.close()
             self.assertEqual(gets_twice(session, self.url), [True, True])
 

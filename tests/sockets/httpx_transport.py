@@ -302,6 +302,25 @@ class Transports:
             self.assertEqual([self.get("/page?secret")[1] for _ in range(3)], [False, False, True])
         self.assertEqual((len(log.output), "secret" in log.output[0]), (1, False))
 
+    def test_a_process_that_hangs(self):
+        client = self.made(lambda: type(self.client.transport)(cache_timeout=2))
+        got = lambda: client.request("GET", self.origin.base + "/page").extensions["from_cache"]
+        self.assertEqual([got(), got()], [False, True])
+        pid = client.pid()
+        with self.assertLogs("http_cache_semantics", "WARNING") as log:
+            os.kill(pid, signal.SIGSTOP)
+            begun = time.monotonic()
+            self.assertFalse(got())
+            self.assertAlmostEqual(time.monotonic() - begun, 2.3, delta=0.8)
+            self.assertEqual([got(), got()], [False, True])
+        self.assertEqual((len(log.output), "hasn't replied for 2 s" in log.output[0]), (1, True))
+        self.assertNotIn(pid, children(os.getpid()))
+        client.close()
+
+    def test_a_time_limit_that_is_none(self):
+        with self.assertRaisesRegex(ValueError, "^cache_timeout isn't a positive number of seconds: 0$"):
+            type(self.client.transport)(cache_timeout=0)
+
     def test_a_file(self):
         with tempfile.TemporaryDirectory() as folder:
             file = f"{folder}/cache.db"

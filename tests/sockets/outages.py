@@ -8,8 +8,10 @@ import socket
 import subprocess
 import sys
 import tempfile
+import threading
 import time
 import unittest
+from concurrent.futures import ThreadPoolExecutor
 from pathlib import Path
 
 from http_cache_semantics.connection import Client as HttpClient
@@ -17,9 +19,11 @@ from http_cache_semantics.connection import Room
 from http_cache_semantics.listen import Listener
 from http_cache_semantics.process import Cache, ProcessOptions
 from proxied import PROGRAM, Client, ProxyTest, get, is_hit, response, wait_until
-from started import ROOT, children, free_port, proxy, with_package
+from started import ROOT, children, free_port, proxy, python_with, with_package
 
 FRESH = b"Cache-Control: max-age=600"
+# The words for each event loop that is there.
+LOOPS = [(), ("--uvloop",)] if python_with("uvloop") == python_with("h11") else [()]
 ORIGIN = "--origin=http://127.0.0.1:1"
 SCRIPT = """#!/bin/sh
 echo start >> {folder}/starts
@@ -147,6 +151,53 @@ class WithoutProcess(ProxyTest):
             self.assertTrue(wait_until(self.is_used))
             run.stderr.close()
 
+    def test_a_process_that_hangs(self):
+        self.set_up(True)
+        for loop in LOOPS:
+            with self.subTest(loop), self.started(f"--file={self.folder}/cache.db", "--cache-timeout=2", *loop) as run:
+                self.assertTrue(wait_until(self.is_used))
+                [pid] = children(run.pid)
+                os.kill(pid, signal.SIGSTOP)
+                begun = time.monotonic()
+                with ThreadPoolExecutor(8) as pool:
+                    answers = list(pool.map(lambda number: self.ask(b"/%d" % number), range(8)))
+                self.assertAlmostEqual(time.monotonic() - begun, 2.3, delta=0.8)
+                self.assertEqual([body for _, _, body in answers], [b"page /%d" % number for number in range(8)])
+                self.assertTrue(wait_until(lambda: is_hit(self.ask(b"/used")[1])))
+                self.assertNotIn(pid, children(run.pid))
+                lines = lines_of(run)
+            outage = "proxy: no cache, so requests are forwarded: cacheserve hasn't replied for 2 s"
+            self.assertEqual(lines[1:], [outage, "proxy: the cache is used again"])
+
+    def test_a_process_that_hangs_does_not_outlive_the_proxy(self):
+        self.set_up(True)
+        for loop in LOOPS:
+            with self.subTest(loop), self.started(*loop) as run:
+                self.assertTrue(wait_until(self.is_used))
+                [pid] = children(run.pid)
+                os.kill(pid, signal.SIGSTOP)
+                begun = time.monotonic()
+                lines_of(run)
+                self.assertLess(time.monotonic() - begun, 15)
+                self.assertTrue(wait_until(lambda: not Path(f"/proc/{pid}").exists()))
+
+    def test_a_request_of_an_earlier_process_is_no_outage(self):
+        held = threading.Event()
+        self.addCleanup(held.set)
+        self.origin.answers[b"/slow"] = lambda turn: held.wait(20) and response(b"slow")
+        self.set_up(True)
+        with self.started() as run, Client(self.port) as client:
+            self.assertTrue(wait_until(self.is_used))
+            client.send(get(b"/slow"))
+            self.assertTrue(wait_until(lambda: self.origin.count(b"/slow")))
+            self.kill(run)
+            self.assertTrue(wait_until(lambda: not children(run.pid)))
+            # The next request starts another process at once.
+            self.assertTrue(self.is_used())
+            held.set()
+            self.assertEqual(client.answer()[2], b"slow")
+            self.assertEqual(lines_of(run)[1:], [])
+
     def test_a_file_that_another_process_uses(self):
         self.set_up(True)
         file = f"{self.folder}/cache.db"
@@ -251,6 +302,7 @@ class CommandLine(unittest.TestCase):
             "--listen": ("a:b", "127.0.0.1", "127.0.0.1:99999", "::1:80", "[::1]", "h:-1", "h:", ""),
             "--timeout": ("0", "-1", "nan", "inf", "x", ""),
             "--idle": ("0", "-1", "nan", "1e9"),
+            "--cache-timeout": ("0", "-1", "x"),
             "--memory": ("0", "-1", "999999", "1.5", "x", "9" * 30),
             "--bytes": ("0", "-1", "x"),
             "--stored-body": ("-1", "1e3"),

@@ -1,17 +1,22 @@
 """Tests the module process of the Python package, with the program that $CACHESERVE names."""
 import asyncio
 import contextlib
+import itertools
 import json
 import os
+import re
 import signal
 import sys
 import tempfile
+import threading
+import time
 import unittest
 from concurrent.futures import ThreadPoolExecutor
 from pathlib import Path
 from unittest import mock
 
-from http_cache_semantics import _program
+from http_cache_semantics import _program, process
+from http_cache_semantics._pipes import Pipes
 from http_cache_semantics.process import (
     Answer,
     AsyncCache,
@@ -28,6 +33,7 @@ from http_cache_semantics.process import (
     StoreNotOpened,
     Wait,
 )
+from started import children
 
 START = 1_767_225_600_000
 PAGE = b"HTTP/1.1 200 OK\r\nCache-Control: max-age=60, must-revalidate\r\nContent-Length: 4\r\n\r\n"
@@ -244,7 +250,7 @@ class Processes(unittest.TestCase):
     def test_an_interrupted_exchange_leaves_no_reply_behind(self):
         with Cache() as cache:
             store(cache, b"/secret", b"mine")
-            with mock.patch.object(Cache, "_read", side_effect=KeyboardInterrupt), self.assertRaises(KeyboardInterrupt):
+            with mock.patch.object(Pipes, "_frame", side_effect=KeyboardInterrupt), self.assertRaises(KeyboardInterrupt):
                 cache.ask(get(b"/secret"), at=START)
             self.assertIsInstance(cache.ask(get(b"/other"), at=START), Send)
 
@@ -267,6 +273,31 @@ class Processes(unittest.TestCase):
         self.assertIsInstance(cache.ask(get(b"/a"), at=START), Send)
         cache.close()
         cache.close()
+
+    def test_a_process_that_hangs(self):
+        with Cache(timeout=3) as cache:
+            send, pid = cache.ask(get(b"/a")), cache.pid
+            os.kill(pid, signal.SIGSTOP)
+            begun = time.monotonic()
+            with self.assertRaisesRegex(CacheGone, "^cacheserve hasn't replied for 3 s$"):
+                cache.ask(get(b"/a"))
+            self.assertAlmostEqual(time.monotonic() - begun, 3.2, delta=0.5)
+            self.assertFalse(Path(f"/proc/{pid}").exists())
+            with self.assertRaises(CacheGone):
+                cache.received(send, PAGE, b"page")
+            self.assertIsInstance(cache.ask(get(b"/a")), Send)
+
+    def test_a_process_that_is_held_up(self):
+        with Cache(timeout=30) as cache:
+            pid = cache.pid
+            os.kill(pid, signal.SIGSTOP)
+            threading.Timer(0.5, os.kill, (pid, signal.SIGCONT)).start()
+            self.assertEqual((type(cache.ask(get(b"/a"))), cache.pid), (Send, pid))
+
+    def test_time_limits_that_are_none(self):
+        for made, value in itertools.product((Cache, AsyncCache), (0, -1, float("nan"), float("inf"), True, "5", None)):
+            with self.assertRaisesRegex(ValueError, "^timeout isn't a positive number of seconds: "):
+                made(timeout=value)
 
     def test_threads_share_one(self):
         with Cache() as cache:
@@ -341,6 +372,30 @@ class Programs(unittest.TestCase):
         with self.assertRaisesRegex(CacheError, "speaks protocol 2, not 1"):
             Cache(self.made("""echo '{"protocol":2}'; cat"""))
 
+    def test_a_program_that_writes_no_frames(self):
+        for text in ("no frame", "[1]"):
+            with self.assertRaisesRegex(CacheGone, re.escape(repr(text))):
+                Cache(self.made(f"echo '{text}'; cat"))
+
+    def test_a_program_that_never_writes(self):
+        begun = time.monotonic()
+        with self.assertRaisesRegex(CacheGone, "^cacheserve hasn't replied for 0.3 s$"):
+            Cache(self.made("exec sleep 60"), timeout=0.3)
+        self.assertAlmostEqual(time.monotonic() - begun, 0.5, delta=0.3)
+
+    def test_a_program_that_never_reads(self):
+        cache = Cache(self.made("""echo '{"protocol":1}'; exec sleep 60"""), timeout=0.3)
+        pid = cache.pid
+        with self.assertRaisesRegex(CacheGone, "hasn't replied for 0.3 s"):
+            cache.ask(get(b"/a"), b"x" * MEGABYTE)
+        self.assertEqual((cache.pid, Path(f"/proc/{pid}").exists()), (None, False))
+
+    def test_a_program_that_closes_its_output_and_goes_on(self):
+        cache = Cache(self.made("""echo '{"protocol":1}'; exec >&-; exec sleep 60"""), timeout=0.3)
+        with self.assertRaises(CacheGone):
+            cache.ask(get(b"/a"))
+        self.assertIsNone(cache.pid)
+
     def test_a_program_that_says_why_it_ends(self):
         with self.assertRaisesRegex(CacheGone, "^out of paper$"):
             Cache(self.made("echo out of paper >&2; exit 9"))
@@ -392,6 +447,53 @@ class Asynchronous(unittest.IsolatedAsyncioTestCase):
         self.assertEqual((send.life, again.life), (1, 2))
         with self.assertRaises(CacheGone):
             await self.cache.received(send, PAGE, b"page")
+
+    async def test_the_process_hangs(self):
+        cache = AsyncCache(timeout=3)
+        send = await cache.ask(get(b"/a"))
+        pid = cache.pid
+        os.kill(pid, signal.SIGSTOP)
+        begun = time.monotonic()
+        # More than the pipe holds, so that some calls wait until they may write.
+        asked = [cache.ask(get(b"/a"), b"x" * 100_000) for _ in range(5)]
+        outcomes = await asyncio.gather(*asked, return_exceptions=True)
+        self.assertIn("cacheserve hasn't replied for 3 s", map(str, outcomes))
+        self.assertAlmostEqual(time.monotonic() - begun, 4, delta=1.2)
+        with self.assertRaises(CacheGone):
+            await cache.received(send, PAGE, b"page")
+        self.assertIsInstance(await cache.ask(get(b"/a")), Send)
+        self.assertFalse(Path(f"/proc/{pid}").exists())
+        os.kill(cache.pid, signal.SIGSTOP)
+        begun = time.monotonic()
+        with mock.patch.object(process, "_STOP_SECONDS", 0.5):
+            await cache.close()
+        self.assertAlmostEqual(time.monotonic() - begun, 0.5, delta=0.4)
+
+    async def test_an_event_loop_that_is_held_up(self):
+        cache = AsyncCache(timeout=2)
+        await cache.start()
+        pid = cache.pid
+        asked = asyncio.ensure_future(cache.ask(get(b"/a")))
+        await asyncio.sleep(0)
+        time.sleep(2.5)
+        self.assertEqual((type(await asked), cache.pid), (Send, pid))
+        await cache.close()
+
+    async def test_a_start_that_is_cancelled_leaves_no_process(self):
+        with tempfile.TemporaryDirectory() as folder:
+            slow = Path(folder) / "slow"
+            slow.write_text('#!/bin/sh\nsleep 0.5\nexec "$CACHESERVE" "$@"\n')
+            slow.chmod(0o755)
+            before, cache = set(children(os.getpid())), AsyncCache(ProcessOptions(str(slow), f"{folder}/cache.db"))
+            start = asyncio.ensure_future(cache.start())
+            await asyncio.sleep(0.3)
+            self.assertEqual(len(set(children(os.getpid())) - before), 1)
+            start.cancel()
+            with self.assertRaises(asyncio.CancelledError):
+                await start
+            await cache.start()
+            self.assertEqual(set(children(os.getpid())) - before, {cache.pid})
+            await cache.close()
 
     async def test_more_than_the_pipes_hold(self):
         send = await self.cache.ask(get(b"/a"), at=START)
