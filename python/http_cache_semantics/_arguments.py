@@ -37,7 +37,7 @@ def _seconds(text: str) -> float:
     except ValueError:
         value = math.nan
     if not 0 < value <= 86_400:
-        raise _wrong(text, "isn't a number of seconds, up to a day")
+        raise _wrong(text, "isn't a positive number of seconds, up to a day")
     return value
 
 

@@ -47,9 +47,8 @@ def by_requests():
     return ask, session.close
 
 
-def main(send, close):
-    """Runs the cases by a function that sends a request. Returns 0 if they pass."""
-    origin = OriginServer()
+def cases_of(send, origin):
+    """Returns the cases, and a function that sends the request of a step by a function of a library."""
 
     def ask(case, number, now):
         """Returns the answer. The libraries raise an exception if there is none, and a proxy answers 504 then."""
@@ -63,7 +62,13 @@ def main(send, close):
         return send(request["method"], url, [(name, value.encode("latin-1")) for name, value in headers.items()], body)
 
     cases = [case for case in load() if case["cache"] != "shared" and not OF_INTERMEDIARIES & {case["category"], case["id"]}]
-    cases = [case for case in cases if is_written_by_requests(case) and not case.get("wire") and not needs_bytes(case)]
+    return [case for case in cases if is_written_by_requests(case) and not case.get("wire") and not needs_bytes(case)], ask
+
+
+def main(send, close):
+    """Runs the cases by a function that sends a request. Returns 0 if they pass."""
+    origin = OriginServer()
+    cases, ask = cases_of(send, origin)
     passed, wrong = run_cases(origin, cases, ask)
     close()
     print(len(cases), passed, *wrong, sep="\n")

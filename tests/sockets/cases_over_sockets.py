@@ -1,4 +1,5 @@
 """Runs the cases of tests/conformance over real sockets, with an origin server and with clients in real time."""
+import socket
 import socketserver
 import sys
 import threading
@@ -10,7 +11,7 @@ from pathlib import Path
 sys.dont_write_bytecode = True
 ROOT = Path(__file__).resolve().parent.parent.parent
 sys.path.append(str(ROOT / "tests/conformance"))
-from cases import expand_headers, has, kind_of, origin_of
+from cases import expand_headers, has, kind_of, method_of, origin_of, raw_request, request_of
 from judge import judge
 from origin import chosen, raw_response, received_request
 
@@ -116,14 +117,36 @@ def run_case(origin, case, ask):
     return judge(case, observations)
 
 
+def judged_cases(origin, cases, ask):
+    """Returns each case with its outcome and the reason."""
+    with ThreadPoolExecutor(AT_ONCE) as pool:
+        outcomes = pool.map(lambda case: run_case(origin, case, ask), cases)
+        return [(case, *outcome) for case, outcome in zip(cases, outcomes)]
+
+
 def run_cases(origin, cases, ask):
     """Returns how many cases of each kind pass, and a line for each other case that isn't optional."""
     passed, wrong = {}, []
-    with ThreadPoolExecutor(AT_ONCE) as pool:
-        outcomes = pool.map(lambda case: run_case(origin, case, ask), cases)
-        for case, (outcome, why) in zip(cases, outcomes):
-            kind = kind_of(case)
-            passed[kind] = passed.get(kind, 0) + (outcome == "pass")
-            if outcome != "pass" and kind != "optional":
-                wrong.append(f"{case['id']}: {outcome}: {why}")
+    for case, outcome, why in judged_cases(origin, cases, ask):
+        kind = kind_of(case)
+        passed[kind] = passed.get(kind, 0) + (outcome == "pass")
+        if outcome != "pass" and kind != "optional":
+            wrong.append(f"{case['id']}: {outcome}: {why}")
     return passed, wrong
+
+
+def asked_at(port):
+    """Returns a function that sends the request of a step to a proxy at a port, and returns what a client receives."""
+
+    def ask(case, number, now):
+        step = case["steps"][number]
+        request = request_of(case, step, now)
+        request["headers"].append([STEP, f"{case['id']}.{number}"])
+        try:
+            with socket.create_connection(("127.0.0.1", port), 20) as connection:
+                connection.sendall(raw_request(request))
+                return received_answer(connection.makefile("rb"), method_of(step))
+        except OSError as e:
+            return {"error": f"{type(e).__name__}: {e}"}
+
+    return ask
