@@ -22,7 +22,7 @@ class ProcessOptions:
     """The options of the process, which docs/PROTOCOL.md and the README of `cacheserve` explain. None is its default.
 
     `program` is the path of `cacheserve`. By default it is the value of the environment variable CACHESERVE. If that isn't set,
-    it is the first that is found: beside this package, the proved one of this repository, or the one on PATH.
+    it is the first that is found: in the folder of this package, the proved one of this repository, or the one on PATH.
     """
 
     program: Optional[str] = None

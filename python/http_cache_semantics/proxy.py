@@ -64,6 +64,9 @@ def main() -> None:
         if words.uvloop:
             _install_uvloop()
         asyncio.run(run(words))
+    except KeyboardInterrupt:
+        # Before the signals were handled.
+        sys.exit(128 + signal.SIGINT)
     except ImportError as error:
         if error.name != "h11":
             raise

@@ -181,6 +181,19 @@ class WithoutProcess(ProxyTest):
                 self.assertLess(time.monotonic() - begun, 15)
                 self.assertTrue(wait_until(lambda: not Path(f"/proc/{pid}").exists()))
 
+    def test_an_interrupt_ends_it_quietly(self):
+        for script, status in ((SCRIPT, 0), ("#!/bin/sh\nexec sleep 20\n", 128 + signal.SIGINT)):
+            self.program.write_text(script.format(folder=self.folder, program=PROGRAM))
+            self.set_up(True)
+            command = [sys.executable, "-m", "http_cache_semantics.proxy", ORIGIN, f"--listen=127.0.0.1:{free_port()}"]
+            environment = with_package(str(self.program))
+            with subprocess.Popen(command, env=environment, stderr=subprocess.PIPE, text=True) as run:
+                self.assertTrue(wait_until(lambda: children(run.pid)))
+                if not status:
+                    self.assertIn("listens on", run.stderr.readline())
+                run.send_signal(signal.SIGINT)
+                self.assertEqual((run.wait(20), run.stderr.read()), (status, ""))
+
     def test_a_request_of_an_earlier_process_is_no_outage(self):
         held = threading.Event()
         self.addCleanup(held.set)
