@@ -95,7 +95,8 @@ def _head(first: str, fields: Iterable[Tuple[str, str]]) -> bytes:
 
 
 def _unfolded(value: str) -> str:
-    return re.sub(r"[ \t]*\r?\n[ \t]+", " ", value) if "\n" in value else value
+    # Each run of blanks is tried once, from its start.
+    return re.sub(r"(?<![ \t])[ \t]*\r?\n[ \t]+", " ", value) if "\n" in value else value
 
 
 def _by_name(fields: Fields) -> Dict[str, List[str]]:
@@ -235,11 +236,16 @@ class Access:
 
     def cache(self) -> Steps[Any]:
         """Returns the cache. Raises `CacheError` if it can't be used now."""
-        if self._failure and time.monotonic() < self._retry:
-            raise type(self._failure)(str(self._failure))
+        # Other threads may change both meanwhile.
+        failure = self._failure
+        if failure and time.monotonic() < self._retry:
+            raise type(failure)(str(failure))
         cache = self.mine() or (yield self._opened)
-        while self.abandoned:
-            of, under_way = self.abandoned.popleft()
+        while True:
+            try:
+                of, under_way = self.abandoned.popleft()
+            except IndexError:
+                break
             if of is cache:
                 with contextlib.suppress(CacheError):
                     yield partial(cache.failed, under_way)

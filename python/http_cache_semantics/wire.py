@@ -18,7 +18,8 @@ _FRAMING = re.compile(
     rb"(?im)^(content-length|transfer-encoding|connection|expect|host|sec-websocket-key):[ \t]*([^\r\n]*)"
 )
 _TRAILER = re.compile(_FIELDS + rb"\r\n")
-_CHUNK = re.compile(rb"([0-9A-Fa-f]{1,15})(?:;" + _VALUE + rb")?[ \t]*\r\n")
+# A blank is read in one way only, so that a long line takes linear time.
+_CHUNK = re.compile(rb"([0-9A-Fa-f]{1,15})(?:[ \t]*|;" + _VALUE + rb")\r\n")
 _LENGTH = re.compile(rb"[0-9]{1,18}")
 _BARE_LF = re.compile(rb"(?<!\r)\n")
 _MAY_BEGIN = frozenset(b"!#$%&'*+-.^_`|~0123456789ABCDEFGHIJKLMNOPQRSTUVWXYZabcdefghijklmnopqrstuvwxyz")

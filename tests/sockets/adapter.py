@@ -14,15 +14,16 @@ import tempfile
 import threading
 import time
 import unittest
+from collections import deque
 from concurrent.futures import ThreadPoolExecutor
 from pathlib import Path
 from unittest import mock
 
 import requests
 from http_cache_semantics import _exchange
-from http_cache_semantics._exchange import Asked, Received, as_written
+from http_cache_semantics._exchange import Asked, BlockingAccess, Received, as_written
 from http_cache_semantics.adapter import CacheAdapter
-from http_cache_semantics.process import Cache, CacheError, ProcessOptions, ProgramNotFound, StoreNotOpened
+from http_cache_semantics.process import Cache, CacheError, CacheGone, ProcessOptions, ProgramNotFound, StoreNotOpened
 from servers import SmallOrigin
 from stream_origin import StreamOrigin
 from cases import values
@@ -241,6 +242,13 @@ class Heads(unittest.TestCase):
             self.assertIsNone(self.received(*fields).length)
         for answer in (self.received(of, method="HEAD"), self.received(of, status=304), self.received(status=204)):
             self.assertEqual(answer.length, 0)
+
+    def test_a_fold_after_many_blanks_takes_linear_time(self):
+        begun = time.monotonic()
+        head = self.received(("X", "a" + " " * 60_000 + "b \t\r\n\t c\n d")).head()
+        wanted = b"HTTP/1.1 200 \r\nX: a" + b" " * 60_000 + b"b c d\r\n\r\n"
+        self.assertTrue(head == wanted, head[-40:])
+        self.assertLess(time.monotonic() - begun, 1)
 
     def test_heads_that_the_process_has(self):
         of, chunks = ("Content-Length", "7"), ("Transfer-Encoding", "chunked")
@@ -592,6 +600,36 @@ def gets_twice(session, url):
 
 def gets_in_child(session, url, results):
     results.put(gets_twice(session, url))
+
+
+class Races(unittest.TestCase):
+    """What another thread may do between two steps of a request."""
+
+    def test_another_thread_takes_what_is_abandoned(self):
+        class Taken(deque):
+            """Says that something is there, which is taken then."""
+
+            def __bool__(self):
+                return True
+
+        access = BlockingAccess(ProcessOptions(private=True), 30)
+        access.abandoned = Taken()
+        client = access.client()
+        self.assertIs(access.client(), client)
+        access.close()
+
+    def test_another_thread_has_an_answer_after_a_failure(self):
+        class Answered(CacheGone):
+            def __bool__(self):
+                access.works()
+                return True
+
+        access = BlockingAccess(ProcessOptions(private=True), 30)
+        access.fails(Answered("first"))
+        access.fails(Answered("second"))
+        access._retry = time.monotonic() + 60
+        with self.assertRaisesRegex(CacheGone, "^second$"):
+            access.client()
 
 
 class Copies(unittest.TestCase):

@@ -1,5 +1,6 @@
 """Tests the proxy where something is missing: the process, the origin server, file descriptors, or sense in its options."""
 import asyncio
+import contextlib
 import os
 import re
 import resource
@@ -210,6 +211,35 @@ class WithoutProcess(ProxyTest):
             held.set()
             self.assertEqual(client.answer()[2], b"slow")
             self.assertEqual(lines_of(run)[1:], [])
+
+    def test_a_validation_whose_process_ends_closes_its_connection(self):
+        asked, killed, closed = threading.Event(), threading.Event(), threading.Event()
+        self.addCleanup(killed.set)
+
+        def answer(turn):
+            if self.origin.count(b"/window") == 1:
+                return response(b"page", b"Cache-Control: max-age=1, stale-while-revalidate=60", b'ETag: "1"')
+            turn.write(b"HTTP/1.1 200 OK\r\n%s\r\nContent-Length: 1000000\r\n\r\n" % FRESH)
+            time.sleep(0.2)
+            asked.set()
+            killed.wait(20)
+            turn.write(b"x" * 100_000)
+            with contextlib.suppress(OSError):
+                turn.body(1)
+            closed.set()
+
+        self.origin.answers[b"/window"] = answer
+        self.set_up(True)
+        with self.started() as run:
+            self.ask(b"/window")
+            time.sleep(2)
+            self.assertEqual(self.ask(b"/window")[2], b"page")
+            self.assertTrue(asked.wait(10))
+            self.kill(run)
+            self.assertTrue(wait_until(lambda: not children(run.pid)))
+            killed.set()
+            self.assertTrue(closed.wait(5))
+            run.stderr.close()
 
     def test_a_file_that_another_process_uses(self):
         self.set_up(True)

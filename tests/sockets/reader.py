@@ -1,6 +1,7 @@
 """Tests the reader of requests: byte by byte and at once it must return the same.
 
 What it accepts h11 must accept as the same request. h11 reads the connections to origin servers, and accepts more."""
+import time
 import unittest
 
 import h11
@@ -194,6 +195,12 @@ class Reading(unittest.TestCase):
             with self.subTest(data[:200]):
                 found = read(data)
                 self.assertEqual((found[-1], len(found) - 1), (status, before))
+
+    def test_a_long_line_of_a_chunk_takes_linear_time(self):
+        begun = time.process_time()
+        for _ in range(50):
+            self.assertEqual(read(CHUNKED + b"1;" + b" " * 4080 + b"\x01\r\n")[-1], 400)
+        self.assertLess(time.process_time() - begun, 0.5)
 
     def test_the_same_byte_by_byte(self):
         for data in [data for data, _ in ACCEPTED] + [data for _, _, data in REFUSED]:
