@@ -515,22 +515,22 @@ class Outages(unittest.TestCase):
         self.assertIn(f"GET {self.base}/page is sent without the cache: ", line)
 
     def test_a_process_that_hangs(self):
-        adapter = CacheAdapter(self.file, cache_timeout=2)
+        adapter = CacheAdapter(self.file, cache_timeout=6)
         with session_with(adapter) as session, self.assertLogs("http_cache_semantics", "WARNING") as log:
             self.assertEqual(self.numbers(session, "/page", "/page"), [False, True])
             pid = adapter.cache.pid
             os.kill(pid, signal.SIGSTOP)
             begun = time.monotonic()
             self.assertEqual(self.numbers(session, "/page"), [False])
-            self.assertAlmostEqual(time.monotonic() - begun, 2.3, delta=0.8)
+            self.assertAlmostEqual(time.monotonic() - begun, 7.4, delta=1.5)
             # The file outlives the process that was killed.
             self.assertEqual(self.numbers(session, "/page"), [True])
             self.assertFalse(Path(f"/proc/{pid}").exists())
         [line] = log.output
-        self.assertIn("requests are sent without the cache: cacheserve hasn't replied for 2 s", line)
+        self.assertIn("requests are sent without the cache: cacheserve hasn't replied for 6 s", line)
 
     def test_a_process_that_hangs_while_a_body_is_read(self):
-        adapter = CacheAdapter(cache_timeout=2)
+        adapter = CacheAdapter(cache_timeout=6)
         with session_with(adapter) as session:
             got = session.get(self.base + "/chunks", timeout=20, stream=True)
             pieces = got.iter_content(65_536)

@@ -303,7 +303,7 @@ class Transports:
         self.assertEqual((len(log.output), "secret" in log.output[0]), (1, False))
 
     def test_a_process_that_hangs(self):
-        client = self.made(lambda: type(self.client.transport)(cache_timeout=2))
+        client = self.made(lambda: type(self.client.transport)(cache_timeout=6))
         got = lambda: client.request("GET", self.origin.base + "/page").extensions["from_cache"]
         self.assertEqual([got(), got()], [False, True])
         pid = client.pid()
@@ -311,9 +311,9 @@ class Transports:
             os.kill(pid, signal.SIGSTOP)
             begun = time.monotonic()
             self.assertFalse(got())
-            self.assertAlmostEqual(time.monotonic() - begun, 2.3, delta=0.8)
+            self.assertAlmostEqual(time.monotonic() - begun, 7.4, delta=1.5)
             self.assertEqual([got(), got()], [False, True])
-        self.assertEqual((len(log.output), "hasn't replied for 2 s" in log.output[0]), (1, True))
+        self.assertEqual((len(log.output), "hasn't replied for 6 s" in log.output[0]), (1, True))
         self.assertNotIn(pid, children(os.getpid()))
         client.close()
 

@@ -155,20 +155,19 @@ class WithoutProcess(ProxyTest):
     def test_a_process_that_hangs(self):
         self.set_up(True)
         for loop in LOOPS:
-            with self.subTest(loop), self.started(f"--file={self.folder}/cache.db", "--cache-timeout=2", *loop) as run:
+            with self.subTest(loop), self.started(f"--file={self.folder}/cache.db", "--cache-timeout=6", *loop) as run:
                 self.assertTrue(wait_until(self.is_used))
                 [pid] = children(run.pid)
                 os.kill(pid, signal.SIGSTOP)
                 begun = time.monotonic()
                 with ThreadPoolExecutor(8) as pool:
                     answers = list(pool.map(lambda number: self.ask(b"/%d" % number), range(8)))
-                self.assertAlmostEqual(time.monotonic() - begun, 2.3, delta=0.8)
+                self.assertAlmostEqual(time.monotonic() - begun, 7.4, delta=1.5)
                 self.assertEqual([body for _, _, body in answers], [b"page /%d" % number for number in range(8)])
                 self.assertTrue(wait_until(lambda: is_hit(self.ask(b"/used")[1])))
                 self.assertNotIn(pid, children(run.pid))
-                lines = lines_of(run)
-            outage = "proxy: no cache, so requests are forwarded: cacheserve hasn't replied for 2 s"
-            self.assertEqual(lines[1:], [outage, "proxy: the cache is used again"])
+                outage = "proxy: no cache, so requests are forwarded: cacheserve hasn't replied for 6 s"
+                self.assertEqual(lines_of(run)[1:], [outage, "proxy: the cache is used again"])
 
     def test_a_process_that_hangs_does_not_outlive_the_proxy(self):
         self.set_up(True)

@@ -275,13 +275,13 @@ class Processes(unittest.TestCase):
         cache.close()
 
     def test_a_process_that_hangs(self):
-        with Cache(timeout=3) as cache:
+        with Cache(timeout=6) as cache:
             send, pid = cache.ask(get(b"/a")), cache.pid
             os.kill(pid, signal.SIGSTOP)
             begun = time.monotonic()
-            with self.assertRaisesRegex(CacheGone, "^cacheserve hasn't replied for 3 s$"):
+            with self.assertRaisesRegex(CacheGone, "^cacheserve hasn't replied for 6 s$"):
                 cache.ask(get(b"/a"))
-            self.assertAlmostEqual(time.monotonic() - begun, 3.2, delta=0.5)
+            self.assertAlmostEqual(time.monotonic() - begun, 6.8, delta=0.9)
             self.assertFalse(Path(f"/proc/{pid}").exists())
             with self.assertRaises(CacheGone):
                 cache.received(send, PAGE, b"page")
@@ -381,17 +381,17 @@ class Programs(unittest.TestCase):
         begun = time.monotonic()
         with self.assertRaisesRegex(CacheGone, "^cacheserve hasn't replied for 0.3 s$"):
             Cache(self.made("exec sleep 60"), timeout=0.3)
-        self.assertAlmostEqual(time.monotonic() - begun, 0.5, delta=0.3)
+        self.assertLess(time.monotonic() - begun, 3)
 
     def test_a_program_that_never_reads(self):
-        cache = Cache(self.made("""echo '{"protocol":1}'; exec sleep 60"""), timeout=0.3)
+        cache = Cache(self.made("""echo '{"protocol":1}'; exec sleep 60"""), timeout=2)
         pid = cache.pid
-        with self.assertRaisesRegex(CacheGone, "hasn't replied for 0.3 s"):
+        with self.assertRaisesRegex(CacheGone, "hasn't replied for 2 s"):
             cache.ask(get(b"/a"), b"x" * MEGABYTE)
         self.assertEqual((cache.pid, Path(f"/proc/{pid}").exists()), (None, False))
 
     def test_a_program_that_closes_its_output_and_goes_on(self):
-        cache = Cache(self.made("""echo '{"protocol":1}'; exec >&-; exec sleep 60"""), timeout=0.3)
+        cache = Cache(self.made("""echo '{"protocol":1}'; exec >&-; exec sleep 60"""), timeout=2)
         with self.assertRaises(CacheGone):
             cache.ask(get(b"/a"))
         self.assertIsNone(cache.pid)
@@ -449,7 +449,7 @@ class Asynchronous(unittest.IsolatedAsyncioTestCase):
             await self.cache.received(send, PAGE, b"page")
 
     async def test_the_process_hangs(self):
-        cache = AsyncCache(timeout=3)
+        cache = AsyncCache(timeout=6)
         send = await cache.ask(get(b"/a"))
         pid = cache.pid
         os.kill(pid, signal.SIGSTOP)
@@ -457,8 +457,8 @@ class Asynchronous(unittest.IsolatedAsyncioTestCase):
         # More than the pipe holds, so that some calls wait until they may write.
         asked = [cache.ask(get(b"/a"), b"x" * 100_000) for _ in range(5)]
         outcomes = await asyncio.gather(*asked, return_exceptions=True)
-        self.assertIn("cacheserve hasn't replied for 3 s", map(str, outcomes))
-        self.assertAlmostEqual(time.monotonic() - begun, 4, delta=1.2)
+        self.assertIn("cacheserve hasn't replied for 6 s", map(str, outcomes))
+        self.assertAlmostEqual(time.monotonic() - begun, 7.4, delta=1.5)
         with self.assertRaises(CacheGone):
             await cache.received(send, PAGE, b"page")
         self.assertIsInstance(await cache.ask(get(b"/a")), Send)
@@ -470,12 +470,12 @@ class Asynchronous(unittest.IsolatedAsyncioTestCase):
         self.assertAlmostEqual(time.monotonic() - begun, 0.5, delta=0.4)
 
     async def test_an_event_loop_that_is_held_up(self):
-        cache = AsyncCache(timeout=2)
+        cache = AsyncCache(timeout=4)
         await cache.start()
         pid = cache.pid
         asked = asyncio.ensure_future(cache.ask(get(b"/a")))
         await asyncio.sleep(0)
-        time.sleep(2.5)
+        time.sleep(4.5)
         self.assertEqual((type(await asked), cache.pid), (Send, pid))
         await cache.close()
 
