@@ -30,7 +30,7 @@ async def piece_or_end(response):
     except BadMessage as error:
         if "stalled" not in str(error):
             raise
-        response.has_ended = True
+        response._is_read = True
         return b""
 
 
