@@ -1,5 +1,5 @@
 -- The order of urls by the bytes of their full responses.
-use Rattle.std.specs.Prelude.{ℕ, ◌-◌, ◌^◌, nat_lt, Bool, false, List, [], ◌∷◌, ◌++◌, slice_get, codes, decimal, unwrap_or, if◌then◌else◌}
+use Rattle.std.specs.Prelude.{ℕ, ◌-◌, ◌^◌, Bool, false, List, [], ◌∷◌, slice_get, unwrap_or, if◌then◌else◌}
 use Rattle.std.specs.List.{flat_map, enumerate_from}
 use Rattle.std.specs.List.Sorted.{IsPermutation, IsSorted}
 use Rattle.http_cache_recording.specs.Entry.{RecordedSeen}
@@ -22,7 +22,3 @@ keys_of rs listed us = flat_map (key_at rs listed) (enumerate_from 0 us)
 pub record IsOrder (rs : List RecordedSeen) (us : List Url) (listed : List Bool) (order : List (ℕ × ℕ)) : Type 0 where
   pub each_once : IsPermutation (keys_of rs listed us) order
   pub ascending : IsSorted by_key order
-
--- the number of listed urls beyond the first twelve
-abbrev pub rest_text : ℕ → List ℕ
-rest_text n = if nat_lt 0 n then codes "  and " ++ (decimal n ++ codes " more: --lines has all\n") else []

@@ -1,5 +1,5 @@
 -- The facts that a report has about a recording, and what the recording costs with what is advised.
-use Rattle.std.specs.Prelude.{◌≡◌, Vec, ◌+◌, ◌/◌, ◌-ℤ◌, nat_abs, ℕ, ℤ, Bool, List, map, Option, option_map, string_bytes, length}
+use Rattle.std.specs.Prelude.{◌≡◌, Vec, ◌+◌, ◌/◌, ◌-ℤ◌, nat_abs, ℕ, ℤ, List, map, Option, option_map, length}
 use Rattle.std.specs.Option.{option_map_or}
 use Rattle.std.specs.declared.alloc.Global.{Global}
 use Rattle.http_uri.specs.declared.uri.Uri.{Uri}
@@ -21,8 +21,6 @@ use Rattle.http_cache_report.specs.Queries.{text_at, bases_of, changing_of}
 use Rattle.http_cache_report.specs.Remedy.{RemedySeen, remedied, is_still_in_full}
 use Rattle.http_cache_report.specs.Picks.{url_costs, known_after}
 use Rattle.http_cache_report.specs.Plain.{changing_seen, changing_in, plain_recorded}
-use Rattle.http_cache_report.specs.Top.{loads_of, page_url, IsFirstLine}
-use Rattle.http_cache_report.specs.Words.{host_of}
 use Rattle.http_cache_report.specs.Later.{AreVisits}
 use Rattle.http_cache_report.specs.declared.later.Visits.{Visits}
 
@@ -39,7 +37,7 @@ pub record AreRepeats (rs : List RecordedSeen) (rows : List RowSeen) (known : Li
   pub are_repeats : made.0.items ≡ repeats_of (length rs) known (changing_of (total_in made.1) rs rows) rows
 
 -- the facts about a recording, by its rows
-pub record AreFactsBy (rs : List RecordedSeen) (rows : List RowSeen) (is_shared : Bool) (f : Facts) : Type 0 where
+pub record AreFactsBy (rs : List RecordedSeen) (rows : List RowSeen) (f : Facts) : Type 0 where
   pub bases : Counts
   pub are_changing : map changing_seen f.changing.items ≡ changing_in bases
   pub are_known : f.known.items ≡ known_of rs rows
@@ -48,14 +46,12 @@ pub record AreFactsBy (rs : List RecordedSeen) (rows : List RowSeen) (is_shared 
   pub are_urls : f.urls.items ≡ urls_in (length rs) rows f.known.items
   pub are_repeats : AreRepeats rs rows f.known.items f.urls.items (f.repeats, bases)
   pub is_span : option_map span_seen f.span ≡ span_of rs rows
-  pub is_line : IsFirstLine rows (loads_of rows) (took (span_of rs rows)) is_shared f.line
-  pub is_host : string_bytes f.host ≡ host_of (page_url rows (loads_of rows))
 
 -- the facts about a recording, by its walk
-pub record AreFacts (rs : List RecordedSeen) (options : Options) (target : Uri) (is_shared : Bool) (f : Facts) : Type 0 where
+pub record AreFacts (rs : List RecordedSeen) (options : Options) (target : Uri) (f : Facts) : Type 0 where
   pub rows : List RowSeen
   pub are_rows : AreRows (record { recorded = rs; options = options; target = target }) rows
-  pub are_facts : AreFactsBy rs rows is_shared f
+  pub are_facts : AreFactsBy rs rows f
 
 -- the facts about each row if urls follow their advice, and the costs if they only answer a 304
 pub record AreAlone (rs : List RecordedSeen) (options : Options) (target : Uri) (ms : List RemedySeen) (known after : List Known) (costs : Counts)

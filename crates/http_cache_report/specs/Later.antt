@@ -1,15 +1,14 @@
 -- Later visits, and the urls that they request.
-use Rattle.std.specs.Prelude.{◌≡◌, ℕ, ℤ, ◌-◌, ◌*◌, ◌^◌, ◌+ℤ◌, ◌-ℤ◌, pos, min, max, ◌==◌, ◌&&◌, ◌||◌, nat_lt, nat_le, not, Bool, true, false}
-use Rattle.std.specs.Prelude.{List, [], ◌∷◌, ◌++◌, map, fold, slice_get, codes, decimal, Option, Some, None, if◌then◌else◌}
-use Rattle.std.specs.Fmt.{styled_decimal, format_spec}
-use Rattle.std.specs.List.{flat_map, list_any}
+use Rattle.std.specs.Prelude.{ℕ, ℤ, ◌-◌, ◌*◌, ◌+ℤ◌, ◌-ℤ◌, pos, min, max, ◌==◌, ◌&&◌, ◌||◌, nat_lt, nat_le, not, Bool, true, false}
+use Rattle.std.specs.Prelude.{List, [], ◌∷◌, ◌++◌, map, slice_get, codes, Option, Some, None, if◌then◌else◌}
+use Rattle.std.specs.List.{list_any}
 use Rattle.std.specs.Option.{option_map_or}
 use Rattle.http_uri.specs.declared.uri.Uri.{Uri}
 use Rattle.http_cache_rules.specs.Messages.{ResponseSeen}
 use Rattle.http_cache_semantics.specs.Options.{Options}
 use Rattle.http_cache_recording.specs.Entry.{RecordedSeen}
 use Rattle.http_cache_audit.specs.declared.counts.Counts.{Counts}
-use Rattle.http_cache_audit.specs.Counts.{Addition, label_of, when, total_in, HoldsCounts}
+use Rattle.http_cache_audit.specs.Counts.{Addition, label_of, when, total_in}
 use Rattle.http_cache_audit.specs.Cost.{response_of}
 use Rattle.http_cache_report.specs.declared.visit.Repeat.{Repeat}
 use Rattle.http_cache_report.specs.declared.urls.Url.{Url}
@@ -17,13 +16,8 @@ use Rattle.http_cache_report.specs.declared.urls.Life.{Life}
 use Rattle.http_cache_report.specs.declared.urls.Life.TheVariants as life
 use Rattle.http_cache_report.specs.declared.later.Visits.{Visits}
 use Rattle.http_cache_report.specs.declared.picks.Pick.{Pick}
-use Rattle.http_cache_report.specs.declared.advice.Advice.{Advice}
 use Rattle.http_cache_report.specs.Visit.{SpanSeen, IsVisit}
-use Rattle.http_cache_report.specs.Numbers.{rounded, kilobytes, duration}
-use Rattle.http_cache_report.specs.Advice.{control_of}
 use Rattle.http_cache_report.specs.Queries.{text_at}
-use Rattle.http_cache_report.specs.Picks.{advice_for}
-use Rattle.http_cache_report.specs.Words.{StyleSeen, url_text, life_text, left, right}
 
 -- ---- what visits cost
 
@@ -52,9 +46,6 @@ is_again c url = nat_lt 0 (total_in c (label_of (codes "again") url))
 abbrev pub is_confirmed : Counts → List ℕ → Bool
 is_confirmed c url = nat_lt 0 (total_in c (label_of (codes "confirmed") url))
 
-abbrev pub act : Counts → List ℕ → List ℕ
-act c url = if is_again c url then codes "again" else (if is_confirmed c url then codes "304" else codes "-")
-
 -- a visit requests a url
 abbrev pub asks : Counts → List ℕ → Bool
 asks c url = is_again c url || is_confirmed c url
@@ -62,25 +53,10 @@ asks c url = is_again c url || is_confirmed c url
 abbrev pub any_asks : Visits → List ℕ → Bool
 any_asks v url = asks v.hour url || asks v.day url || asks v.week url || asks v.month url
 
-abbrev pub acts_text : Visits → List ℕ → List ℕ
-acts_text v url = left 6 (act v.hour url) ++ (left 6 (act v.day url) ++ (left 6 (act v.week url) ++ left 6 (act v.month url)))
-
 -- ---- what the whole page costs
 
 abbrev pub sum_in : Counts → List ℕ → ℕ
 sum_in c name = total_in c (label_of (codes "visit") name)
-
-abbrev pub unknown_text : ℕ → List ℕ
-unknown_text n = if nat_lt 0 n then codes " and " ++ (decimal n ++ codes " unknown") else []
-
--- kilobytes, 304s, and responses of unknown size
-abbrev pub total_text : Counts → List ℕ
-total_text c =
-    codes "  " ++ (decimal (rounded (sum_in c (codes "bytes")) 1000)
-    ++ (codes " kB + " ++ (decimal (sum_in c (codes "confirmed")) ++ unknown_text (sum_in c (codes "unknown")))))
-
-abbrev pub totals_text : Visits → List ℕ
-totals_text v = total_text v.hour ++ (total_text v.day ++ (total_text v.week ++ (total_text v.month ++ codes "\n")))
 
 -- ---- which urls are listed
 
@@ -116,16 +92,6 @@ is_listed rs v ps least u =
 
 abbrev pub listed_of : List RecordedSeen → Visits → List Pick → ℕ → List Url → List Bool
 listed_of rs v ps least us = map (is_listed rs v ps least) us
-
-abbrev pub act_on : List RecordedSeen → Url → List ℕ
-act_on rs u =
-    if nat_le 400 (status_at rs u.full) then codes "fix the link"
-    else option_map_or (λ (a : Advice). control_of a) (advice_for rs u) []
-
-abbrev pub visit_text : StyleSeen → List RecordedSeen → Visits → Url → List ℕ
-visit_text s rs v u =
-    codes "  " ++ (left 34 (url_text s rs u.entry) ++ (right 9 (kilobytes (size_at rs u.full)) ++ (codes "  "
-    ++ (left 11 (life_text u.life) ++ (acts_text v (text_at rs u.entry) ++ (act_on rs u ++ codes "\n"))))))
 
 -- ---- urls that say no lifetime
 
@@ -172,39 +138,3 @@ most_guess rs most u = option_map_or (max most) (guess_of rs u) most
 
 abbrev pub guess_sum : Counts → List ℕ → ℕ
 guess_sum c name = total_in c (label_of (codes "guess") name)
-
--- a number at the left of a column, before blanks
-abbrev pub left_number : ℕ → ℕ → List ℕ
-left_number width n = styled_decimal (format_spec 32 1 0 width 18446744073709551615) n
-
--- how many of the urls that state no lifetime a 304 confirms
-abbrev pub guess_cell : Counts → List ℕ → List ℕ
-guess_cell c name = left_number 6 (guess_sum c name)
-
-abbrev pub guess_cells : Counts → List ℕ
-guess_cells c =
-    guess_cell c (codes "hour") ++ (guess_cell c (codes "day") ++ (guess_cell c (codes "week") ++ guess_cell c (codes "month")))
-
--- the bytes of the urls that state no lifetime
-abbrev pub guess_bytes : Counts → List ℕ
-guess_bytes c = kilobytes (guess_sum c (codes "bytes"))
-
-abbrev pub guess_range : ℕ → ℕ → List ℕ
-guess_range least most = duration least ++ (codes " to " ++ duration most)
-
-abbrev pub guess_head : Counts → ℕ → ℕ → List ℕ
-guess_head c least most =
-    codes "  " ++ (decimal (guess_sum c (codes "urls")) ++ (codes " that say no lifetime, "
-    ++ (guess_bytes c ++ (codes ", guessed as " ++ (guess_range least most ++ codes "; by a 304: ")))))
-
--- the line of the urls that state no lifetime, if there are any
-abbrev pub guess_text : Counts → ℕ → ℕ → List ℕ
-guess_text c least most =
-    if nat_lt 0 (guess_sum c (codes "urls"))
-    then guess_head c least most ++ (guess_cells c ++ codes "say max-age\n") else []
-
-pub record AddsGuesses (rs : List RecordedSeen) (v : Visits) (us : List Url) (old new : List ℕ) : Type 0 where
-  pub sums : Counts
-  pub are_sums : HoldsCounts (flat_map (guess_additions rs v) us) sums
-  pub is_text :
-      new ≡ old ++ guess_text sums (fold (least_guess rs) (2 ^ 64 - 1) us) (fold (most_guess rs) 0 us)

@@ -6,7 +6,6 @@ pub mod Urls
 pub mod Queries
 pub mod Remedy
 pub mod Picks
-pub mod Words
 pub mod Later
 pub mod BySize
 pub mod Both

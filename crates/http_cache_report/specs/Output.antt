@@ -5,14 +5,13 @@ use Rattle.http_cache_recording.specs.Entry.{RecordedSeen, ReadingSeen, entry, s
 use Rattle.http_cache_recording.specs.Recording.{IsRecording, IsCause}
 use Rattle.http_cache_report.specs.Heads.{is_heads, IsHeads}
 use Rattle.http_cache_report.specs.Heads as heads
-use Rattle.http_cache_report.specs.Responses.{AreResponses}
 use Rattle.http_cache_report.specs.declared.error.AuditError.{AuditError}
 use Rattle.http_cache_report.specs.declared.error.AuditError.TheVariants.{NotReadable, TooLong, Recording, Heads, Memory, NotWritten}
 use Rattle.http_cache_audit.specs.declared.report.Hits.{Hits}
 use Rattle.http_cache_report.specs.declared.run.Ended.{Ended}
 use Rattle.http_cache_report.specs.declared.run.Form.{Form}
 use Rattle.http_cache_report.specs.declared.run.Form.TheVariants.{Report, Html, All}
-use Rattle.http_cache_report.specs.Screen.{IsScreen}
+use Rattle.http_cache_report.specs.Screen.{AreHits}
 use Rattle.http_cache_report.specs.PageOf.{IsPage}
 use Rattle.http_cache_audit.specs.Change.{ChangeSeen}
 use Rattle.http_cache_audit.specs.Report.{SettingsSeen, IsAudit}
@@ -42,14 +41,15 @@ abbrev pub IsOfAll : Bool → SettingsSeen → List RecordedSeen → Hits → Li
 IsOfAll true s rs hits text = IsByUrl s rs text × (hits ≡ no_hits)
 IsOfAll false s rs hits text = IsAudit s rs hits text
 
--- the text is the report of a recording, or of responses of which only the heads were read
-abbrev pub IsReport : Bool → SettingsSeen → List RecordedSeen → Hits → List ℕ → Type 0
-IsReport true s rs hits text = AreResponses s.options rs text × (hits ≡ no_hits)
-IsReport false s rs hits text = IsScreen s rs hits text
+-- the hits of the report of a recording; there are none in the report of responses of which only
+-- the heads were read
+abbrev pub AreHitsOfReport : Bool → SettingsSeen → List RecordedSeen → Hits → Type 0
+AreHitsOfReport true s rs hits = hits ≡ no_hits
+AreHitsOfReport false s rs hits = AreHits s rs hits
 
--- the text is a report, a page, or about the whole recording
+-- the text is a page, or about the whole recording; of a report only the hits are known
 abbrev pub IsOfForm : Form → Bool → SettingsSeen → List RecordedSeen → Hits → List ℕ → Type 0
-IsOfForm Report are_heads s rs hits text = IsReport are_heads s rs hits text
+IsOfForm Report are_heads s rs hits text = AreHitsOfReport are_heads s rs hits
 IsOfForm Html are_heads s rs hits text = IsPage s rs hits text
 IsOfForm All are_heads s rs hits text = IsOfAll s.by_url s rs hits text
 

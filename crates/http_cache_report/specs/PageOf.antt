@@ -16,6 +16,6 @@ pub record IsPage (s : SettingsSeen) (rs : List RecordedSeen) (hits : Hits) (tex
   pub target : Uri
   pub facts : Facts
   pub pieces : List Piece
-  pub are_facts : AreFacts rs s.options target s.options.shared facts
+  pub are_facts : AreFacts rs s.options target facts
   pub are_hits : hits ≡ hits_of facts.sums
   pub is_text : text ≡ page_text pieces

@@ -1,16 +1,12 @@
 -- Queries that change while the response doesn't, and a recording without them.
-use Rattle.std.specs.Prelude.{ℕ, ◌-◌, ◌==◌, ◌&&◌, nat_lt, nat_eq, Bool, List, [], ◌∷◌, ◌++◌, length, map, take, drop, codes, decimal, bytes_eq, string_bytes, option_map, if◌then◌else◌}
+use Rattle.std.specs.Prelude.{ℕ, ◌==◌, ◌&&◌, nat_lt, nat_eq, Bool, List, [], ◌∷◌, map, drop, codes, bytes_eq, string_bytes, option_map, if◌then◌else◌}
 use Rattle.std.specs.List.{flat_map, list_any, starts_with, before_first}
 use Rattle.http_cache_recording.specs.Entry.{RecordedSeen}
 use Rattle.http_cache_audit.specs.declared.counts.Counts.{Counts}
 use Rattle.http_cache_audit.specs.Counts.{label_of, total_in}
 use Rattle.http_cache_audit.specs.Report.{CountSeen, count_seen}
 use Rattle.http_cache_report.specs.declared.plain.Changing.{Changing}
-use Rattle.http_cache_report.specs.BySize.{rest_text}
-use Rattle.http_cache_report.specs.First.{less}
-use Rattle.http_cache_report.specs.Numbers.{kilobytes}
 use Rattle.http_cache_report.specs.Queries.{base_of}
-use Rattle.http_cache_report.specs.Words.{short, left}
 
 -- ---- which there are
 
@@ -50,27 +46,3 @@ plain cs url = if is_base cs (base_of url) then base_of url else url
 
 abbrev pub plain_recorded : List (List ℕ × ℕ) → RecordedSeen → RecordedSeen
 plain_recorded cs r = record r { printed = record r.printed { url = option_map (plain cs) r.printed.url } }
-
--- ---- what that saves
-
-abbrev pub saved_words : List ℕ → ℕ → List ℕ
-saved_words amount n = if nat_lt 0 n then codes " (saves " ++ (amount ++ codes ")") else []
-
-abbrev pub saved_by : Counts → Counts → List ℕ × ℕ → List ℕ
-saved_by costs plain one =
-    let bytes = less costs plain (codes "later_base") one.0 in saved_words (kilobytes bytes) bytes
-
-abbrev pub query_words : List ℕ → ℕ → List ℕ
-query_words url n =
-    codes "  " ++ (left 34 url ++ (decimal n ++ codes " urls, one response -> leave the query out"))
-
-abbrev pub query_line : List ℕ → Counts → Counts → List ℕ × ℕ → List ℕ
-query_line host costs plain one =
-    query_words (short host one.0) one.1 ++ (saved_by costs plain one ++ codes "\n")
-
-unfoldable pub lines_of : List ℕ → Counts → Counts → List Changing → List ℕ
-lines_of host costs plain cs = flat_map (query_line host costs plain) (map changing_seen cs)
-
--- a line for the urls of each changing query, at most twelve, and the number of further ones
-abbrev pub query_lines : List ℕ → Counts → Counts → List Changing → List ℕ
-query_lines host costs plain cs = lines_of host costs plain (take 12 cs) ++ rest_text (length cs - 12)

@@ -4,10 +4,8 @@ ghost use Rattle.std.specs.List.{flat_map};
 ghost use Rattle.http_cache_semantics.specs.Options.{options_of};
 ghost use Rattle.http_cache_recording.specs.Entry.{recorded_seen, printed_seen};
 ghost use Rattle.http_cache_audit.specs.Row.{row_seen, kept_seen, received_seen};
-ghost use Rattle.http_cache_report.specs.Words.{style_seen, with_piece};
 ghost use Rattle.http_cache_report.specs.BySize.{IsOrder};
-ghost use Rattle.http_cache_report.specs.Both.{kept_text, obstacle_text, received_text, row_text, text_of, do_differ, differs};
-ghost use Rattle.http_cache_report.specs.Both.{differing, both_line, both_at, both_head, both_section, other_cache, IsBoth};
+ghost use Rattle.http_cache_report.specs.Both.{other_cache};
 
 use crate::by_size::{MOST, order_of, push_rest};
 use crate::numbers::duration;
@@ -22,17 +20,12 @@ use http_cache_semantics::CacheOptions;
 use http_cache_semantics::explain::Obstacles;
 use std::alloc::{AllocError, Global};
 
-fn kept_text(alloc: Global, kept: &Kept) -> Result<String, AllocError>
-    ensures { IfOk result (λ text. string_bytes text ≡ kept_text (kept_seen kept.now)) }
-{
+fn kept_text(alloc: Global, kept: &Kept) -> Result<String, AllocError> {
     let (life, by) = (duration(alloc, kept.lifetime.seconds)?, kept.lifetime.by);
     format!(in alloc; "{life} by {by}")
 }
 
-fn joined(alloc: Global, texts: &[String]) -> Result<String, AllocError>
-    ensures { IfOk result (λ text. string_bytes text
-        ≡ fold with_piece [] (map string_bytes texts.now)) }
-{
+fn joined(alloc: Global, texts: &[String]) -> Result<String, AllocError> {
     let mut out = String::new(alloc);
     for text in texts {
         push_piece(&mut out, text.as_str())?;
@@ -45,10 +38,7 @@ pub fn obstacle_text(
     alloc: Global,
     printed: &Printed,
     obstacles: &Obstacles,
-) -> Result<String, AllocError>
-    ensures { IfOk result (λ text. string_bytes text
-        ≡ obstacle_text (printed_seen printed.now) obstacles.now) }
-{
+) -> Result<String, AllocError> {
     let method = printed.method.as_deref().unwrap_or("");
     let reasons = reasons(alloc, method, printed.status, obstacles)?;
     let words = joined(alloc, reasons.as_slice())?;
@@ -59,10 +49,7 @@ fn received_text(
     alloc: Global,
     printed: &Printed,
     received: &Received,
-) -> Result<String, AllocError>
-    ensures { IfOk result (λ text. string_bytes text
-        ≡ received_text (printed_seen printed.now) (received_seen received.now)) }
-{
+) -> Result<String, AllocError> {
     match received {
         Received::Stored(kept) | Received::Updated(kept) | Received::UpdatedOther(kept) => {
             kept_text(alloc, kept)
@@ -73,9 +60,7 @@ fn received_text(
 }
 
 /// Returns what a cache does with the response of a row, or an empty text if it received none.
-pub fn row_text(alloc: Global, row: &Row<'_>) -> Result<String, AllocError>
-    ensures { IfOk result (λ text. string_bytes text ≡ row_text (row_seen row.now)) }
-{
+pub fn row_text(alloc: Global, row: &Row<'_>) -> Result<String, AllocError> {
     match &row.verdict {
         Some(verdict) => received_text(alloc, &row.recorded.printed, &verdict.received),
         None => Ok(String::new(alloc)),
@@ -83,9 +68,7 @@ pub fn row_text(alloc: Global, row: &Row<'_>) -> Result<String, AllocError>
 }
 
 /// Returns what a cache does with the response of the row at an index.
-pub fn text_of(alloc: Global, rows: &[Row<'_>], index: usize) -> Result<String, AllocError>
-    ensures { IfOk result (λ text. string_bytes text ≡ text_of (map row_seen rows.now) index) }
-{
+pub fn text_of(alloc: Global, rows: &[Row<'_>], index: usize) -> Result<String, AllocError> {
     match rows.get(index) {
         Some(row) => row_text(alloc, row),
         None => Ok(String::new(alloc)),
@@ -93,16 +76,16 @@ pub fn text_of(alloc: Global, rows: &[Row<'_>], index: usize) -> Result<String, 
 }
 
 // Returns whether both texts say something, and differ.
-fn do_differ(x: &str, y: &str) -> bool
-    ensures { result ≡ do_differ x.now y.now }
-{
+fn do_differ(x: &str, y: &str) -> bool {
     !x.is_empty() && !y.is_empty() && x != y
 }
 
-fn differs(alloc: Global, own: &[Row<'_>], other: &[Row<'_>], url: &Url) -> Result<bool, AllocError>
-    ensures { IfOk result (λ holds. holds
-        ≡ differs (map row_seen own.now) (map row_seen other.now) url.now) }
-{
+fn differs(
+    alloc: Global,
+    own: &[Row<'_>],
+    other: &[Row<'_>],
+    url: &Url,
+) -> Result<bool, AllocError> {
     let (x, y) = (
         text_of(alloc, own, url.row)?,
         text_of(alloc, other, url.row)?,
@@ -116,10 +99,7 @@ fn differing(
     own: &[Row<'_>],
     other: &[Row<'_>],
     urls: &[Url],
-) -> Result<Vec<bool>, AllocError>
-    ensures { IfOk result (λ all. all.items
-        ≡ differing (map row_seen own.now) (map row_seen other.now) urls.now) }
-{
+) -> Result<Vec<bool>, AllocError> {
     let mut all = Vec::with_capacity(alloc, urls.len())?;
     for url in urls {
         all.push(differs(alloc, own, other, url)?)?;
@@ -134,10 +114,7 @@ fn both_line(
     own: &[Row<'_>],
     other: &[Row<'_>],
     url: &Url,
-) -> Result<String, AllocError>
-    ensures { IfOk result (λ text. string_bytes text ≡ both_line (style_seen short.now)
-        (map recorded_seen recorded.now) (map row_seen own.now) (map row_seen other.now) url.now) }
-{
+) -> Result<String, AllocError> {
     let text = short.url_text(recorded, url.entry);
     let (own, other) = (
         text_of(alloc, own, url.row)?,
@@ -155,11 +132,7 @@ fn push_at(
     other: &[Row<'_>],
     urls: &[Url],
     key: (u64, usize),
-) -> Result<(), AllocError>
-    ensures { OnOk result (string_bytes out.new ≡ string_bytes out.old ++ both_at
-        (style_seen short.now) (map recorded_seen recorded.now) (map row_seen own.now)
-        (map row_seen other.now) urls.now key) }
-{
+) -> Result<(), AllocError> {
     match urls.get(key.1) {
         Some(url) => {
             let line = both_line(alloc, short, recorded, own, other, url)?;
@@ -178,20 +151,14 @@ fn push_first(
     other: &[Row<'_>],
     urls: &[Url],
     order: &[(u64, usize)],
-) -> Result<(), AllocError>
-    ensures { OnOk result (string_bytes out.new ≡ string_bytes out.old ++ flat_map (both_at
-        (style_seen short.now) (map recorded_seen recorded.now) (map row_seen own.now)
-        (map row_seen other.now) urls.now) order.now) }
-{
+) -> Result<(), AllocError> {
     for key in order {
         push_at(alloc, out, short, recorded, own, other, urls, *key)?;
     }
     Ok(())
 }
 
-fn both_head(is_shared: bool) -> &'static str
-    ensures { result.now ≡ both_head is_shared }
-{
+fn both_head(is_shared: bool) -> &'static str {
     if is_shared {
         "\nCDN AND BROWSER\n"
     } else {
@@ -209,11 +176,7 @@ fn both_section(
     other: &[Row<'_>],
     urls: &[Url],
     order: &[(u64, usize)],
-) -> Result<String, AllocError>
-    ensures { IfOk result (λ text. string_bytes text ≡ both_section (style_seen short.now) is_shared
-        (map recorded_seen recorded.now) (map row_seen own.now) (map row_seen other.now) urls.now
-        order.now) }
-{
+) -> Result<String, AllocError> {
     let mut out = String::new(alloc);
     if order.is_empty() {
         return Ok(out);
@@ -241,10 +204,7 @@ pub fn differing_order(
     own: &[Row<'_>],
     other: &[Row<'_>],
     urls: &[Url],
-) -> Result<Vec<(u64, usize)>, AllocError>
-    ensures { IfOk result (λ order. IsOrder (map recorded_seen recorded.now) urls.now
-        (differing (map row_seen own.now) (map row_seen other.now) urls.now) order.items) }
-{
+) -> Result<Vec<(u64, usize)>, AllocError> {
     let listed = differing(alloc, own, other, urls)?;
     order_of(alloc, recorded, urls, listed.as_slice())
 }
@@ -267,10 +227,7 @@ pub fn both_text<'a>(
     target: &'a Uri,
     options: CacheOptions,
     urls: &[Url],
-) -> Result<String, AllocError>
-    ensures { IfOk result (λ text. IsBoth (style_seen short.now) (map recorded_seen recorded.now)
-        (options_of options) target.now urls.now (string_bytes text)) }
-{
+) -> Result<String, AllocError> {
     let (is_shared, other) = (options.shared, other_cache(&options));
     let own = rows_of(alloc, recorded, target, options)?;
     let other = rows_of(alloc, recorded, target, other)?;

@@ -1,7 +1,7 @@
 //! Orders urls by the bytes of their full responses.
 ghost use Rattle.std.specs.Prelude.{◌≡◌, ◌++◌, map, IfOk, OnOk, string_bytes};
 ghost use Rattle.http_cache_recording.specs.Entry.{recorded_seen};
-ghost use Rattle.http_cache_report.specs.BySize.{key_by, key_at, keys_of, IsOrder, rest_text};
+ghost use Rattle.http_cache_report.specs.BySize.{key_by, key_at, keys_of, IsOrder};
 
 use crate::later::size_at;
 use crate::urls::Url;
@@ -72,9 +72,7 @@ pub fn order_of(
 }
 
 /// Adds how many urls aren't listed, if there are any.
-pub fn push_rest(out: &mut String, count: usize) -> Result<(), AllocError>
-    ensures { OnOk result (string_bytes out.new ≡ string_bytes out.old ++ rest_text count) }
-{
+pub fn push_rest(out: &mut String, count: usize) -> Result<(), AllocError> {
     if count > 0 {
         write!(out, "  and {count} more: --lines has all\n")
     } else {

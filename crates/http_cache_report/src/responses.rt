@@ -9,13 +9,10 @@ ghost use Rattle.http_cache_recording.specs.Entry.{recorded_seen};
 ghost use Rattle.http_cache_audit.specs.Row.{row_seen, lifetime_seen, kept_seen, received_seen};
 ghost use Rattle.http_cache_report.specs.Remedy.{remedy_seen};
 ghost use Rattle.http_cache_report.specs.Visit.{span_seen};
-ghost use Rattle.http_cache_report.specs.Responses.{line_text, cache_of, is_directive, source_text, age_text, kept_text};
-ghost use Rattle.http_cache_report.specs.Responses.{age_of, received_text, row_text, first_text, IsCacheText, act_text};
-ghost use Rattle.http_cache_report.specs.Responses.{visits_text, fault_line, fault_lines, seen_text, send_text, weight};
-ghost use Rattle.http_cache_report.specs.Responses.{weights, remedies_for, AreVisitsWith, asks_less, send_line, sent_line};
-ghost use Rattle.http_cache_report.specs.Responses.{IsAdvised, IsSent};
-ghost use Rattle.http_cache_report.specs.Responses.{IsSentBy, IsLaterOf, IsLaterBy, head_line, lines_text, IsResponse};
-ghost use Rattle.http_cache_report.specs.Responses.{heads_word, first_line, AreResponses};
+ghost use Rattle.http_cache_report.specs.Responses.{cache_of};
+ghost use Rattle.http_cache_report.specs.Responses.{age_of};
+ghost use Rattle.http_cache_report.specs.Responses.{weight};
+ghost use Rattle.http_cache_report.specs.Responses.{weights, remedies_for, AreVisitsWith, asks_less};
 
 use crate::advice::{Advice, control_of};
 use crate::both::obstacle_text;
@@ -43,10 +40,7 @@ use http_cache_semantics::CacheOptions;
 use std::alloc::{AllocError, Global};
 
 // Adds a line of a name and a text, with `?` for each control character.
-fn push_line(alloc: Global, out: &mut String, name: &str, text: &str) -> Result<(), AllocError>
-    ensures { OnOk result (string_bytes out.new ≡ string_bytes out.old
-        ++ line_text name.now text.now) }
-{
+fn push_line(alloc: Global, out: &mut String, name: &str, text: &str) -> Result<(), AllocError> {
     let line = format!(in alloc; "  {name:<10}{text}")?;
     push_printed(out, line.as_str())
 }
@@ -61,16 +55,12 @@ fn cache_of(options: &CacheOptions, is_shared: bool) -> CacheOptions
 }
 
 // Returns whether a lifetime is set by a readable directive.
-fn is_directive(by: &str) -> bool
-    ensures { result ≡ is_directive by.now }
-{
+fn is_directive(by: &str) -> bool {
     by == "max-age" || by == "s-maxage"
 }
 
 // Returns what sets a lifetime: the directive as written, or words, with the text if there is one.
-fn source_text(alloc: Global, lifetime: &Lifetime) -> Result<String, AllocError>
-    ensures { IfOk result (λ text. string_bytes text ≡ source_text (lifetime_seen lifetime.now)) }
-{
+fn source_text(alloc: Global, lifetime: &Lifetime) -> Result<String, AllocError> {
     let by = lifetime.by;
     match &lifetime.source {
         None => String::from_str(alloc, by),
@@ -83,9 +73,7 @@ fn source_text(alloc: Global, lifetime: &Lifetime) -> Result<String, AllocError>
 }
 
 // Returns the age at the receipt and the lifetime left then, if there is an age.
-fn age_text(alloc: Global, age: u64, left: u64) -> Result<String, AllocError>
-    ensures { IfOk result (λ text. string_bytes text ≡ age_text age left) }
-{
+fn age_text(alloc: Global, age: u64, left: u64) -> Result<String, AllocError> {
     if age == 0 {
         return Ok(String::new(alloc));
     }
@@ -93,9 +81,7 @@ fn age_text(alloc: Global, age: u64, left: u64) -> Result<String, AllocError>
     format!(in alloc; ", age {age}, {left} left")
 }
 
-fn kept_text(alloc: Global, age: u64, kept: &Kept) -> Result<String, AllocError>
-    ensures { IfOk result (λ text. string_bytes text ≡ kept_text age (kept_seen kept.now)) }
-{
+fn kept_text(alloc: Global, age: u64, kept: &Kept) -> Result<String, AllocError> {
     let life = duration(alloc, kept.lifetime.seconds)?;
     let source = source_text(alloc, &kept.lifetime)?;
     let age = age_text(alloc, age, kept.time_to_live)?;
@@ -117,10 +103,7 @@ fn received_text(
     alloc: Global,
     recorded: &Recorded,
     received: &Received,
-) -> Result<String, AllocError>
-    ensures { IfOk result (λ text. string_bytes text
-        ≡ received_text (recorded_seen recorded.now) (received_seen received.now)) }
-{
+) -> Result<String, AllocError> {
     match received {
         Received::Stored(kept) | Received::Updated(kept) | Received::UpdatedOther(kept) => {
             kept_text(alloc, age_of(recorded), kept)
@@ -133,18 +116,14 @@ fn received_text(
     }
 }
 
-fn row_text(alloc: Global, row: &Row<'_>) -> Result<String, AllocError>
-    ensures { IfOk result (λ text. string_bytes text ≡ row_text (row_seen row.now)) }
-{
+fn row_text(alloc: Global, row: &Row<'_>) -> Result<String, AllocError> {
     match &row.verdict {
         Some(verdict) => received_text(alloc, row.recorded, &verdict.received),
         None => Ok(String::new(alloc)),
     }
 }
 
-fn first_text(alloc: Global, rows: &[Row<'_>]) -> Result<String, AllocError>
-    ensures { IfOk result (λ text. string_bytes text ≡ first_text (map row_seen rows.now)) }
-{
+fn first_text(alloc: Global, rows: &[Row<'_>]) -> Result<String, AllocError> {
     match rows.first() {
         Some(row) => row_text(alloc, row),
         None => Ok(String::new(alloc)),
@@ -157,17 +136,12 @@ fn cache_text(
     recorded: &[Recorded],
     target: &Uri,
     cache: CacheOptions,
-) -> Result<String, AllocError>
-    ensures { IfOk result (λ text. IsCacheText (map recorded_seen recorded.now) (options_of cache)
-        target.now (string_bytes text)) }
-{
+) -> Result<String, AllocError> {
     let rows = rows_of(alloc, recorded, target, cache)?;
     first_text(alloc, rows.as_slice())
 }
 
-fn act_text(visit: &Counts, url: &str) -> Result<&'static str, AllocError>
-    ensures { IfOk result (λ word. word.now ≡ act_text visit.now url.now) }
-{
+fn act_text(visit: &Counts, url: &str) -> Result<&'static str, AllocError> {
     let (again, confirmed) = (is_again(visit, url)?, is_confirmed(visit, url)?);
     Ok(if again {
         "again"
@@ -178,27 +152,20 @@ fn act_text(visit: &Counts, url: &str) -> Result<&'static str, AllocError>
     })
 }
 
-fn visits_text(alloc: Global, visits: &Visits, url: &str) -> Result<String, AllocError>
-    ensures { IfOk result (λ text. string_bytes text ≡ visits_text visits.now url.now) }
-{
+fn visits_text(alloc: Global, visits: &Visits, url: &str) -> Result<String, AllocError> {
     let hour = act_text(&visits.hour, url)?;
     let day = act_text(&visits.day, url)?;
     let week = act_text(&visits.week, url)?;
     format!(in alloc; "{hour} in an hour, {day} in a day, {week} in a week")
 }
 
-fn push_fault(alloc: Global, out: &mut String, words: &str) -> Result<(), AllocError>
-    ensures { OnOk result (string_bytes out.new ≡ string_bytes out.old ++ fault_line words.now) }
-{
+fn push_fault(alloc: Global, out: &mut String, words: &str) -> Result<(), AllocError> {
     let send = send_for(words);
     let text = format!(in alloc; "{words} -> {send}")?;
     push_line(alloc, out, "wrong:", text.as_str())
 }
 
-fn push_faults(alloc: Global, out: &mut String, faults: &[String]) -> Result<(), AllocError>
-    ensures { OnOk result (string_bytes out.new ≡ string_bytes out.old
-        ++ fault_lines (map string_bytes faults.now)) }
-{
+fn push_faults(alloc: Global, out: &mut String, faults: &[String]) -> Result<(), AllocError> {
     for words in faults {
         push_fault(alloc, out, words.as_str())?;
     }
@@ -211,10 +178,7 @@ fn seen_text(
     recorded: &[Recorded],
     visits: &Visits,
     url: &Url,
-) -> Result<String, AllocError>
-    ensures { IfOk result (λ text. string_bytes text
-        ≡ seen_text (map recorded_seen recorded.now) visits.now url.now) }
-{
+) -> Result<String, AllocError> {
     let mut out = String::new(alloc);
     let acts = visits_text(alloc, visits, text_at(recorded, url.entry))?;
     let faults = faults_of(alloc, recorded, url)?;
@@ -223,9 +187,7 @@ fn seen_text(
     Ok(out)
 }
 
-fn send_text(alloc: Global, advice: Advice) -> Result<String, AllocError>
-    ensures { IfOk result (λ text. string_bytes text ≡ send_text advice) }
-{
+fn send_text(alloc: Global, advice: Advice) -> Result<String, AllocError> {
     let (control, tag) = (control_of(advice), tag_words(advice.adds_tag));
     let answer = answer_words(advice.answers_304);
     format!(in alloc; "Cache-Control: {control}{tag}{answer}")
@@ -300,9 +262,7 @@ fn asks_less(after: &Visits, visits: &Visits, url: &str) -> Result<bool, AllocEr
     Ok(after < before)
 }
 
-fn send_line(alloc: Global, advice: Advice) -> Result<String, AllocError>
-    ensures { IfOk result (λ text. string_bytes text ≡ send_line advice) }
-{
+fn send_line(alloc: Global, advice: Advice) -> Result<String, AllocError> {
     let mut out = String::new(alloc);
     let text = send_text(alloc, advice)?;
     push_line(alloc, &mut out, "send:", text.as_str())?;
@@ -316,10 +276,7 @@ fn sent_line(
     url: &str,
     visits: &Visits,
     after: &Visits,
-) -> Result<String, AllocError>
-    ensures { IfOk result (λ text. string_bytes text
-        ≡ sent_line advice url.now visits.now after.now) }
-{
+) -> Result<String, AllocError> {
     if asks_less(after, visits, url)? {
         send_line(alloc, advice)
     } else {
@@ -337,11 +294,7 @@ fn advised_text(
     url: &str,
     visits: &Visits,
     advice: Advice,
-) -> Result<String, AllocError>
-    ensures { IfOk result (λ text. IsAdvised (map recorded_seen recorded.items)
-        (options_of options.now) target.now facts.now (span_seen span.now) url.now visits.now advice
-        (string_bytes text)) }
-{
+) -> Result<String, AllocError> {
     let after = visits_with(alloc, recorded, target, options, facts, span, url, advice)?;
     sent_line(alloc, advice, url, visits, &after)
 }
@@ -357,11 +310,7 @@ fn sent_by(
     url: &str,
     visits: &Visits,
     advice: Option<Advice>,
-) -> Result<String, AllocError>
-    ensures { IfOk result (λ text. IsSentBy (map recorded_seen recorded.items)
-        (options_of options.now) target.now facts.now (span_seen span.now) url.now visits.now advice
-        (string_bytes text)) }
-{
+) -> Result<String, AllocError> {
     match advice {
         Some(advice) => {
             advised_text(
@@ -382,10 +331,7 @@ fn sent_text(
     span: &Span,
     url: &Url,
     visits: &Visits,
-) -> Result<String, AllocError>
-    ensures { IfOk result (λ text. IsSent (map recorded_seen recorded.items) (options_of options.now)
-        target.now facts.now (span_seen span.now) url.now visits.now (string_bytes text)) }
-{
+) -> Result<String, AllocError> {
     let advice = advice_for(recorded.as_slice(), url);
     let text = String::from_str(alloc, text_at(recorded.as_slice(), url.entry))?;
     let name = text.as_str();
@@ -403,11 +349,7 @@ fn later_text(
     facts: &Facts,
     url: &Url,
     span: &Span,
-) -> Result<String, AllocError>
-    ensures { IfOk result (λ text. IsLaterOf (map recorded_seen recorded.items)
-        (options_of options.now) target.now facts.now url.now (span_seen span.now)
-        (string_bytes text)) }
-{
+) -> Result<String, AllocError> {
     let mut recorded = recorded;
     let (repeats, when) = (facts.repeats.as_slice(), *span);
     let visits = visits_of(alloc, &mut recorded, repeats, when, target, *options)?;
@@ -426,10 +368,7 @@ fn later_by(
     facts: &Facts,
     url: Option<Url>,
     span: Option<Span>,
-) -> Result<String, AllocError>
-    ensures { IfOk result (λ text. IsLaterBy (map recorded_seen recorded.items)
-        (options_of options.now) target.now facts.now url span (string_bytes text)) }
-{
+) -> Result<String, AllocError> {
     match (url, span) {
         (Some(url), Some(span)) => later_text(alloc, recorded, target, options, facts, &url, &span),
         _ => Ok(String::new(alloc)),
@@ -437,9 +376,7 @@ fn later_by(
 }
 
 // Returns the name, the status and the bytes of a response.
-fn head_line(alloc: Global, recorded: &Recorded) -> Result<String, AllocError>
-    ensures { IfOk result (λ text. string_bytes text ≡ head_line (recorded_seen recorded.now)) }
-{
+fn head_line(alloc: Global, recorded: &Recorded) -> Result<String, AllocError> {
     let (url, status) = (target_of(recorded), recorded.printed.status);
     let size = kilobytes(alloc, recorded.printed.sent)?;
     format!(in alloc; "\n{url}, status {status}, {size}\n")
@@ -452,10 +389,7 @@ fn lines_text(
     browser: &str,
     cdn: &str,
     later: &str,
-) -> Result<String, AllocError>
-    ensures { IfOk result (λ text. string_bytes text
-        ≡ lines_text head.now browser.now cdn.now later.now) }
-{
+) -> Result<String, AllocError> {
     let mut out = String::from_str(alloc, head)?;
     push_line(alloc, &mut out, "browser:", browser)?;
     push_line(alloc, &mut out, "CDN:", cdn)?;
@@ -485,10 +419,7 @@ fn response_text(
     recorded: Recorded,
     target: &Uri,
     options: &CacheOptions,
-) -> Result<String, AllocError>
-    ensures { IfOk result (λ text. IsResponse (options_of options.now) target.now
-        (recorded_seen recorded) (string_bytes text)) }
-{
+) -> Result<String, AllocError> {
     let head = head_line(alloc, &recorded)?;
     let only = only_of(alloc, recorded)?;
     let browser = cache_text(alloc, only.as_slice(), target, cache_of(options, false))?;
@@ -510,10 +441,7 @@ fn texts_of(
     recorded: Vec<Recorded>,
     target: &Uri,
     options: &CacheOptions,
-) -> Result<Vec<String>, AllocError>
-    ensures { IfOk result (λ all. AllZip (IsResponse (options_of options.now) target.now)
-        (map recorded_seen recorded.items) (map string_bytes all.items)) }
-{
+) -> Result<Vec<String>, AllocError> {
     let mut all = Vec::with_capacity(alloc, recorded.len())?;
     for one in recorded {
         all.push(response_text(alloc, one, target, options)?)?;
@@ -521,26 +449,18 @@ fn texts_of(
     Ok(all)
 }
 
-fn heads_word(count: usize) -> &'static str
-    ensures { result.now ≡ heads_word count }
-{
+fn heads_word(count: usize) -> &'static str {
     if count == 1 { " head" } else { " heads" }
 }
 
 // Returns the number of heads, and the kind of cache.
-fn first_line(alloc: Global, recorded: &[Recorded], is_shared: bool) -> Result<String, AllocError>
-    ensures { IfOk result (λ text. string_bytes text
-        ≡ first_line (length (map recorded_seen recorded.now)) is_shared) }
-{
+fn first_line(alloc: Global, recorded: &[Recorded], is_shared: bool) -> Result<String, AllocError> {
     let count = recorded.len();
     let (word, cache) = (heads_word(count), asked_text(is_shared));
     format!(in alloc; "{count}{word}{cache}")
 }
 
-fn push_texts(out: &mut String, texts: &[String]) -> Result<(), AllocError>
-    ensures { OnOk result (string_bytes out.new ≡ string_bytes out.old
-        ++ flat_map (λ t. t) (map string_bytes texts.now)) }
-{
+fn push_texts(out: &mut String, texts: &[String]) -> Result<(), AllocError> {
     for text in texts {
         out.push_str(text.as_str())?;
     }
@@ -554,10 +474,7 @@ pub fn responses_text(
     alloc: Global,
     recorded: Vec<Recorded>,
     options: CacheOptions,
-) -> Result<String, AllocError>
-    ensures { IfOk result (λ text. AreResponses (options_of options)
-        (map recorded_seen recorded.items) (string_bytes text)) }
-{
+) -> Result<String, AllocError> {
     let target = no_target(alloc)?;
     let mut out = first_line(alloc, recorded.as_slice(), options.shared)?;
     let texts = texts_of(alloc, recorded, &target, &options)?;

@@ -3,7 +3,7 @@ ghost use Rattle.std.specs.Prelude.{◌≡◌, ◌≢◌, List, ℕ, Some, Err, 
 ghost use Rattle.std.specs.Io.KnownBytes.{Appends};
 ghost use Rattle.http_cache_recording.specs.Entry.{recorded_seen};
 ghost use Rattle.http_cache_audit.specs.Report.{settings_seen};
-ghost use Rattle.http_cache_report.specs.Output.{front_of, any_audited, no_hits, IsOfAll, IsReport, IsOfForm, IsPrinted, IsAudited, IsRefusal};
+ghost use Rattle.http_cache_report.specs.Output.{front_of, any_audited, no_hits, IsOfAll, AreHitsOfReport, IsOfForm, IsPrinted, IsAudited, IsRefusal};
 ghost use Rattle.http_cache_report.specs.Output.{IsInput};
 ghost use Rattle.http_cache_audit.specs.Change.{change_seen};
 
@@ -161,8 +161,8 @@ fn report_of(
     are_heads: bool,
     settings: Settings,
 ) -> Result<(String, Hits), AllocError>
-    ensures { IfOk result (λ made. IsReport are_heads (settings_seen settings)
-        (map recorded_seen recorded.items) made.1 (string_bytes made.0)) }
+    ensures { IfOk result (λ made. AreHitsOfReport are_heads (settings_seen settings)
+        (map recorded_seen recorded.items) made.1) }
 {
     if are_heads {
         let text = responses_text(alloc, recorded, settings.options)?;

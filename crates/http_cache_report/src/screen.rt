@@ -5,10 +5,9 @@ ghost use Rattle.std.specs.List.{flat_map};
 ghost use Rattle.http_cache_recording.specs.Entry.{recorded_seen};
 ghost use Rattle.http_cache_audit.specs.Counts.{total_in};
 ghost use Rattle.http_cache_audit.specs.Report.{settings_seen, count_seen};
-ghost use Rattle.http_cache_report.specs.Words.{style_seen};
-ghost use Rattle.http_cache_report.specs.Screen.{bytes_words, kind_line, apart_line, apart_lines, not_judged, base_of, sums_by};
-ghost use Rattle.http_cache_report.specs.Screen.{all_by, top_text, short_of, least_of, visit_at, visit_lines, AreVisitLines, end_text, notes_text};
-ghost use Rattle.http_cache_report.specs.Screen.{AreTexts, wrong_lines, wrong_section, change_head, changes_text, visit_head, later_text, sections_text, AreSections, AreSectionsOf, hits_of, screen_text, IsScreen};
+ghost use Rattle.http_cache_report.specs.Screen.{base_of, sums_by};
+ghost use Rattle.http_cache_report.specs.Screen.{all_by, least_of};
+ghost use Rattle.http_cache_report.specs.Screen.{hits_of, AreHits};
 ghost use Rattle.http_cache_report.specs.Picks.{ArePicks};
 
 use crate::both::both_text;
@@ -35,9 +34,7 @@ use std::alloc::{AllocError, Global};
 use std::fmt::Write;
 
 /// Returns an amount in words, or an empty text for 0 bytes.
-pub fn bytes_words(alloc: Global, amount: &str, bytes: u64) -> Result<String, AllocError>
-    ensures { IfOk result (λ text. string_bytes text ≡ bytes_words amount.now bytes) }
-{
+pub fn bytes_words(alloc: Global, amount: &str, bytes: u64) -> Result<String, AllocError> {
     if bytes == 0 {
         return Ok(String::new(alloc));
     }
@@ -51,10 +48,7 @@ fn push_kind(
     sums: &Counts,
     name: &str,
     count: u64,
-) -> Result<(), AllocError>
-    ensures { OnOk result (string_bytes out.new ≡ string_bytes out.old
-        ++ kind_line sums.now name.now count) }
-{
+) -> Result<(), AllocError> {
     let bytes = sums.total_of("apart_bytes", name)?;
     let amount = kilobytes(alloc, bytes)?;
     let words = bytes_words(alloc, amount.as_str(), bytes)?;
@@ -67,19 +61,14 @@ fn push_apart(
     sums: &Counts,
     label: &str,
     count: u64,
-) -> Result<(), AllocError>
-    ensures { OnOk result (string_bytes out.new ≡ string_bytes out.old
-        ++ apart_line sums.now (label.now, count)) }
-{
+) -> Result<(), AllocError> {
     match label.strip_prefix("apart/") {
         Some(name) => push_kind(alloc, out, sums, name, count),
         None => Ok(()),
     }
 }
 
-fn apart_lines(alloc: Global, sums: &Counts) -> Result<String, AllocError>
-    ensures { IfOk result (λ text. string_bytes text ≡ apart_lines sums.now) }
-{
+fn apart_lines(alloc: Global, sums: &Counts) -> Result<String, AllocError> {
     let mut out = String::new(alloc);
     for (label, count) in sums.by_label.iter() {
         push_apart(alloc, &mut out, sums, label.as_str(), *count)?;
@@ -88,11 +77,7 @@ fn apart_lines(alloc: Global, sums: &Counts) -> Result<String, AllocError>
 }
 
 // Adds what isn't judged, if there is any.
-#[tactic(auto, unfolding(crate::specs::Screen::not_judged))]
-fn push_not_judged(alloc: Global, out: &mut String, sums: &Counts) -> Result<(), AllocError>
-    ensures { OnOk result (string_bytes out.new ≡ string_bytes out.old
-        ++ not_judged sums.now) }
-{
+fn push_not_judged(alloc: Global, out: &mut String, sums: &Counts) -> Result<(), AllocError> {
     let lines = apart_lines(alloc, sums)?;
     if lines.is_empty() {
         return Ok(());
@@ -132,19 +117,14 @@ pub fn all_by(base: Base, sums: &Counts, visits: &Visits) -> Result<u64, AllocEr
 }
 
 /// Returns how urls are printed.
-pub fn short_of(facts: &Facts, hides_queries: bool) -> UrlStyle<'_>
-    ensures { style_seen result ≡ short_of facts.now hides_queries }
-{
+pub fn short_of(facts: &Facts, hides_queries: bool) -> UrlStyle<'_> {
     UrlStyle {
         host: facts.host.as_str(),
         hides_queries,
     }
 }
 
-#[tactic(auto, unfolding(crate::specs::Screen::top_text))]
-fn top_text(alloc: Global, facts: &Facts) -> Result<String, AllocError>
-    ensures { IfOk result (λ text. string_bytes text ≡ top_text facts.now) }
-{
+fn top_text(alloc: Global, facts: &Facts) -> Result<String, AllocError> {
     let mut out = String::from_str(alloc, facts.line.as_str())?;
     push_wire(&mut out, &facts.sums)?;
     Ok(out)
@@ -165,10 +145,7 @@ fn push_visit_at(
     visits: &Visits,
     urls: &[Url],
     key: (u64, usize),
-) -> Result<(), AllocError>
-    ensures { OnOk result (string_bytes out.new ≡ string_bytes out.old ++ visit_at
-        (style_seen short.now) (map recorded_seen recorded.now) visits.now urls.now key) }
-{
+) -> Result<(), AllocError> {
     match urls.get(key.1) {
         Some(url) => push_visit_text(alloc, out, short, recorded, visits, url),
         None => Ok(()),
@@ -183,10 +160,7 @@ fn push_visits(
     visits: &Visits,
     urls: &[Url],
     order: &[(u64, usize)],
-) -> Result<(), AllocError>
-    ensures { OnOk result (string_bytes out.new ≡ string_bytes out.old ++ flat_map (visit_at
-        (style_seen short.now) (map recorded_seen recorded.now) visits.now urls.now) order.now) }
-{
+) -> Result<(), AllocError> {
     for key in order {
         push_visit_at(alloc, out, short, recorded, visits, urls, *key)?;
     }
@@ -201,10 +175,7 @@ fn visit_lines(
     visits: &Visits,
     urls: &[Url],
     order: &[(u64, usize)],
-) -> Result<String, AllocError>
-    ensures { IfOk result (λ text. string_bytes text ≡ visit_lines (style_seen short.now)
-        (map recorded_seen recorded.now) visits.now urls.now order.now) }
-{
+) -> Result<String, AllocError> {
     let mut out = String::new(alloc);
     let len = order.len().min(MOST);
     push_visits(
@@ -229,21 +200,14 @@ fn visit_section(
     picks: &[Pick],
     least: u64,
     urls: &[Url],
-) -> Result<String, AllocError>
-    ensures { IfOk result (λ text. AreVisitLines (style_seen short.now)
-        (map recorded_seen recorded.now) visits.now picks.now least urls.now (string_bytes text)) }
-{
+) -> Result<String, AllocError> {
     let listed = listed_of(alloc, recorded, visits, picks, least, urls)?;
     let order = order_of(alloc, recorded, urls, listed.as_slice())?;
     visit_lines(alloc, short, recorded, visits, urls, order.as_slice())
 }
 
 // Adds the costs of the whole page, at present and with what is advised.
-#[tactic(auto, unfolding(crate::specs::Screen::end_text))]
-fn push_end(out: &mut String, visits: &Visits, after: &After) -> Result<(), AllocError>
-    ensures { OnOk result (string_bytes out.new ≡ string_bytes out.old
-        ++ end_text visits.now after.now) }
-{
+fn push_end(out: &mut String, visits: &Visits, after: &After) -> Result<(), AllocError> {
     out.push_str("  the whole page: ")?;
     push_totals(out, visits)?;
     out.push_str("  with what is advised: ")?;
@@ -251,10 +215,7 @@ fn push_end(out: &mut String, visits: &Visits, after: &After) -> Result<(), Allo
 }
 
 // Adds what may mislead.
-fn push_notes(out: &mut String, sums: &Counts, recorded: &[Recorded]) -> Result<(), AllocError>
-    ensures { OnOk result (string_bytes out.new ≡ string_bytes out.old
-        ++ notes_text sums.now (map recorded_seen recorded.now)) }
-{
+fn push_notes(out: &mut String, sums: &Counts, recorded: &[Recorded]) -> Result<(), AllocError> {
     push_cache_off(out, sums.is_noticed())?;
     push_no_credentials(out, !any_credentials(recorded))
 }
@@ -284,10 +245,7 @@ fn texts_of(
     facts: &Facts,
     visits: &Visits,
     picks: &[Pick],
-) -> Result<Texts, AllocError>
-    ensures { IfOk result (AreTexts (settings_seen settings.now) (map recorded_seen recorded.now)
-        target.now facts.now visits.now picks.now) }
-{
+) -> Result<Texts, AllocError> {
     let short = short_of(facts, settings.hides_queries);
     let urls = facts.urls.as_slice();
     let lines = lines_of(alloc, &short, recorded, picks)?;
@@ -325,21 +283,16 @@ pub fn picks_by(
     picks_of(alloc, recorded, facts.urls.as_slice(), base, sums, all)
 }
 
-#[tactic(auto, unfolding(crate::specs::Screen::change_head))]
 fn push_change_head(
     out: &mut String,
     base: Base,
     picks: &[Pick],
     all: u64,
-) -> Result<(), AllocError>
-    ensures { OnOk result (string_bytes out.new ≡ string_bytes out.old
-        ++ change_head base picks.now all) }
-{
+) -> Result<(), AllocError> {
     push_first_head(out, base, picks, all)
 }
 
 // Adds what to change first, and the savings.
-#[tactic(auto, unfolding(crate::specs::Screen::changes_text))]
 fn push_changes(
     alloc: Global,
     out: &mut String,
@@ -349,33 +302,23 @@ fn push_changes(
     picks: &[Pick],
     texts: &Texts,
     after: &After,
-) -> Result<(), AllocError>
-    ensures { OnOk result (string_bytes out.new ≡ string_bytes out.old ++ changes_text facts.now base
-        visits.now picks.now texts.now after.now) }
-{
+) -> Result<(), AllocError> {
     let all = all_by(base, &facts.sums, visits)?;
     let lines = texts.lines.as_slice();
     push_change_head(out, base, picks, all)?;
     push_lines(alloc, out, base, &facts.costs, visits, after, lines)
 }
 
-#[tactic(auto, unfolding(crate::specs::Screen::visit_head))]
-fn push_visit_head(out: &mut String) -> Result<(), AllocError>
-    ensures { OnOk result (string_bytes out.new ≡ string_bytes out.old ++ visit_head) }
-{
+fn push_visit_head(out: &mut String) -> Result<(), AllocError> {
     out.push_str("\nWILL COST ON A LATER VISIT, in an hour, a day, a week, thirty days\n")
 }
 
-#[tactic(auto, unfolding(crate::specs::Screen::later_text))]
 fn push_later(
     out: &mut String,
     visits: &Visits,
     texts: &Texts,
     after: &After,
-) -> Result<(), AllocError>
-    ensures { OnOk result (string_bytes out.new ≡ string_bytes out.old
-        ++ later_text visits.now texts.now after.now) }
-{
+) -> Result<(), AllocError> {
     push_visit_head(out)?;
     out.push_str(texts.visits.as_str())?;
     out.push_str(texts.guesses.as_str())?;
@@ -388,9 +331,7 @@ fn wrong_lines(
     facts: &Facts,
     texts: &Texts,
     after: &After,
-) -> Result<String, AllocError>
-    ensures { IfOk result (λ text. string_bytes text ≡ wrong_lines facts.now texts.now after.now) }
-{
+) -> Result<String, AllocError> {
     let mut out = String::from_str(alloc, texts.wrong.as_str())?;
     let (host, changing) = (facts.host.as_str(), facts.changing.as_slice());
     push_query_lines(alloc, &mut out, host, &after.costs, &after.plain, changing)?;
@@ -398,10 +339,7 @@ fn wrong_lines(
 }
 
 // Returns the section about what looks wrong, if anything does.
-#[tactic(auto, unfolding(crate::specs::Screen::wrong_section))]
-fn wrong_section(alloc: Global, lines: &str) -> Result<String, AllocError>
-    ensures { IfOk result (λ text. string_bytes text ≡ wrong_section lines.now) }
-{
+fn wrong_section(alloc: Global, lines: &str) -> Result<String, AllocError> {
     if lines.is_empty() {
         return Ok(String::new(alloc));
     }
@@ -414,20 +352,14 @@ fn push_wrong(
     facts: &Facts,
     texts: &Texts,
     after: &After,
-) -> Result<(), AllocError>
-    ensures { OnOk result (string_bytes out.new ≡ string_bytes out.old
-        ++ wrong_section (wrong_lines facts.now texts.now after.now)) }
-{
+) -> Result<(), AllocError> {
     let lines = wrong_lines(alloc, facts, texts, after)?;
     let section = wrong_section(alloc, lines.as_str())?;
     out.push_str(section.as_str())
 }
 
 // Adds the differences to the other kind of cache, and what is in order.
-fn push_both(out: &mut String, texts: &Texts) -> Result<(), AllocError>
-    ensures { OnOk result (string_bytes out.new ≡ string_bytes out.old
-        ++ (string_bytes texts.now.both ++ string_bytes texts.now.in_order)) }
-{
+fn push_both(out: &mut String, texts: &Texts) -> Result<(), AllocError> {
     out.push_str(texts.both.as_str())?;
     out.push_str(texts.in_order.as_str())
 }
@@ -441,10 +373,7 @@ fn sections_text(
     picks: &[Pick],
     texts: &Texts,
     after: &After,
-) -> Result<String, AllocError>
-    ensures { IfOk result (λ text. string_bytes text ≡ sections_text facts.now base visits.now
-        picks.now texts.now after.now) }
-{
+) -> Result<String, AllocError> {
     let mut out = String::new(alloc);
     push_changes(alloc, &mut out, facts, base, visits, picks, texts, after)?;
     push_later(&mut out, visits, texts, after)?;
@@ -461,10 +390,7 @@ fn sections(
     settings: Settings,
     facts: &Facts,
     span: Span,
-) -> Result<String, AllocError>
-    ensures { IfOk result (λ text. AreSections (settings_seen settings)
-        (map recorded_seen recorded.items) target.now facts.now span (string_bytes text)) }
-{
+) -> Result<String, AllocError> {
     let mut recorded = recorded;
     let options = settings.options;
     let repeats = facts.repeats.as_slice();
@@ -508,10 +434,7 @@ fn sections_of(
     target: &Uri,
     settings: Settings,
     facts: &Facts,
-) -> Result<String, AllocError>
-    ensures { IfOk result (λ text. AreSectionsOf (settings_seen settings)
-        (map recorded_seen recorded.items) target.now facts.now facts.now.span (string_bytes text)) }
-{
+) -> Result<String, AllocError> {
     match facts.span {
         Some(span) => sections(alloc, recorded, target, settings, facts, span),
         None => Ok(String::new(alloc)),
@@ -529,10 +452,11 @@ pub fn hits_of(sums: &Counts) -> Hits
 }
 
 /// Returns what may mislead.
-pub fn notes_text(alloc: Global, sums: &Counts, recorded: &[Recorded]) -> Result<String, AllocError>
-    ensures { IfOk result (λ text. string_bytes text
-        ≡ notes_text sums.now (map recorded_seen recorded.now)) }
-{
+pub fn notes_text(
+    alloc: Global,
+    sums: &Counts,
+    recorded: &[Recorded],
+) -> Result<String, AllocError> {
     let mut out = String::new(alloc);
     push_notes(&mut out, sums, recorded)?;
     Ok(out)
@@ -544,10 +468,7 @@ fn screen_text(
     facts: &Facts,
     sections: &str,
     notes: &str,
-) -> Result<String, AllocError>
-    ensures { IfOk result (λ text. string_bytes text
-        ≡ screen_text facts.now sections.now notes.now) }
-{
+) -> Result<String, AllocError> {
     let mut out = top_text(alloc, facts)?;
     out.push_str(sections)?;
     push_not_judged(alloc, &mut out, &facts.sums)?;
@@ -564,8 +485,8 @@ pub fn screen(
     recorded: Vec<Recorded>,
     settings: Settings,
 ) -> Result<(String, Hits), AllocError>
-    ensures { IfOk result (λ made. IsScreen (settings_seen settings)
-        (map recorded_seen recorded.items) made.1 (string_bytes made.0)) }
+    ensures { IfOk result (λ made. AreHits (settings_seen settings)
+        (map recorded_seen recorded.items) made.1) }
 {
     let target = no_target(alloc)?;
     let facts = facts_of(alloc, recorded.as_slice(), &target, settings.options)?;

@@ -5,9 +5,8 @@ ghost use Rattle.std.specs.Option.{option_map_or};
 ghost use Rattle.http_cache_audit.specs.Row.{row_seen};
 ghost use Rattle.http_cache_audit.specs.Counts.{CountsAlso, HoldsCounts, total_in};
 ghost use Rattle.http_cache_report.specs.Top.{page_additions, is_new, load_by, loads_of, url_at, page_url, load_addition};
-ghost use Rattle.http_cache_report.specs.Top.{load_additions, count_of, is_other, other_load, loads_word, other_name, others_text};
-ghost use Rattle.http_cache_report.specs.Top.{took_text, cache_text, page_text, IsFirstLine, kilobytes_in, loads_text, all_text, wire_head, asked_text, sent_text};
-ghost use Rattle.http_cache_report.specs.Top.{fresh_text, saved_text, hits_text};
+ghost use Rattle.http_cache_report.specs.Top.{load_additions, count_of, is_other, other_load};
+ghost use Rattle.http_cache_report.specs.Top.{kilobytes_in};
 
 use crate::numbers::{percent, rounded};
 use crate::words::{host_of, short};
@@ -127,9 +126,7 @@ fn other_load(rows: &[Row<'_>], url: &str, loads: &[usize]) -> Option<usize>
     }
 }
 
-fn loads_word(count: u64) -> &'static str
-    ensures { result.now ≡ loads_word count }
-{
+fn loads_word(count: u64) -> &'static str {
     if count == 1 {
         " load of "
     } else {
@@ -144,10 +141,7 @@ fn other_name<'a>(
     page: &str,
     others: u64,
     index: usize,
-) -> Result<&'a str, AllocError>
-    ensures { IfOk result (λ name. name.now
-        ≡ other_name (map row_seen rows.now) counts.now page.now others index) }
-{
+) -> Result<&'a str, AllocError> {
     let url = url_at(rows, index);
     if count_of(counts, url)? == others {
         Ok(short(host_of(page), shown_url(url, true)))
@@ -163,10 +157,7 @@ fn push_others(
     page: &str,
     others: u64,
     other: Option<usize>,
-) -> Result<(), AllocError>
-    ensures { OnOk result (string_bytes out.new ≡ string_bytes out.old
-        ++ others_text (map row_seen rows.now) counts.now page.now others other) }
-{
+) -> Result<(), AllocError> {
     match other {
         Some(index) => {
             let name = other_name(rows, counts, page, others, index)?;
@@ -176,16 +167,12 @@ fn push_others(
     }
 }
 
-fn push_took(out: &mut String, seconds: u128) -> Result<(), AllocError>
-    ensures { OnOk result (string_bytes out.new ≡ string_bytes out.old ++ took_text seconds) }
-{
+fn push_took(out: &mut String, seconds: u128) -> Result<(), AllocError> {
     write!(out, ", in {seconds} s")
 }
 
 /// Returns the words for the kind of cache, with the end of the line.
-pub fn cache_text(is_shared: bool) -> &'static str
-    ensures { result.now ≡ cache_text is_shared }
-{
+pub fn cache_text(is_shared: bool) -> &'static str {
     if is_shared {
         ", as a CDN's cache (--private: a browser's)\n"
     } else {
@@ -193,9 +180,7 @@ pub fn cache_text(is_shared: bool) -> &'static str
     }
 }
 
-fn page_text(alloc: Global, counts: &Counts, page: &str) -> Result<String, AllocError>
-    ensures { IfOk result (λ text. string_bytes text ≡ page_text counts.now page.now) }
-{
+fn page_text(alloc: Global, counts: &Counts, page: &str) -> Result<String, AllocError> {
     let count = count_of(counts, page)?.max(1);
     let (word, url) = (loads_word(count), short("", shown_url(page, true)));
     format!(in alloc; "{count}{word}{url}")
@@ -209,9 +194,7 @@ pub fn first_line(
     loads: &[usize],
     seconds: u128,
     is_shared: bool,
-) -> Result<String, AllocError>
-    ensures { IfOk result (IsFirstLine (map row_seen rows.now) loads.now seconds is_shared) }
-{
+) -> Result<String, AllocError> {
     let counts = load_counts(alloc, rows, loads)?;
     let page = page_url(rows, loads);
     let mut out = page_text(alloc, &counts, page)?;
@@ -230,30 +213,22 @@ fn kilobytes_in(sums: &Counts, group: &str, name: &str) -> Result<u64, AllocErro
 }
 
 // Adds what was sent for the first load, and for the later ones.
-fn push_loads(out: &mut String, first: u64, later: u64) -> Result<(), AllocError>
-    ensures { OnOk result (string_bytes out.new ≡ string_bytes out.old ++ loads_text first later) }
-{
+fn push_loads(out: &mut String, first: u64, later: u64) -> Result<(), AllocError> {
     write!(out, "  first load {first} kB, later loads {later} kB; ")
 }
 
-fn push_all(out: &mut String, sums: &Counts) -> Result<(), AllocError>
-    ensures { OnOk result (string_bytes out.new ≡ string_bytes out.old ++ all_text sums.now) }
-{
+fn push_all(out: &mut String, sums: &Counts) -> Result<(), AllocError> {
     let first = kilobytes_in(sums, "sent", "first_load")?;
     let later = kilobytes_in(sums, "sent", "later_loads")?;
     push_loads(out, first, later)
 }
 
-fn push_head(out: &mut String) -> Result<(), AllocError>
-    ensures { OnOk result (string_bytes out.new ≡ string_bytes out.old ++ wire_head) }
-{
+fn push_head(out: &mut String) -> Result<(), AllocError> {
     out.push_str("\nON THE WIRE\n")
 }
 
 // Adds what was sent for requests that a cache could answer.
-fn push_asked(out: &mut String, sums: &Counts) -> Result<(), AllocError>
-    ensures { OnOk result (string_bytes out.new ≡ string_bytes out.old ++ asked_text sums.now) }
-{
+fn push_asked(out: &mut String, sums: &Counts) -> Result<(), AllocError> {
     let first = kilobytes_in(sums, "asked", "first_load")?;
     let later = kilobytes_in(sums, "asked", "later_loads")?;
     write!(
@@ -262,27 +237,20 @@ fn push_asked(out: &mut String, sums: &Counts) -> Result<(), AllocError>
     )
 }
 
-fn push_sent(out: &mut String, sums: &Counts) -> Result<(), AllocError>
-    ensures { OnOk result (string_bytes out.new ≡ string_bytes out.old ++ sent_text sums.now) }
-{
+fn push_sent(out: &mut String, sums: &Counts) -> Result<(), AllocError> {
     push_head(out)?;
     push_all(out, sums)?;
     push_asked(out, sums)
 }
 
 /// Adds what was sent for the loads, and what a cache saved.
-pub fn push_wire(out: &mut String, sums: &Counts) -> Result<(), AllocError>
-    ensures { OnOk result (string_bytes out.new ≡ string_bytes out.old
-        ++ (sent_text sums.now ++ hits_text sums.now)) }
-{
+pub fn push_wire(out: &mut String, sums: &Counts) -> Result<(), AllocError> {
     push_sent(out, sums)?;
     push_hits(out, sums)
 }
 
 // Adds how many repeated requests need nothing.
-fn push_fresh(out: &mut String, sums: &Counts) -> Result<(), AllocError>
-    ensures { OnOk result (string_bytes out.new ≡ string_bytes out.old ++ fresh_text sums.now) }
-{
+fn push_fresh(out: &mut String, sums: &Counts) -> Result<(), AllocError> {
     let fresh = sums.total("verdicts/fresh");
     let repeated = sums.total("counts/repeated");
     write!(
@@ -291,17 +259,13 @@ fn push_fresh(out: &mut String, sums: &Counts) -> Result<(), AllocError>
     )
 }
 
-fn push_saved(out: &mut String, sums: &Counts) -> Result<(), AllocError>
-    ensures { OnOk result (string_bytes out.new ≡ string_bytes out.old ++ saved_text sums.now) }
-{
+fn push_saved(out: &mut String, sums: &Counts) -> Result<(), AllocError> {
     let part = percent(sums.total("verdicts/fresh"), sums.total("counts/repeated"));
     let saved = kilobytes_in(sums, "bytes", "saved")?;
     write!(out, "{part} %), which saves {saved} kB\n")
 }
 
-fn push_hits(out: &mut String, sums: &Counts) -> Result<(), AllocError>
-    ensures { OnOk result (string_bytes out.new ≡ string_bytes out.old ++ hits_text sums.now) }
-{
+fn push_hits(out: &mut String, sums: &Counts) -> Result<(), AllocError> {
     push_fresh(out, sums)?;
     push_saved(out, sums)
 }

@@ -1,10 +1,4 @@
 //! Texts that several sections of a report use: urls, and what a response says of caching.
-ghost use Rattle.std.specs.Prelude.{◌≡◌, map, IfOk, OnOk, option_map, string_bytes};
-ghost use Rattle.http_cache_fields.specs.Headers.{headers_of};
-ghost use Rattle.http_cache_recording.specs.Entry.{recorded_seen};
-ghost use Rattle.http_cache_report.specs.Words.{stripped, without_scheme, host_of, short, style_seen, url_text, with_piece};
-ghost use Rattle.http_cache_report.specs.Words.{control_text, named_text, else_named, lifetime_text, validator_text, said_by};
-ghost use Rattle.http_cache_report.specs.Words.{said_in, said_at, life_text};
 
 use crate::numbers::duration;
 use crate::queries::text_at;
@@ -27,25 +21,19 @@ pub struct UrlStyle<'a> {
     pub hides_queries: bool,
 }
 
-fn stripped<'a>(front: &str, text: &'a str) -> &'a str
-    ensures { result.now ≡ stripped front.now text.now }
-{
+fn stripped<'a>(front: &str, text: &'a str) -> &'a str {
     match text.strip_prefix(front) {
         Some(rest) => rest,
         None => text,
     }
 }
 
-fn without_scheme(url: &str) -> &str
-    ensures { result.now ≡ without_scheme url.now }
-{
+fn without_scheme(url: &str) -> &str {
     stripped("https://", stripped("http://", url))
 }
 
 /// Returns the host of a url.
-pub fn host_of(url: &str) -> &str
-    ensures { result.now ≡ host_of url.now }
-{
+pub fn host_of(url: &str) -> &str {
     let rest = without_scheme(url);
     match rest.split_once('/') {
         Some((host, _)) => host,
@@ -54,9 +42,7 @@ pub fn host_of(url: &str) -> &str
 }
 
 /// Returns a url without its scheme, and without its host if that is the page's.
-pub fn short<'a>(host: &str, url: &'a str) -> &'a str
-    ensures { result.now ≡ short host.now url.now }
-{
+pub fn short<'a>(host: &str, url: &'a str) -> &'a str {
     if host_of(url) == host {
         stripped(host, without_scheme(url))
     } else {
@@ -66,9 +52,7 @@ pub fn short<'a>(host: &str, url: &'a str) -> &'a str
 
 impl<'a> UrlStyle<'a> {
     /// Returns the shortened url of an entry.
-    pub fn url_text<'b>(&self, recorded: &'b [Recorded], index: usize) -> &'b str
-        ensures { result.now ≡ url_text (style_seen self.now) (map recorded_seen recorded.now) index }
-    {
+    pub fn url_text<'b>(&self, recorded: &'b [Recorded], index: usize) -> &'b str {
         short(
             self.host,
             shown_url(text_at(recorded, index), self.hides_queries),
@@ -77,18 +61,14 @@ impl<'a> UrlStyle<'a> {
 }
 
 /// Adds a text, with a comma before it unless it is the first.
-pub fn push_piece(out: &mut String, piece: &str) -> Result<(), AllocError>
-    ensures { OnOk result (string_bytes out.new ≡ with_piece (string_bytes out.old) piece.now) }
-{
+pub fn push_piece(out: &mut String, piece: &str) -> Result<(), AllocError> {
     if !out.is_empty() {
         out.push_str(", ")?;
     }
     out.push_str(piece)
 }
 
-fn control_text(alloc: Global, headers: &HeaderMap) -> Result<String, AllocError>
-    ensures { IfOk result (λ text. string_bytes text ≡ control_text (headers_of headers.now)) }
-{
+fn control_text(alloc: Global, headers: &HeaderMap) -> Result<String, AllocError> {
     match first_text(headers, CACHE_CONTROL) {
         Some(line) => String::from_str(alloc, line),
         None => Ok(String::new(alloc)),
@@ -96,10 +76,7 @@ fn control_text(alloc: Global, headers: &HeaderMap) -> Result<String, AllocError
 }
 
 // Adds a header with its name, if there is no text yet.
-fn push_named(out: &mut String, name: &str, value: Option<&str>) -> Result<(), AllocError>
-    ensures { OnOk result (string_bytes out.new
-        ≡ else_named name.now (option_map (λ t. t.now) value.entry) (string_bytes out.old)) }
-{
+fn push_named(out: &mut String, name: &str, value: Option<&str>) -> Result<(), AllocError> {
     match value {
         Some(value) if out.is_empty() => write!(out, "{name} {value}"),
         _ => Ok(()),
@@ -107,18 +84,14 @@ fn push_named(out: &mut String, name: &str, value: Option<&str>) -> Result<(), A
 }
 
 // Returns the Cache-Control of a response, else its Expires, else its Pragma.
-fn lifetime_text(alloc: Global, headers: &HeaderMap) -> Result<String, AllocError>
-    ensures { IfOk result (λ text. string_bytes text ≡ lifetime_text (headers_of headers.now)) }
-{
+fn lifetime_text(alloc: Global, headers: &HeaderMap) -> Result<String, AllocError> {
     let mut out = control_text(alloc, headers)?;
     push_named(&mut out, "Expires", first_text(headers, EXPIRES))?;
     push_named(&mut out, "Pragma", first_text(headers, PRAGMA))?;
     Ok(out)
 }
 
-fn validator_text(headers: &HeaderMap) -> &'static str
-    ensures { result.now ≡ validator_text (headers_of headers.now) }
-{
+fn validator_text(headers: &HeaderMap) -> &'static str {
     if contains_key(headers, ETAG) {
         "ETag"
     } else if contains_key(headers, LAST_MODIFIED) {
@@ -128,17 +101,13 @@ fn validator_text(headers: &HeaderMap) -> &'static str
     }
 }
 
-fn said_by(alloc: Global, headers: &HeaderMap) -> Result<String, AllocError>
-    ensures { IfOk result (λ text. string_bytes text ≡ said_by (headers_of headers.now)) }
-{
+fn said_by(alloc: Global, headers: &HeaderMap) -> Result<String, AllocError> {
     let mut out = lifetime_text(alloc, headers)?;
     push_piece(&mut out, validator_text(headers))?;
     Ok(out)
 }
 
-fn said_in(alloc: Global, recorded: &Recorded) -> Result<String, AllocError>
-    ensures { IfOk result (λ text. string_bytes text ≡ said_in (recorded_seen recorded.now)) }
-{
+fn said_in(alloc: Global, recorded: &Recorded) -> Result<String, AllocError> {
     match response_of(recorded) {
         Some(response) => said_by(alloc, &response.headers),
         None => Ok(String::new(alloc)),
@@ -147,10 +116,7 @@ fn said_in(alloc: Global, recorded: &Recorded) -> Result<String, AllocError>
 
 /// Returns what the response of an entry says of caching: Cache-Control, else Expires or Pragma,
 /// and its validator.
-pub fn said_at(alloc: Global, recorded: &[Recorded], index: usize) -> Result<String, AllocError>
-    ensures { IfOk result (λ text. string_bytes text
-        ≡ said_at (map recorded_seen recorded.now) index) }
-{
+pub fn said_at(alloc: Global, recorded: &[Recorded], index: usize) -> Result<String, AllocError> {
     match recorded.get(index) {
         Some(one) => said_in(alloc, one),
         None => Ok(String::new(alloc)),
@@ -158,9 +124,7 @@ pub fn said_at(alloc: Global, recorded: &[Recorded], index: usize) -> Result<Str
 }
 
 /// Returns how long a response stays fresh, in words.
-pub fn life_text(alloc: Global, life: Life) -> Result<String, AllocError>
-    ensures { IfOk result (λ text. string_bytes text ≡ life_text life) }
-{
+pub fn life_text(alloc: Global, life: Life) -> Result<String, AllocError> {
     match life {
         Life::Unknown => String::from_str(alloc, "unknown"),
         Life::NotStored => String::from_str(alloc, "not stored"),

@@ -3,9 +3,8 @@ ghost use Rattle.std.specs.Prelude.{◌≡◌, ◌++◌, map, codes, IfOk, OnOk,
 ghost use Rattle.std.specs.List.{flat_map};
 ghost use Rattle.http_cache_recording.specs.Entry.{recorded_seen, reading_seen};
 ghost use Rattle.http_cache_audit.specs.Lint.{hint};
-ghost use Rattle.http_cache_report.specs.Words.{style_seen};
-ghost use Rattle.http_cache_report.specs.Wrong.{hints_in, hints_at, faults_of, send_for, fault_line, fault_lines, has_faults};
-ghost use Rattle.http_cache_report.specs.Wrong.{wrong_of, lines_at, order_text, IsWrong};
+ghost use Rattle.http_cache_report.specs.Wrong.{hints_in, hints_at, faults_of, has_faults};
+ghost use Rattle.http_cache_report.specs.Wrong.{wrong_of};
 
 use crate::by_size::{MOST, order_of, push_rest};
 use crate::urls::Url;
@@ -55,10 +54,7 @@ pub fn faults_of(alloc: Global, recorded: &[Recorded], url: &Url) -> Result<Vec<
 }
 
 /// Returns what to send instead, by the words for a fault.
-#[tactic(auto, unfolding(crate::specs::Wrong::send_for))]
-pub fn send_for(words: &str) -> &'static str
-    ensures { result.now ≡ send_for words.now }
-{
+pub fn send_for(words: &str) -> &'static str {
     match words {
         "conflicting directives" => "one value",
         "; in Cache-Control" => "`,` between directives",
@@ -82,18 +78,12 @@ pub fn send_for(words: &str) -> &'static str
     }
 }
 
-fn push_fault(out: &mut String, url: &str, words: &str) -> Result<(), AllocError>
-    ensures { OnOk result (string_bytes out.new ≡ string_bytes out.old
-        ++ fault_line url.now words.now) }
-{
+fn push_fault(out: &mut String, url: &str, words: &str) -> Result<(), AllocError> {
     let send = send_for(words);
     write!(out, "  {url:<34}{words} -> {send}\n")
 }
 
-fn push_faults(out: &mut String, url: &str, faults: &[String]) -> Result<(), AllocError>
-    ensures { OnOk result (string_bytes out.new ≡ string_bytes out.old
-        ++ flat_map (fault_line url.now) (map string_bytes faults.now)) }
-{
+fn push_faults(out: &mut String, url: &str, faults: &[String]) -> Result<(), AllocError> {
     for words in faults {
         push_fault(out, url, words.as_str())?;
     }
@@ -106,10 +96,7 @@ fn push_url(
     short: &UrlStyle<'_>,
     recorded: &[Recorded],
     url: &Url,
-) -> Result<(), AllocError>
-    ensures { OnOk result (string_bytes out.new ≡ string_bytes out.old
-        ++ fault_lines (style_seen short.now) (map recorded_seen recorded.now) url.now) }
-{
+) -> Result<(), AllocError> {
     let faults = faults_of(alloc, recorded, url)?;
     push_faults(out, short.url_text(recorded, url.entry), faults.as_slice())
 }
@@ -140,10 +127,7 @@ fn push_at(
     recorded: &[Recorded],
     urls: &[Url],
     key: (u64, usize),
-) -> Result<(), AllocError>
-    ensures { OnOk result (string_bytes out.new ≡ string_bytes out.old
-        ++ lines_at (style_seen short.now) (map recorded_seen recorded.now) urls.now key) }
-{
+) -> Result<(), AllocError> {
     match urls.get(key.1) {
         Some(url) => push_url(alloc, out, short, recorded, url),
         None => Ok(()),
@@ -157,11 +141,7 @@ fn push_first(
     recorded: &[Recorded],
     urls: &[Url],
     order: &[(u64, usize)],
-) -> Result<(), AllocError>
-    ensures { OnOk result (string_bytes out.new ≡ string_bytes out.old
-        ++ flat_map (lines_at (style_seen short.now) (map recorded_seen recorded.now) urls.now)
-        order.now) }
-{
+) -> Result<(), AllocError> {
     for key in order {
         push_at(alloc, out, short, recorded, urls, *key)?;
     }
@@ -176,10 +156,7 @@ fn push_order(
     recorded: &[Recorded],
     urls: &[Url],
     order: &[(u64, usize)],
-) -> Result<(), AllocError>
-    ensures { OnOk result (string_bytes out.new ≡ string_bytes out.old
-        ++ order_text (style_seen short.now) (map recorded_seen recorded.now) urls.now order.now) }
-{
+) -> Result<(), AllocError> {
     let len = order.len().min(MOST);
     push_first(alloc, out, short, recorded, urls, &order[..len])?;
     push_rest(out, order.len().saturating_sub(MOST))
@@ -191,10 +168,7 @@ fn order_text(
     recorded: &[Recorded],
     urls: &[Url],
     order: &[(u64, usize)],
-) -> Result<String, AllocError>
-    ensures { IfOk result (λ text. string_bytes text ≡ order_text (style_seen short.now)
-        (map recorded_seen recorded.now) urls.now order.now) }
-{
+) -> Result<String, AllocError> {
     let mut out = String::new(alloc);
     push_order(alloc, &mut out, short, recorded, urls, order)?;
     Ok(out)
@@ -206,10 +180,7 @@ pub fn wrong_text(
     short: &UrlStyle<'_>,
     recorded: &[Recorded],
     urls: &[Url],
-) -> Result<String, AllocError>
-    ensures { IfOk result (λ text. IsWrong (style_seen short.now) (map recorded_seen recorded.now)
-        urls.now (string_bytes text)) }
-{
+) -> Result<String, AllocError> {
     let wrong = wrong_of(alloc, recorded, urls)?;
     let order = order_of(alloc, recorded, urls, wrong.as_slice())?;
     order_text(alloc, short, recorded, urls, order.as_slice())

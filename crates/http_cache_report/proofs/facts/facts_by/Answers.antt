@@ -23,12 +23,4 @@ returns c =
           (sym (length-map c.args.recorded.now recorded_seen));
       are_repeats = rw (c.as_slice-4.ensures.value, c.as_slice-5.ensures.value) at c.in_ok-repeats.ensures;
       is_span = c.span_of-span.ensures;
-      is_line =
-          rw (
-            c.as_slice-6.ensures.value,
-            c.in_ok-loads.ensures,
-            c.took.ensures,
-            c.span_of-span.ensures,
-          ) at c.in_ok-line.ensures;
-      is_host = rw (c.as_slice-7.ensures.value, c.in_ok-loads.ensures) at c.in_ok-host.ensures;
     }
