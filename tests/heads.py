@@ -210,7 +210,7 @@ def lifetimes():
         return text, text
 
     week = "send: Cache-Control: max-age=604800"
-    tagged = "send: Cache-Control: no-cache, and an ETag"
+    tagged = "send: an ETag"
     expires, past = "Thu, 01 Jan 2026 00:01:40 GMT", "Wed, 31 Dec 2025 23:59:59 GMT"
     # It is ten days before the Date, so the heuristic lifetime is a day.
     modified = "Mon, 22 Dec 2025 00:00:00 GMT"
@@ -253,24 +253,24 @@ def storing():
     cookie = page("html", "Cache-Control: max-age=600", "Set-Cookie: a=secret")
     shown = page("css", "Cache-Control: max-age=60, s-maxage=7200", TAG)
     return [
-        of("a private page", own, minutes, private, AGAIN, "send: Cache-Control: private, no-cache, and an ETag"),
+        of("a private page", own, minutes, private, AGAIN, "send: an ETag"),
         of("a private page, of which a CDN is asked", own, minutes, private, AGAIN, words=("--shared",)),
         of("a browser's cache is asked if that is said", own, minutes, private, AGAIN,
-           "send: Cache-Control: private, no-cache, and an ETag", words=("--private",)),
-        of("a page that sets a cookie", cookie, minutes, "0 s by set-cookie", AGAIN, "send: Cache-Control: private, no-cache, and an ETag"),
+           "send: an ETag", words=("--private",)),
+        of("a page that sets a cookie", cookie, minutes, "0 s by set-cookie", AGAIN, "send: an ETag"),
         of("two hours in a CDN", shown, "60 s by max-age=60", "2 h by s-maxage=7200", "nothing 304 304", "send: Cache-Control: max-age=604800",
            words=("--shared",)),
-        # After a day its advised lifetime is over, and it has no validator, so all of it is sent again.
-        of("an image that is no secret", page("png", "Cache-Control: no-store"), *["not stored: no-store"] * 2, AGAIN,
-           "send: Cache-Control: max-age=86400"),
-        of("a page that is one", page("html", "Cache-Control: no-store"), *["not stored: no-store"] * 2, AGAIN,
-           "send: Cache-Control: private, no-cache, and an ETag"),
+        # Nothing is advised in place of a no-store.
+        of("an image that isn't stored", page("png", "Cache-Control: no-store"), *["not stored: no-store"] * 2, AGAIN,
+           "wrong: no-store on a part of pages -> a lifetime, if it may lie on a disk"),
+        of("a page that isn't stored", page("html", "Cache-Control: no-store"), *["not stored: no-store"] * 2, AGAIN),
         of("an error", page("html", "Cache-Control: max-age=600", status=500), *["not stored: status 500"] * 2, AGAIN),
         of("a part", page("html", "Cache-Control: max-age=600", status=206), *["not stored: status 206"] * 2, AGAIN),
         of("a page that is missing", page("html", status=404), *["0 s by none given"] * 2, AGAIN),
         of("a redirect without a lifetime", page("html", status=302), *["not stored: status 302 without a lifetime"] * 2, AGAIN),
         of("a redirect with one", page("html", "Cache-Control: max-age=600", status=302), minutes, minutes, AGAIN),
-        of("a redirect for ever", page("html", status=301), *["0 s by none given"] * 2, AGAIN),
+        of("a redirect for ever", page("html", status=301), *["0 s by none given"] * 2, AGAIN,
+           "wrong: a permanent redirect without a lifetime -> Cache-Control: max-age=N, or no-cache"),
         of("a 304", page("html", TAG, status=304), *["not stored: status 304"] * 2, AGAIN),
     ]
 
@@ -285,9 +285,8 @@ def faulty():
            "wrong: an ETag without quotes -> the ETag in quotes", "send: Cache-Control: max-age=604800"),
         # No lifetime makes a stored response with it answer a request.
         of("Vary: *", ["Cache-Control: max-age=600", TAG, "Vary: *"], "0 s by vary *", AGAIN, "wrong: Vary: * -> no Vary"),
-        of("two faults", ["Cache-Control: max-age=31536000", "Vary: Cookie", f"Expires: {DATE[6:]}"], "365 d by max-age=31536000",
-           "nothing nothing nothing", "wrong: Expires against max-age -> only max-age",
-           "wrong: Vary: Cookie -> private if it is one user's, else no Vary"),
+        of("an Expires that max-age overrides", ["Cache-Control: max-age=31536000", "Vary: Cookie", f"Expires: {DATE[6:]}"], "365 d by max-age=31536000",
+           "nothing nothing nothing", "wrong: Vary: Cookie -> private if it is one user's, else no Vary"),
     ]
 
 

@@ -15,29 +15,25 @@ WANTED = [
     ["3 loads of 127.0.0.1:8901/, 2 of /other, in 15 s, as a browser's cache"],
     ["first load 1358 kB, later loads 220 kB", "answer 1157 and 198 kB"],
     ["47 of 90 repeated requests need nothing (52 %)", "saves 2040 kB"],
-    ["CHANGE FIRST", "the first three are 177 kB (89 %)"],
-    ["/img/logo.png ", "8 req", "101.3 kB", "no-store, ETag"],
-    ["-> Cache-Control: max-age=86400"],
-    ["saves 101.3 kB, and 25.3 kB in the first load"],
-    ["/img/secret.png ", "2 req", "61.0 kB"],
-    ["-> Cache-Control: private, no-cache"],
-    ["saves 60.4 kB"],
+    ["CHANGE FIRST", "the first three are 29 kB (15 %)"],
     ["/assets/chat.js?v=5 ", "2 req", "14.2 kB", "Expires Thu, 01 Jan 2026"],
+    ["-> Cache-Control: private, max-age=604800, and answer 304 to its ETag"],
     ["saves 14.2 kB (13.7 kB by the 304s alone)"],
     ["/assets/etagless.js ", "2 req", "8.2 kB", "max-age=2, no ETag"],
-    ["-> Cache-Control: max-age=604800, and an ETag"],
+    ["-> Cache-Control: private, max-age=604800, and an ETag"],
     ["saves 8.2 kB"],
     ["/assets/noanswer.js ", "2 req", "6.6 kB", "max-age=1, ETag"],
-    ["-> Cache-Control: max-age=604800, and answer 304 to its ETag"],
+    ["-> Cache-Control: private, max-age=604800, and answer 304 to its ETag"],
     ["saves 6.6 kB (6.1 kB by the 304s alone)"],
     ["/assets/vendor.js ", "109.6 kB", "10 min", "304   304   304   304"],
     ["/assets/cdn.js ", "13.2 kB", "0 s", "304   304   304   304"],
     ["/assets/pre.js ", "5.5 kB", "1 h", "304   304   304   304"],
     ["/img/missing.png ", "0.6 kB", "again again again again", "fix the link"],
     ["5 that say no lifetime, 747.5 kB, guessed as 13 s to 40 d", "2     3     3     4"],
-    ["the whole page:", "94 kB + 18  94 kB + 19  94 kB + 19  94 kB + 20"],
-    ["with what is advised:", "11 kB + 19  12 kB + 21  12 kB + 24  13 kB + 25"],
-    ["/img/secret.png ", "no-store beside max-age -> "],
+    ["the whole page:", "94 kB + 18 x 304  94 kB + 19 x 304  94 kB + 19 x 304  94 kB + 20 x 304"],
+    ["with what is advised:", "78 kB + 12 x 304  78 kB + 13 x 304  80 kB + 22 x 304  81 kB + 23 x 304"],
+    ["/img/secret.png ", "no-store on a part of pages -> "],
+    ["/img/logo.png ", "no-store on a part of pages -> "],
     ["localhost:8901/assets/widget.js ", "; in Cache-Control -> "],
     ["/assets/starvary.js ", "Vary: * -> no Vary"],
     ["/assets/ua.css ", "Vary: User-Agent -> no Vary"],
@@ -56,6 +52,13 @@ WANTED = [
     ["6 POST"], ["3 PUT"], ["8 by Range (221.7 kB)"], ["7 failed or aborted"], ["3 preflights"], ["3 redirected by the browser"],
     ["3 scheme blob"], ["3 scheme data"],
 ]
+
+
+# A url that moves a terminal's cursor, forges a line and turns the direction of text, and how it is printed: bytes that aren't
+# printable ASCII are percent-encoded.
+FORGED = "x\x1b]0;hit\x07\x1b[2J\nALL IS WELL\x9b31m\u202e"
+ESCAPED = "x%1B]0;hit%07%1B[2J%0AALL IS WELL%C2%9B31m%E2%80%AE"
+LONG_URL, LONG_VALUE = "http://h/" + "a" * 2000 + "b.css", "max-age=1, " + "x" * 100_000
 
 
 def report(program, recording, words=()):
@@ -96,6 +99,39 @@ def single(recording):
     return json.dumps(log).encode()
 
 
+def entry(second, page, url, headers=(), **more):
+    """Returns an entry that was sent 10 kB at so many seconds."""
+    lines = [{"name": name, "value": value} for name, value in [("Content-Type", "text/css"), *headers]]
+    response = {"status": 200, "headers": lines, "_transferSize": 10_000, "headersSize": 100}
+    request = {"method": "GET", "url": url, "headers": []}
+    return {"startedDateTime": f"2026-01-01T00:00:0{second}Z", "time": 1, "pageref": page, "request": request, "response": response, **more}
+
+
+def recording_of(entries):
+    pages = sorted({one["pageref"] for one in entries})
+    return json.dumps({"log": {"pages": [{"id": page} for page in pages], "entries": entries}}).encode()
+
+
+def hostile_faults(program):
+    """Returns how many reports on hostile texts were checked, and the faults."""
+    faults = []
+    forged = recording_of([entry(0, "p", "http://h/"), entry(1, "q", FORGED, _fromCache="\x1b[31m", method="\x9b")])
+    text = report(program, forged)
+    faults += [("forged", text)] if f", 1 of {ESCAPED}, in 0 s" not in text or re.search(r"[^ -~\n]", text) else []
+    for words in (["--json"], ["--lines"], ["--by-url"]):
+        text = report(program, forged, words)
+        faults += [("forged", *words, text)] if re.search(r"[^ -~\n]", text) else []
+    value = ("Cache-Control", LONG_VALUE)
+    long = report(program, recording_of([entry(second, "pq"[second // 2], LONG_URL, [value]) for second in range(4)]))
+    faults += [("long lines", line[:200]) for line in long.splitlines() if len(line) > 160 and not line.startswith("noticed: ")]
+    faults += [("glued columns",)] if lacking(long, [["  /aaaaaaaaaaaaaa..aaaaaaaaaaab.css ", " req "]]) else []
+    worker = entry(1, "p", "http://h/a", _fromCache="disk")
+    worker["response"]["_fetchedViaServiceWorker"] = True
+    row = json.loads(report(program, recording_of([entry(0, "p", "http://h/"), worker]), ["--json"]).splitlines()[1])
+    faults += [("a service worker", row)] if "browser" in row or row.get("reason") != "service worker" or row.get("sent") else []
+    return 6, faults
+
+
 def kilobytes(count):
     return count // 1000 + (count % 1000 >= 500)
 
@@ -124,15 +160,17 @@ def report_faults(program, recordings):
     count, faults = 0, []
     table = [
         (site, WANTED),
-        (doubled(site, "/img/logo.png"), [["/img/logo.png ", "202.7 kB"], ["saves 202.7 kB, and 50.7 kB in the first load"]]),
-        (swapped(site, "/img/logo.png", "/img/hero.png"), [["/img/hero.png ", "8 req", "101.3 kB", "no-store, ETag"]]),
-        (single(site), [["CHANGE FIRST, by what a visit a day later costs"], ["1 load of 127.0.0.1:8901/"]]),
+        (doubled(site, "/assets/etagless.js"), [["/assets/etagless.js ", "16.3 kB"], ["saves 16.3 kB"]]),
+        (swapped(site, "/assets/etagless.js", "/assets/ua.css"), [["/assets/ua.css ", "2 req", "8.2 kB", "max-age=2, no ETag"]]),
+        (single(site), [["CHANGE FIRST, by what is saved of what a visit a day later costs"], ["1 load of 127.0.0.1:8901/"]]),
         (b'{"log": {"entries": []}}', None),
     ]
     for recording, wanted in table:
         text = report(program, recording)
         count += len(wanted or [1])
         faults += [("report", pieces) for pieces in lacking(text, wanted)] if wanted else [] if text == "status 1" else ["nothing"]
+    hostile, found = hostile_faults(program)
+    count, faults = count + hostile, faults + found
     for name, recording, words, rows in recordings:
         if "--ignore-request-no-cache" in words:
             continue

@@ -4,6 +4,7 @@ What later loads send, and what the advice saves, is worked out by a second walk
 For a later visit the requests of the first load are repeated at the end of the recording, with times, Date and Expires moved.
 The program makes these walks by --json. The costs of their rows are added up here."""
 import copy
+import html
 import json
 import re
 import subprocess
@@ -14,7 +15,10 @@ from costs import ASKED, FRESH, VALIDATE, Recorded, audited, header, is_same, pa
 
 DELAYS = (3600, 86400, 7 * 86400, 30 * 86400)
 CONDITIONS = ("if-none-match", "if-modified-since")
-ADVISED = re.compile(r"      -> Cache-Control: (.*?)(, and an ETag)?(, and answer 304 to its ETag)?$")
+ADVISED = re.compile(r"      -> (?:Cache-Control: )?(.*?)((?:, and )?an ETag)?((?:, and )?answer 304 to its ETag)?$")
+# A row of the page on what to change first, and one on later visits: the url and what to send.
+CHANGED = re.compile(r'<tr><th scope="row" class="u"><code>([^<]*)</code></th><td class="n r">.*?<td class="new">(.*?)<small class="why">')
+LISTED = re.compile(r'<tr><th scope="row" class="u"><code>([^<]*)</code></th><td class="n size">.*<td class="do"><code>([^<]+)</code></td></tr>')
 
 
 def took(entry):
@@ -50,6 +54,12 @@ def stripped(url):
 def shortened(url, host):
     rest = stripped(url)
     return rest[len(host):] if rest.split("/")[0] == host else rest
+
+
+def column(url, host):
+    """Returns a url as it is in a column of the report, which is 33 bytes wide."""
+    short = shortened(url, host)
+    return short if len(short) <= 33 else short[:15] + ".." + short[-16:]
 
 
 def moved(value, by):
@@ -195,19 +205,31 @@ def word(act):
 
 
 def total_text(total):
-    return f"{rounded(total[0], 1000)} kB + {total[1]}" + (f" and {total[2]} unknown" if total[2] else "")
+    return f"{rounded(total[0], 1000)} kB + {total[1]} x 304" + (f" + {total[2]} unknown" if total[2] else "")
 
 
 def advised(session, text):
     """Returns the urls that the report lists to change first, with its advice for each."""
     by_short = {}
     for url in session.urls:
-        by_short.setdefault(shortened(url, session.host), url)
+        by_short.setdefault(column(url, session.host), url)
     found, lines = {}, text.splitlines()
     for before, line in zip(lines, lines[1:]):
         match = ADVISED.match(line)
         if match:
             found[by_short[before.split()[0]]] = match[1], bool(match[2]), bool(match[3])
+    return found
+
+
+def advised_on_page(session, page):
+    """Returns all urls that have an advice on the page, which lists more than the report, with the advice for each."""
+    by_short = {}
+    for url in session.urls:
+        by_short.setdefault(shortened(url, session.host), url)
+    found = {}
+    for short, words in [*LISTED.findall(page), *CHANGED.findall(page.replace("\n", " "))]:
+        control = re.search(r"(?:private, )?max-age=\d+(?:, immutable)?", words)
+        found[by_short[html.unescape(short)]] = control[0] if control else "", "an ETag" in words, "answer 304" in words
     return found
 
 
@@ -218,9 +240,10 @@ def with_advice(session, advice):
         headers = advice.get(session.rows[i].get("url"))
         if not headers or session.rows[i]["verdict"] == "skipped":
             continue
-        names = ["cache-control"] + (["etag"] if headers[1] else [])
+        names = (["cache-control"] if headers[0] else []) + (["etag"] if headers[1] else [])
         kept = [one for one in entry["response"].get("headers") or [] if str(part(one, "name")).lower() not in names]
-        added = [{"name": "Cache-Control", "value": headers[0]}] + ([{"name": "ETag", "value": '"1"'}] if headers[1] else [])
+        added = [{"name": "Cache-Control", "value": headers[0]}] if headers[0] else []
+        added += [{"name": "ETag", "value": '"1"'}] if headers[1] else []
         entry["response"]["headers"] = kept + added
     return log
 
@@ -236,23 +259,23 @@ def plain(session, log):
 
 
 def pick_lines(session, advice, visits, then, costs, costs_then, costs_alone):
-    """Yields the pieces of the lines on what to change first, in the order of the bytes."""
+    """Yields the pieces of the lines on what to change first."""
     later = session.later()
     by_visit = not any(not session.recorded.is_first(i) for i in session.recorded.order if session.rows[i]["verdict"] != "skipped")
     for url in advice:
-        short = shortened(url, session.host)
+        short = column(url, session.host)
         size = visits[1][2][url] if by_visit else later[url][0]
         yield [f"  {short} ", kilobytes(size)]
         saved = visits[1][2][url] - then[1][2][url] if by_visit else costs[url][1] - costs_then[url][1]
-        words = f"saves {kilobytes(max(saved, 0))}"
+        words = f"saves {kilobytes(saved)}" if saved > 0 else "it saves nothing"
         first, alone = costs[url][0] - costs_then[url][0], costs[url][1] - costs_alone[url][1]
         words += f", and {kilobytes(first)} in the first load" if first > 0 else ""
         words += f" ({kilobytes(alone)} by the 304s alone)" if alone > 0 else ""
         yield [words]
 
 
-def order_of(session, advice, visits):
-    """Returns the urls to change first: at most five with the most bytes sent again.
+def order_of(session, advice, visits, then, costs, costs_then):
+    """Returns the urls to change first among those with an advice: at most five, for which most is saved.
 
     Each has at least a hundredth of all bytes, and its full response is a 200."""
     later = session.later()
@@ -263,8 +286,11 @@ def order_of(session, advice, visits):
     def status(url):
         return part(session.recorded.entries[session.full_index(session.sample[url])], "response", "status")
 
-    listed = [url for url in session.urls if sizes.get(url) and sizes[url] * 100 >= all_bytes and status(url) == 200]
-    return sorted(listed, key=lambda url: -sizes[url])[:5]
+    def saved(url):
+        return visits[1][2][url] - then[1][2][url] if by_visit else costs[url][1] - costs_then[url][1]
+
+    listed = [url for url in session.urls if url in advice and sizes.get(url) and sizes[url] * 100 >= all_bytes and status(url) == 200]
+    return sorted((url for url in listed if saved(url) > 0), key=lambda url: -saved(url))[:5]
 
 
 def guess_pieces(session, visits):
@@ -288,7 +314,7 @@ def guess_pieces(session, visits):
 def act_lines(session, visits, text):
     """Returns how many lines of the report on later visits were compared, and the lines that differ from the walks."""
     section = re.search(r"thirty days\n(.*?)  the whole page: ", text, re.S)
-    by_short = {shortened(url, session.host): url for url in reversed(session.urls)}
+    by_short = {column(url, session.host): url for url in reversed(session.urls)}
     count, faults = 0, []
     for line in section[1].splitlines() if section else []:
         url = by_short.get(line.split()[0])
@@ -312,7 +338,7 @@ def query_pieces(session, log, in_full):
         before = sum(session.cost(i, rows[i], log["entries"], in_full)[0] for i in later)
         after = sum(session.cost(i, rows_cut[i], cut["entries"], in_full)[0] for i in later)
         saved = f" (saves {kilobytes(before - after)})" if before > after else ""
-        made.append([f"  {shortened(base, session.host)} ", f"{len(urls)} urls, one response -> leave the query out{saved}"])
+        made.append([f"  {column(base, session.host)} ", f"{len(urls)} urls, one response -> leave the query out{saved}"])
     return made[:12]
 
 
@@ -361,7 +387,7 @@ def both_pieces(session, others):
         if own and other and own != other:
             found.append((-session.rows[session.full_index(i)].get("sent", 0), url, own, other))
     ordered = sorted(found, key=lambda one: one[0])[:12]
-    return [[f"  {shortened(url, session.host)} ", own, other] for _, url, own, other in ordered]
+    return [[f"  {column(url, session.host)} ", own, other] for _, url, own, other in ordered]
 
 
 def order_pieces(session, advice, visits, text):
@@ -373,7 +399,7 @@ def order_pieces(session, advice, visits, text):
     made = []
     for url in session.urls if not wrong_more else []:
         i = session.sample[url]
-        row, short = session.rows[i], shortened(url, session.host)
+        row, short = session.rows[i], column(url, session.host)
         if url in advice or short in wrong or not session.recorded.is_first(i) or row.get("received") not in ("stored", "updated"):
             continue
         acts = [acts.get(url, (False, False)) for _, acts, _ in visits]
@@ -402,9 +428,11 @@ def visit_faults(program, recordings):
         text = subprocess.run([program, *words], input=recording, capture_output=True, timeout=60).stdout.decode()
         log, entries = session.recorded.log, session.recorded.entries
         visits = [session.visit(log, delay, session.in_full) for delay in DELAYS]
-        advice = advised(session, text)
-        changed = with_advice(session, advice)
-        still = session.in_full - {url for url, headers in advice.items() if headers[2]}
+        page = subprocess.run([program, "--html", *words], input=recording, capture_output=True, timeout=60).stdout.decode()
+        advice, every = advised(session, text), advised_on_page(session, page)
+        faults += [(name, "the page has other advice", url) for url in advice if every.get(url) != advice[url]]
+        changed = with_advice(session, every)
+        still = session.in_full - {url for url, headers in every.items() if headers[2]}
         then = [session.visit(changed, delay, still) for delay in DELAYS]
         rows_now, rows_then = session.walked(log), session.walked(changed)
         costs = session.url_costs(rows_now, entries, session.in_full)
@@ -419,7 +447,8 @@ def visit_faults(program, recordings):
         lines = text.splitlines()
         count += len(wanted) + 1
         faults += [(name, pieces) for pieces in wanted if not any(all(piece in line for piece in pieces) for line in lines)]
-        faults += [(name, list(advice))] if list(advice) != order_of(session, advice, visits) else []
+        first = order_of(session, every, visits, then, costs, costs_then)
+        faults += [(name, list(advice), first)] if list(advice) != first else []
         checked, wrong = act_lines(session, visits, text)
         count += checked
         faults += [(name, *one) for one in wrong]

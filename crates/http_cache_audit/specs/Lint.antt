@@ -1,5 +1,5 @@
 -- What looks wrong in a response, though the rules of caching give it a meaning.
-use Rattle.std.specs.Prelude.{ℕ, ℤ, ◌-ℤ◌, ◌+ℤ◌, ◌*ℤ◌, ◌==◌, pos, int_lt, nat_lt, length, Bool, true, false, not, ◌&&◌, ◌||◌, List, [], ◌∷◌}
+use Rattle.std.specs.Prelude.{ℕ, ℤ, ◌-ℤ◌, ◌==◌, pos, int_lt, nat_lt, length, Bool, true, false, not, ◌&&◌, ◌||◌, List, [], ◌∷◌}
 use Rattle.std.specs.Prelude.{Option, option_map, option_and_then, is_none, codes, bytes_eq, nat_eq}
 use Rattle.std.specs.List.{find, list_any, flat_map, starts_with, ends_with}
 use Rattle.std.specs.Option.{option_map_or}
@@ -10,11 +10,12 @@ use Rattle.http_cache_fields.specs.Pragma.{pragma_forbids}
 use Rattle.http_cache_fields.specs.Headers.{Headers, contains_key, first_text}
 use Rattle.http_cache_fields.specs.Pieces.{pieces_under}
 use Rattle.http_cache_fields.specs.Directives.{name_of, raw_value_of, same_value, cache_control, has}
+use Rattle.http_cache_rules.specs.Messages.{ResponseSeen}
 use Rattle.http_cache_recording.specs.Entry.{EntrySeen, AnswerSeen, failed, cached}
 use Rattle.http_cache_recording.specs.Entry.{received as from_network}
 use Rattle.http_cache_audit.specs.declared.lint.Finding.{Finding}
 use Rattle.http_cache_audit.specs.declared.lint.Finding.TheVariants as finding
-use Rattle.http_cache_rules.specs.Dates.{first_date, second_start, when}
+use Rattle.http_cache_rules.specs.Dates.{second_start, when}
 use Rattle.http_cache_audit.specs.Again.{opaque}
 use Rattle.http_cache_audit.specs.Own.{date_in}
 
@@ -68,9 +69,12 @@ has_flaw finding.Quoted piece = is_quoted piece
 has_flaw finding.NotSeconds piece = lacks_seconds piece
 has_flaw finding.NoStoreBeside piece = false
 has_flaw finding.PublicPrivate piece = false
+has_flaw finding.SharedCookie piece = false
+has_flaw finding.CdnControl piece = false
+has_flaw finding.SurrogateControl piece = false
+has_flaw finding.KeptRedirect piece = false
 has_flaw finding.PragmaAlone piece = false
 has_flaw finding.ExpiresAlone piece = false
-has_flaw finding.ExpiresAgainst piece = false
 has_flaw finding.NotExpires piece = false
 has_flaw finding.BareTag piece = false
 has_flaw finding.FutureDate piece = false
@@ -89,27 +93,13 @@ abbrev pub is_dated_after : ℤ → Headers → Bool
 is_dated_after received h =
     option_map_or (λ date. int_lt (pos 60_000_000_000) (date -ℤ received)) (date_in h) false
 
-abbrev pub seconds_of : Headers → Option ℕ
-seconds_of h =
-    option_and_then (λ piece. option_and_then (λ v. number (unquote v)) (raw_value_of piece)) (first_named h (codes "max-age"))
+abbrev pub seconds_under : List ℕ → Headers → Option ℕ
+seconds_under name h =
+    option_and_then (λ piece. option_and_then (λ v. number (unquote v)) (raw_value_of piece)) (first_named h name)
 
-abbrev pub after : ℤ → ℕ → ℤ
-after time seconds = time +ℤ (pos seconds *ℤ pos 1_000_000_000)
-
--- by more than a minute
-abbrev pub differ : ℤ → ℤ → ℕ → Bool
-differ from to seconds =
-    int_lt (after from seconds) (to -ℤ pos 60_000_000_000) || int_lt (to +ℤ pos 60_000_000_000) (after from seconds)
-
-abbrev pub differ_by : ℕ → ℤ → Option ℤ → Bool
-differ_by seconds expires date = option_map_or (λ from. differ from expires seconds) date false
-
--- Expires and `max-age` mean different times
-abbrev pub is_against : Headers → Bool
-is_against h =
-    option_map_or
-    (λ seconds. option_map_or (λ expires. differ_by seconds expires (date_in h)) (first_date h (codes "expires")) false)
-    (seconds_of h) false
+-- the directive has a number of seconds that isn't 0
+abbrev pub has_lifetime : List ℕ → Headers → Bool
+has_lifetime name h = option_map_or (λ seconds. nat_lt 0 seconds) (seconds_under name h) false
 
 -- `0` and `-1` mean a past time, on purpose
 abbrev pub is_no_date : List ℕ → Bool
@@ -136,25 +126,47 @@ lacks_cache_control h = not (contains_key h (codes "cache-control"))
 abbrev pub says : Headers → List ℕ → Bool
 says h name = has (cache_control h) name
 
-unfoldable pub holds : Finding → ℤ → Headers → Bool
-holds finding.Conflict received h = is_in_conflict (codes "max-age") h || is_in_conflict (codes "s-maxage") h
-holds finding.Semicolon received h = list_any (has_flaw finding.Semicolon) (cache_pieces h)
-holds finding.NoComma received h = list_any (has_flaw finding.NoComma) (cache_pieces h)
-holds finding.Quoted received h = list_any (has_flaw finding.Quoted) (cache_pieces h)
-holds finding.NotSeconds received h = list_any (has_flaw finding.NotSeconds) (cache_pieces h)
-holds finding.NoStoreBeside received h =
-    says h (codes "no-store") && (says h (codes "max-age") || says h (codes "s-maxage"))
-holds finding.PublicPrivate received h = says h (codes "public") && says h (codes "private")
-holds finding.PragmaAlone received h = pragma_forbids h && lacks_cache_control h
-holds finding.ExpiresAlone received h = contains_key h (codes "expires") && lacks_cache_control h
-holds finding.ExpiresAgainst received h = is_against h
-holds finding.NotExpires received h = is_unread h
-holds finding.BareTag received h = is_bare h
-holds finding.FutureDate received h = is_dated_after received h
-holds finding.OldDate received h = is_dated_before received h && not (contains_key h (codes "age"))
-holds finding.VaryAny received h = varies_by (codes "*") h
-holds finding.VaryCookie received h = varies_by (codes "cookie") h
-holds finding.VaryUserAgent received h = varies_by (codes "user-agent") h
+-- the cookie of one user, in what shared caches may use
+abbrev pub is_shared_with_cookie : Headers → Bool
+is_shared_with_cookie h =
+    contains_key h (codes "set-cookie") && not (says h (codes "private"))
+    && (says h (codes "public") || says h (codes "s-maxage"))
+
+abbrev pub is_for_one_user : Headers → Bool
+is_for_one_user h = says h (codes "private") || says h (codes "no-store")
+
+abbrev pub says_no_lifetime : Headers → Bool
+says_no_lifetime h =
+    not (says h (codes "max-age")) && not (says h (codes "s-maxage")) && not (says h (codes "no-cache"))
+    && not (says h (codes "no-store")) && not (contains_key h (codes "expires"))
+
+-- a permanent redirection, which browsers keep for long if it states no lifetime
+abbrev pub is_kept_redirect : ResponseSeen → Bool
+is_kept_redirect r = (r.status == 301 || r.status == 308) && says_no_lifetime r.headers
+
+unfoldable pub holds : Finding → ℤ → ResponseSeen → Bool
+holds finding.Conflict received r = is_in_conflict (codes "max-age") r.headers || is_in_conflict (codes "s-maxage") r.headers
+holds finding.Semicolon received r = list_any (has_flaw finding.Semicolon) (cache_pieces r.headers)
+holds finding.NoComma received r = list_any (has_flaw finding.NoComma) (cache_pieces r.headers)
+holds finding.Quoted received r = list_any (has_flaw finding.Quoted) (cache_pieces r.headers)
+holds finding.NotSeconds received r = list_any (has_flaw finding.NotSeconds) (cache_pieces r.headers)
+holds finding.NoStoreBeside received r =
+    says r.headers (codes "no-store")
+    && (has_lifetime (codes "max-age") r.headers || has_lifetime (codes "s-maxage") r.headers)
+holds finding.PublicPrivate received r = says r.headers (codes "public") && says r.headers (codes "private")
+holds finding.SharedCookie received r = is_shared_with_cookie r.headers
+holds finding.CdnControl received r = contains_key r.headers (codes "cdn-cache-control")
+holds finding.SurrogateControl received r = contains_key r.headers (codes "surrogate-control")
+holds finding.KeptRedirect received r = is_kept_redirect r
+holds finding.PragmaAlone received r = pragma_forbids r.headers && lacks_cache_control r.headers
+holds finding.ExpiresAlone received r = contains_key r.headers (codes "expires") && lacks_cache_control r.headers
+holds finding.NotExpires received r = is_unread r.headers
+holds finding.BareTag received r = is_bare r.headers
+holds finding.FutureDate received r = is_dated_after received r.headers
+holds finding.OldDate received r = is_dated_before received r.headers && not (contains_key r.headers (codes "age"))
+holds finding.VaryAny received r = varies_by (codes "*") r.headers
+holds finding.VaryCookie received r = varies_by (codes "cookie") r.headers && not (is_for_one_user r.headers)
+holds finding.VaryUserAgent received r = varies_by (codes "user-agent") r.headers
 
 unfoldable pub words_of : Finding → List ℕ
 words_of finding.Conflict = codes "conflicting directives"
@@ -164,9 +176,12 @@ words_of finding.Quoted = codes "seconds in quotes"
 words_of finding.NotSeconds = codes "a max-age that can't be read"
 words_of finding.NoStoreBeside = codes "no-store beside max-age"
 words_of finding.PublicPrivate = codes "public beside private"
+words_of finding.SharedCookie = codes "Set-Cookie on what is shared"
+words_of finding.CdnControl = codes "CDN-Cache-Control"
+words_of finding.SurrogateControl = codes "Surrogate-Control"
+words_of finding.KeptRedirect = codes "a permanent redirect without a lifetime"
 words_of finding.PragmaAlone = codes "Pragma without Cache-Control"
 words_of finding.ExpiresAlone = codes "Expires without Cache-Control"
-words_of finding.ExpiresAgainst = codes "Expires against max-age"
 words_of finding.NotExpires = codes "an Expires that can't be read"
 words_of finding.BareTag = codes "an ETag without quotes"
 words_of finding.FutureDate = codes "a Date in the future"
@@ -179,21 +194,22 @@ words_of finding.VaryUserAgent = codes "Vary: User-Agent"
 abbrev pub findings : List Finding
 findings =
     finding.Conflict ∷ finding.Semicolon ∷ finding.NoComma ∷ finding.Quoted ∷ finding.NotSeconds
-    ∷ finding.NoStoreBeside ∷ finding.PublicPrivate ∷ finding.PragmaAlone ∷ finding.ExpiresAlone
-    ∷ finding.ExpiresAgainst ∷ finding.NotExpires ∷ finding.BareTag ∷ finding.FutureDate ∷ finding.OldDate ∷ finding.VaryAny ∷ finding.VaryCookie ∷ finding.VaryUserAgent ∷ []
+    ∷ finding.NoStoreBeside ∷ finding.PublicPrivate ∷ finding.SharedCookie ∷ finding.CdnControl
+    ∷ finding.SurrogateControl ∷ finding.KeptRedirect ∷ finding.PragmaAlone ∷ finding.ExpiresAlone
+    ∷ finding.NotExpires ∷ finding.BareTag ∷ finding.FutureDate ∷ finding.OldDate ∷ finding.VaryAny ∷ finding.VaryCookie ∷ finding.VaryUserAgent ∷ []
 
 abbrev pub hint : Bool → List ℕ → List (List ℕ)
 hint true words = words ∷ []
 hint false words = []
 
-abbrev pub hint_of : ℤ → Headers → Finding → List (List ℕ)
-hint_of received h f = hint (holds f received h) (words_of f)
+abbrev pub hint_of : ℤ → ResponseSeen → Finding → List (List ℕ)
+hint_of received r f = hint (holds f received r) (words_of f)
 
 -- only a response from the network has hints
 abbrev pub hints_in : ℤ → AnswerSeen → List (List ℕ)
 hints_in received failed = []
 hints_in received (cached r) = []
-hints_in received (from_network r) = flat_map (hint_of received r.headers) findings
+hints_in received (from_network r) = flat_map (hint_of received r) findings
 
 abbrev pub hints_of : EntrySeen → List (List ℕ)
 hints_of e = hints_in e.received e.answer

@@ -1,20 +1,21 @@
 //! Finds what looks wrong in a response, though the rules of caching give it a meaning.
-ghost use Rattle.std.specs.Prelude.{◌≡◌, ◌++◌, pos, int_lt, ◌+ℤ◌, ◌-ℤ◌, option_copied};
+ghost use Rattle.std.specs.Prelude.{◌≡◌, ◌++◌, pos, int_lt, ◌-ℤ◌, option_copied};
 ghost use Rattle.std.specs.Prelude.{map, string_bytes, IfOk, OnOk};
 ghost use Rattle.std.specs.List.{list_any, flat_map};
 ghost use Rattle.http_header.specs.Token.{lowercase};
 ghost use Rattle.http_cache_fields.specs.Headers.{headers_of};
 ghost use Rattle.http_cache_audit.specs.Lint.{cache_pieces, is_named, first_named, says_other, is_in_conflict};
 ghost use Rattle.http_cache_audit.specs.Lint.{has_semicolon, begins_quoted, is_quoted, lacks_comma, lacks_seconds, has_flaw};
-ghost use Rattle.http_cache_audit.specs.Lint.{is_dated_before, is_dated_after, seconds_of, after, differ, is_against, is_no_date, is_unread};
+ghost use Rattle.http_cache_audit.specs.Lint.{is_dated_before, is_dated_after, seconds_under, has_lifetime, is_no_date, is_unread};
 ghost use Rattle.http_cache_audit.specs.Lint.{is_bare, varies_by, lacks_cache_control, holds, words_of, findings, hint, hint_of};
-ghost use Rattle.http_cache_audit.specs.Lint.{hints_of};
+ghost use Rattle.http_cache_audit.specs.Lint.{hints_of, is_shared_with_cookie, is_for_one_user, says_no_lifetime, is_kept_redirect};
+ghost use Rattle.http_cache_semantics.specs.Messages.{response_seen};
 ghost use Rattle.http_cache_recording.specs.Entry.{entry_seen};
 
 use crate::again::opaque;
 use crate::own::date_of;
-use http::HeaderMap;
-use http::header::{AGE, CACHE_CONTROL, ETAG, EXPIRES, VARY};
+use http::header::{AGE, CACHE_CONTROL, ETAG, EXPIRES, SET_COOKIE, VARY};
+use http::{HeaderMap, response};
 use http_cache_fields::directives::split_piece;
 use http_cache_fields::headers::{contains_key, first_text};
 use http_cache_fields::names::is_same_name;
@@ -41,16 +42,23 @@ pub enum Finding {
     /// `max-age` or `s-maxage` has no number of seconds, so the lifetime is zero (RFC 9111, section
     /// 1.2.2).
     NotSeconds,
-    /// `no-store` is present with `max-age` or `s-maxage`, which then have no effect.
+    /// `no-store` is present with a lifetime in `max-age` or `s-maxage`, which then has no effect.
     NoStoreBeside,
     /// `public` is present with `private`.
     PublicPrivate,
+    /// Set-Cookie is present with `public` or `s-maxage`, and without `private` (RFC 9111, section
+    /// 7.3).
+    SharedCookie,
+    /// CDN-Cache-Control is present, which a CDN obeys before Cache-Control (RFC 9213).
+    CdnControl,
+    /// Surrogate-Control is present, which some CDNs obey before Cache-Control.
+    SurrogateControl,
+    /// A permanent redirection states no lifetime, so that browsers keep it for long.
+    KeptRedirect,
     /// Pragma has `no-cache`, and there is no Cache-Control.
     PragmaAlone,
     /// Expires is present without Cache-Control.
     ExpiresAlone,
-    /// Expires and `max-age` differ by more than 60 s.
-    ExpiresAgainst,
     /// Expires is no readable date, and not `0` or `-1`, which mean the past (RFC 9111, section
     /// 5.3).
     NotExpires,
@@ -62,14 +70,14 @@ pub enum Finding {
     OldDate,
     /// Vary has `*`.
     VaryAny,
-    /// Vary has Cookie.
+    /// Vary has Cookie, and shared caches may store the response.
     VaryCookie,
     /// Vary has User-Agent.
     VaryUserAgent,
 }
 
 // In the order of the output.
-fn findings() -> [Finding; 17]
+fn findings() -> [Finding; 20]
     ensures { result ≡ findings }
 {
     [
@@ -80,9 +88,12 @@ fn findings() -> [Finding; 17]
         Finding::NotSeconds,
         Finding::NoStoreBeside,
         Finding::PublicPrivate,
+        Finding::SharedCookie,
+        Finding::CdnControl,
+        Finding::SurrogateControl,
+        Finding::KeptRedirect,
         Finding::PragmaAlone,
         Finding::ExpiresAlone,
-        Finding::ExpiresAgainst,
         Finding::NotExpires,
         Finding::BareTag,
         Finding::FutureDate,
@@ -106,9 +117,12 @@ impl Finding {
             Finding::NotSeconds => "a max-age that can't be read",
             Finding::NoStoreBeside => "no-store beside max-age",
             Finding::PublicPrivate => "public beside private",
+            Finding::SharedCookie => "Set-Cookie on what is shared",
+            Finding::CdnControl => "CDN-Cache-Control",
+            Finding::SurrogateControl => "Surrogate-Control",
+            Finding::KeptRedirect => "a permanent redirect without a lifetime",
             Finding::PragmaAlone => "Pragma without Cache-Control",
             Finding::ExpiresAlone => "Expires without Cache-Control",
-            Finding::ExpiresAgainst => "Expires against max-age",
             Finding::NotExpires => "an Expires that can't be read",
             Finding::BareTag => "an ETag without quotes",
             Finding::FutureDate => "a Date in the future",
@@ -247,48 +261,24 @@ fn is_dated_after(
     })
 }
 
-fn seconds_of(headers: &HeaderMap) -> Option<u64>
-    ensures { result ≡ seconds_of (headers_of headers.now) }
+// The name is in lower case.
+fn seconds_under(headers: &HeaderMap, name: &str) -> Option<u64>
+    ensures { lowercase name.now ≡ name.now
+        → result ≡ seconds_under name.now (headers_of headers.now) }
 {
-    let piece = first_named(headers, "max-age")?;
+    let piece = first_named(headers, name)?;
     number(unquote(split_piece(piece).1?))
 }
 
-fn after(time: Timestamp, seconds: u64) -> i128
-    ensures { result ≡ after time.nanosecond seconds }
+// The name is in lower case.
+fn has_lifetime(headers: &HeaderMap, name: &str) -> bool
+    ensures { lowercase name.now ≡ name.now
+        → result ≡ has_lifetime name.now (headers_of headers.now) }
 {
-    time.as_nanosecond() + seconds as i128 * 1_000_000_000
-}
-
-fn is_later(time: Timestamp, due: i128) -> bool
-    ensures { result ≡ int_lt due (time.nanosecond -ℤ pos 60_000_000_000) }
-{
-    due < time.as_nanosecond() - 60_000_000_000
-}
-
-fn is_earlier(time: Timestamp, due: i128) -> bool
-    ensures { result ≡ int_lt (time.nanosecond +ℤ pos 60_000_000_000) due }
-{
-    time.as_nanosecond() + 60_000_000_000 < due
-}
-
-fn differ(from: Timestamp, to: Timestamp, seconds: u64) -> bool
-    ensures { result ≡ differ from.nanosecond to.nanosecond seconds }
-{
-    let due = after(from, seconds);
-    is_later(to, due) || is_earlier(to, due)
-}
-
-fn is_against(alloc: Global, headers: &HeaderMap) -> Result<bool, AllocError>
-    ensures { IfOk result (λ holds. holds ≡ is_against (headers_of headers.now)) }
-{
-    let (Some(seconds), Some(text)) = (seconds_of(headers), first_text(headers, EXPIRES)) else {
-        return Ok(false);
-    };
-    let (Some(date), Some(expires)) = (date_of(alloc, headers)?, read_date(alloc, text)?) else {
-        return Ok(false);
-    };
-    Ok(differ(date, expires, seconds))
+    match seconds_under(headers, name) {
+        Some(seconds) => seconds > 0,
+        None => false,
+    }
 }
 
 // `0` and `-1` mean a past time, on purpose.
@@ -329,6 +319,37 @@ fn varies_by(headers: &HeaderMap, name: &str) -> bool
     pieces_under(headers, VARY).any(|piece| is_same_name(piece, name))
 }
 
+fn is_shared_with_cookie(headers: &HeaderMap) -> bool
+    ensures { result ≡ is_shared_with_cookie (headers_of headers.now) }
+{
+    contains_key(headers, SET_COOKIE)
+        && !says(headers, "private")
+        && (says(headers, "public") || says(headers, "s-maxage"))
+}
+
+fn is_for_one_user(headers: &HeaderMap) -> bool
+    ensures { result ≡ is_for_one_user (headers_of headers.now) }
+{
+    says(headers, "private") || says(headers, "no-store")
+}
+
+fn says_no_lifetime(headers: &HeaderMap) -> bool
+    ensures { result ≡ says_no_lifetime (headers_of headers.now) }
+{
+    !says(headers, "max-age")
+        && !says(headers, "s-maxage")
+        && !says(headers, "no-cache")
+        && !says(headers, "no-store")
+        && !contains_key(headers, EXPIRES)
+}
+
+fn is_kept_redirect(response: &response::Parts) -> bool
+    ensures { result ≡ is_kept_redirect (response_seen response.now) }
+{
+    let status = response.status.as_u16();
+    (status == 301 || status == 308) && says_no_lifetime(&response.headers)
+}
+
 fn lacks_cache_control(headers: &HeaderMap) -> bool
     ensures { result ≡ lacks_cache_control (headers_of headers.now) }
 {
@@ -339,11 +360,12 @@ fn lacks_cache_control(headers: &HeaderMap) -> bool
 fn holds(
     alloc: Global,
     finding: Finding,
-    headers: &HeaderMap,
+    response: &response::Parts,
     received: Timestamp,
 ) -> Result<bool, AllocError>
-    ensures { IfOk result (λ b. b ≡ holds finding received.nanosecond (headers_of headers.now)) }
+    ensures { IfOk result (λ b. b ≡ holds finding received.nanosecond (response_seen response.now)) }
 {
+    let headers = &response.headers;
     Ok(match finding {
         Finding::Conflict => {
             is_in_conflict(headers, "max-age") || is_in_conflict(headers, "s-maxage")
@@ -352,12 +374,16 @@ fn holds(
             any_flaw(headers, finding)
         }
         Finding::NoStoreBeside => {
-            says(headers, "no-store") && (says(headers, "max-age") || says(headers, "s-maxage"))
+            says(headers, "no-store")
+                && (has_lifetime(headers, "max-age") || has_lifetime(headers, "s-maxage"))
         }
         Finding::PublicPrivate => says(headers, "public") && says(headers, "private"),
+        Finding::SharedCookie => is_shared_with_cookie(headers),
+        Finding::CdnControl => contains_key(headers, "cdn-cache-control"),
+        Finding::SurrogateControl => contains_key(headers, "surrogate-control"),
+        Finding::KeptRedirect => is_kept_redirect(response),
         Finding::PragmaAlone => pragma_forbids(headers) && lacks_cache_control(headers),
         Finding::ExpiresAlone => contains_key(headers, EXPIRES) && lacks_cache_control(headers),
-        Finding::ExpiresAgainst => is_against(alloc, headers)?,
         Finding::NotExpires => is_unread(alloc, headers)?,
         Finding::BareTag => is_bare(headers),
         Finding::FutureDate => is_dated_after(alloc, received, headers)?,
@@ -365,7 +391,7 @@ fn holds(
             is_dated_before(alloc, received, headers)? && !contains_key(headers, AGE)
         }
         Finding::VaryAny => varies_by(headers, "*"),
-        Finding::VaryCookie => varies_by(headers, "cookie"),
+        Finding::VaryCookie => varies_by(headers, "cookie") && !is_for_one_user(headers),
         Finding::VaryUserAgent => varies_by(headers, "user-agent"),
     })
 }
@@ -388,16 +414,16 @@ pub(crate) fn push_hint(
 
 fn hints_in(
     alloc: Global,
-    headers: &HeaderMap,
+    response: &response::Parts,
     received: Timestamp,
     findings: &[Finding],
 ) -> Result<Vec<String>, AllocError>
     ensures { IfOk result (λ all. map string_bytes all.items
-        ≡ flat_map (hint_of received.nanosecond (headers_of headers.now)) findings.now) }
+        ≡ flat_map (hint_of received.nanosecond (response_seen response.now)) findings.now) }
 {
     let mut all = Vec::new(alloc);
     for finding in findings {
-        let is_so = holds(alloc, *finding, headers, received)?;
+        let is_so = holds(alloc, *finding, response, received)?;
         push_hint(alloc, &mut all, is_so, finding.words())?;
     }
     Ok(all)
@@ -412,12 +438,7 @@ pub fn hints_of(alloc: Global, entry: &Entry) -> Result<Vec<String>, AllocError>
     match &entry.answer {
         Answer::Failed | Answer::Cached(_) => Ok(Vec::new(alloc)),
         Answer::Received(response) => {
-            hints_in(
-                alloc,
-                &response.headers,
-                entry.received,
-                findings().as_slice(),
-            )
+            hints_in(alloc, response, entry.received, findings().as_slice())
         }
     }
 }

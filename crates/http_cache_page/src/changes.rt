@@ -25,12 +25,20 @@ pub enum ChangeText {
     Now,
     /// Before what to send.
     Send,
-    /// After what to send.
-    SendEnd,
+    /// Before the Cache-Control to send.
+    Control,
+    /// After the Cache-Control to send.
+    ControlEnd,
     /// The response gets an ETag.
     Tag,
     /// A 304 answers the request.
     Answer,
+    /// Before why something is advised.
+    Why,
+    /// Before when it is wrong.
+    Unless,
+    /// After why, or when not.
+    WhyEnd,
     /// Before what that saves.
     Saves,
     /// After what it saves.
@@ -60,13 +68,13 @@ pub enum ChangeText {
 const HEAD: &str = "<section aria-labelledby=\"s1\"><h2 id=\"s1\">Change first</h2>\n";
 
 const LATER: &str =
-    r##"<p class="lead">The URLs of which later loads sent most. The bar is what they sent; hatched,
-what the headers spare of it. A click on a header selects it.</p>
+    r##"<p class="lead">The URLs of which later loads sent most that can be spared. The bar is what they
+sent; hatched, what the headers spare of it. A click on a header selects it.</p>
 "##;
 
 const VISIT: &str =
-    r##"<p class="lead">The URLs of which a visit a day later sends most. The bar is what it sends;
-hatched, what the headers spare of it. A click on a header selects it.</p>
+    r##"<p class="lead">The URLs of which a visit a day later sends most that can be spared. The bar is
+what it sends; hatched, what the headers spare of it. A click on a header selects it.</p>
 "##;
 
 const TABLE: &str = r##"<table class="first"><thead><tr><th scope="col">URL</th>
@@ -89,13 +97,21 @@ const BAR: &str = r##"</span><svg class="bar" aria-hidden="true">
 
 const NOW: &str = "</svg></td><td class=\"now\"><code class=\"set\">";
 
-const SEND: &str = "</code></td><td class=\"new\"><code class=\"set\">Cache-Control: ";
+const SEND: &str = "</code></td><td class=\"new\">";
 
-const SEND_END: &str = "</code>";
+const CONTROL: &str = "<code class=\"set\">Cache-Control: ";
 
-const TAG: &str = "<small>and an ETag, a text that changes with the content</small>";
+const CONTROL_END: &str = "</code>";
 
-const ANSWER: &str = "<small>and answer 304 to its ETag</small>";
+const TAG: &str = "<small>an ETag, a text that changes with the content</small>";
+
+const ANSWER: &str = "<small>answer 304 to its ETag</small>";
+
+const WHY: &str = "<small class=\"why\">Why: ";
+
+const UNLESS: &str = "<small class=\"why\">Not if: ";
+
+const WHY_END: &str = "</small>";
 
 const SAVES: &str = "</td><td class=\"n s\"><span class=\"big\">";
 
@@ -124,7 +140,7 @@ const TOTAL_SAVES: &str =
 const END: &str = "</span></td></tr></tfoot></table>\n</section>\n";
 
 const NOTHING: &str =
-    "<p class=\"lead\">Nothing: no URL takes 1 % of what is sent.</p>\n</section>\n";
+    "<p class=\"lead\">Nothing: no advice saves bytes of a URL that takes 1 % of what is sent.</p>\n</section>\n";
 
 /// Returns the text.
 pub fn text_of(text: ChangeText) -> &'static str
@@ -141,9 +157,13 @@ pub fn text_of(text: ChangeText) -> &'static str
         ChangeText::Bar => BAR,
         ChangeText::Now => NOW,
         ChangeText::Send => SEND,
-        ChangeText::SendEnd => SEND_END,
+        ChangeText::Control => CONTROL,
+        ChangeText::ControlEnd => CONTROL_END,
         ChangeText::Tag => TAG,
         ChangeText::Answer => ANSWER,
+        ChangeText::Why => WHY,
+        ChangeText::Unless => UNLESS,
+        ChangeText::WhyEnd => WHY_END,
         ChangeText::Saves => SAVES,
         ChangeText::SavesEnd => SAVES_END,
         ChangeText::InFirst => IN_FIRST,

@@ -6,7 +6,7 @@ use Rattle.std.specs.Int.{is_in_range}
 use Rattle.std.specs.Option.{option_or, option_map_or}
 use Rattle.http_header.specs.Token.{is_token_byte}
 use Rattle.serde_json.specs.Data.{Data}
-use Rattle.serde_json.specs.Find.{get, as_bool}
+use Rattle.serde_json.specs.Find.{get}
 use Rattle.http_cache_fields.specs.Headers.{Headers, contains_key}
 use Rattle.http_cache_rules.specs.Messages.{ResponseSeen}
 use Rattle.http_cache_json.specs.Form.{◌>>=◌, given}
@@ -20,7 +20,7 @@ use Rattle.http_cache_recording.specs.Moment.{moment_of_text, received_at}
 use Rattle.http_cache_recording.specs.Target.{has_user, other_scheme, url_parts, target_text}
 use Rattle.http_cache_recording.specs.Fields.{headers_in, without_no_cache}
 use Rattle.http_cache_recording.specs.Printed.{member_of, text_in, some_text_in, request_text, status_of, browser_of, error_of, printed_of}
-use Rattle.http_cache_recording.specs.Printed.{IsSkippedUrl}
+use Rattle.http_cache_recording.specs.Printed.{IsSkippedUrl, shown_text, is_by_worker}
 
 -- ---- why it isn't audited
 
@@ -31,16 +31,6 @@ is_token text = nat_lt 0 (length text) && list_all is_token_byte text
 -- if it is a token (RFC 9110, section 9.1)
 unfoldable pub method_in : Data → Option (List ℕ)
 method_in d = request_text (codes "method") d >>= (λ m. given (is_token m) m)
-
--- Chromium's mark of an answer from a service worker
-abbrev pub worker_flag : Data → Option Bool
-worker_flag d = member_of (codes "response") (codes "_fetchedViaServiceWorker") d >>= as_bool
-
--- a service worker answered, as Chromium or Safari records
-unfoldable pub is_by_worker : Data → Bool
-is_by_worker d =
-    unwrap_or (worker_flag d) false
-    || option_map_or (λ t. bytes_eq t (codes "Service Worker")) (text_in (codes "_fetchType") d) false
 
 -- why an element for http or https isn't audited, whatever its target
 unfoldable pub other_reason : List ℕ → Data → Option (List ℕ)
@@ -145,7 +135,7 @@ entry_of ignores method started d = record {
 abbrev pub IsSkipped : Reader → Data → List ℕ → RecordedSeen → Type 0
 IsSkipped reader d reason r =
     (url : Option (List ℕ)) × IsSkippedUrl d url
-    × (r ≡ record { printed = printed_of reader url d; reading = skipped reason })
+    × (r ≡ record { printed = printed_of reader (option_map shown_text url) d; reading = skipped reason })
 
 -- an element with a method may lack a target or a time
 abbrev pub IsRecordedBy : Reader → Data → List ℕ → RecordedSeen → Type 0

@@ -1,10 +1,12 @@
 -- What may be printed of an entry, and what it says of its response.
-use Rattle.std.specs.Prelude.{ℕ, ◌+◌, ◌-◌, ◌==◌, ◌&&◌, ◌||◌, not, nat_lt, Bool, List, [], ◌∷◌, drop, take, codes, bytes_eq, ◌≡◌, ◌<◌, ◌≤◌}
+use Rattle.std.specs.Prelude.{ℕ, ◌+◌, ◌-◌, ◌==◌, ◌&&◌, ◌||◌, not, nat_lt, Bool, List, [], ◌∷◌, drop, take, codes, bytes_eq, ◌≡◌, ◌<◌, ◌≤◌, ◌^◌}
 use Rattle.std.specs.Prelude.{Option, Some, None, option_map, option_and_then, is_some, unwrap_or, if◌then◌else◌, false, MatchOption, IsSomeAnd}
 use Rattle.std.specs.Option.{option_or, option_map_or}
 use Rattle.std.specs.Str.{IsCharBoundary}
+use Rattle.percent_encoding.specs.declared.ascii_set.AsciiSet.{AsciiSet}
+use Rattle.percent_encoding.specs.Percent.{percent_encode}
 use Rattle.serde_json.specs.Data.{Data}
-use Rattle.serde_json.specs.Find.{get, as_str, as_number, as_object, as_u64}
+use Rattle.serde_json.specs.Find.{get, as_bool, as_str, as_number, as_object, as_u64}
 use Rattle.http_cache_json.specs.Form.{◌>>=◌, given}
 use Rattle.http_cache_recording.specs.declared.element.Reader.{Reader}
 use Rattle.http_cache_recording.specs.Entry.{PrintedSeen}
@@ -84,11 +86,25 @@ is_by_state d =
     && option_map_or (λ n. n == 0) (response_size (codes "bodySize") d) false
     && (unwrap_or (response_size (codes "_transferSize") d) 0 == 0)
 
--- the browser's name for its own cache, if that answered
-unfoldable pub browser_of : Data → Option (List ℕ)
-browser_of d =
+-- Chromium's mark of an answer from a service worker
+abbrev pub worker_flag : Data → Option Bool
+worker_flag d = member_of (codes "response") (codes "_fetchedViaServiceWorker") d >>= as_bool
+
+-- a service worker answered, as Chromium or Safari records
+unfoldable pub is_by_worker : Data → Bool
+is_by_worker d =
+    unwrap_or (worker_flag d) false
+    || option_map_or (λ t. bytes_eq t (codes "Service Worker")) (text_in (codes "_fetchType") d) false
+
+-- the mark of the browser's own cache
+unfoldable pub cache_of : Data → Option (List ℕ)
+cache_of d =
     option_or (some_text_in (codes "_fromCache") d) (option_or (safari_cache d)
     (option_or (given (is_by_firefox d) (codes "firefox")) (given (is_by_state d) (codes "cache"))))
+
+-- the browser's name for its own cache, if that answered and no service worker
+unfoldable pub browser_of : Data → Option (List ℕ)
+browser_of d = if is_by_worker d then None else cache_of d
 
 -- by the browser or by Playwright
 abbrev pub error_in : Data → Option (List ℕ)
@@ -120,24 +136,32 @@ sent_by is_firefox d =
     else (if status_of d == 304 then unwrap_or (response_size (codes "headersSize") d) 0
     else unwrap_or (response_size (codes "bodySize") d) 0)
 
--- none if the browser answered
+-- none if the browser or a service worker answered
 unfoldable pub sent_of : Bool → Data → ℕ
 sent_of is_firefox d =
-    if is_some (browser_of d) then 0
+    if is_some (browser_of d) || is_by_worker d then 0
     else unwrap_or (response_size (codes "_transferSize") d) (sent_by is_firefox d)
 
 -- only in a recording that lists pages
 unfoldable pub page_of : Bool → Data → Option (List ℕ)
 page_of has_pages d = if has_pages then some_text_in (codes "pageref") d else None
 
+-- all bytes but the printable ones of ASCII
+abbrev pub unprintable : AsciiSet
+unprintable = record { mask = 2 ^ 127 + (2 ^ 32 - 1) }
+
+-- the text, in which bytes that can't be printed are percent-encoded
+unfoldable pub shown_text : List ℕ → List ℕ
+shown_text t = percent_encode unprintable t
+
 unfoldable pub printed_of : Reader → Option (List ℕ) → Data → PrintedSeen
 printed_of reader url d = record {
-  method = method_of d;
+  method = option_map shown_text (method_of d);
   url = url;
   status = status_of d;
-  browser = browser_of d;
-  error = error_of d;
+  browser = option_map shown_text (browser_of d);
+  error = option_map shown_text (error_of d);
   sent = sent_of reader.is_firefox d;
   head = unwrap_or (response_size (codes "headersSize") d) 0;
-  page = page_of reader.has_pages d;
+  page = option_map shown_text (page_of reader.has_pages d);
 }

@@ -6,15 +6,15 @@ ghost use Rattle.http_cache_recording.specs.Entry.{text_seen, answer_seen, body_
 ghost use Rattle.http_cache_recording.specs.Element.{method_in, other_reason, reason_of, target_in, started_of};
 ghost use Rattle.http_cache_recording.specs.Element.{request_headers, answer_of, body_of, is_internal, is_preflight};
 ghost use Rattle.http_cache_recording.specs.Element.{is_answered_by_store, is_range, kind_of, entry_of, IsSkipped, IsRecordedBy};
-ghost use Rattle.http_cache_recording.specs.Element.{IsRecorded, worker_flag, is_by_worker};
+ghost use Rattle.http_cache_recording.specs.Element.{IsRecorded};
 
 use crate::entry::{Answer, Body, Entry, Kind, Reading, Recorded};
 use crate::fields::{headers_in, remove_no_cache};
 use crate::moment::{moment_of_text, received_at};
 use crate::number::whole;
 use crate::printed::{
-    browser_of, copied, error_of, member, printed_of, request_text, skipped_url, some_text_in,
-    status_of, text_in,
+    browser_of, copied, error_of, is_by_worker, member, printed_of, request_text, shown,
+    skipped_url, some_text_in, status_of, text_in,
 };
 use crate::target::{has_user, other_scheme, target_text, url_parts};
 use http::method::MethodError;
@@ -49,21 +49,6 @@ fn method_in(alloc: Global, value: &Value) -> Result<Option<Method>, AllocError>
         Err(MethodError::OutOfMemory) => Err(AllocError),
         Err(MethodError::Invalid) => Ok(None),
     }
-}
-
-// Chromium's mark of an answer from a service worker.
-fn worker_flag(value: &Value) -> Option<bool>
-    ensures { result ≡ worker_flag (view value.now) }
-{
-    member(value, "response", "_fetchedViaServiceWorker")?.as_bool()
-}
-
-// Chromium and Safari record it differently.
-#[tactic(auto, unfolding(crate::specs::Element::is_by_worker))]
-fn is_by_worker(value: &Value) -> bool
-    ensures { result ≡ is_by_worker (view value.now) }
-{
-    worker_flag(value).unwrap_or(false) || text_in(value, "_fetchType") == Some("Service Worker")
 }
 
 // It holds whatever the target is.
@@ -267,7 +252,7 @@ fn skipped(
     ensures { IfOk result (λ r. IsSkipped reader (view value.now) (string_bytes reason)
         (recorded_seen r)) }
 {
-    let url = copied(alloc, skipped_url(value))?;
+    let url = shown(alloc, skipped_url(value))?;
     Ok(Recorded {
         printed: printed_of(alloc, value, url, reader)?,
         reading: Reading::Skipped(reason),

@@ -11,7 +11,8 @@ pub struct Recorded {
     pub reading: Reading,
 }
 
-/// What may be printed of an entry.
+/// What may be printed of an entry. Each text has only printable ASCII: other bytes are
+/// percent-encoded.
 #[derive(Drop)]
 pub struct Printed {
     /// The method, if it is a text that isn't empty.

@@ -6,12 +6,13 @@ ghost use Rattle.http_cache_recording.specs.Printed.{member_of, text_in, some_te
 ghost use Rattle.http_cache_recording.specs.Printed.{request_text, method_of, IsSkippedUrl, status_of, size_of_headers, has_no_size};
 ghost use Rattle.http_cache_recording.specs.Printed.{is_by_firefox, browser_of, error_of};
 ghost use Rattle.http_cache_recording.specs.Printed.{response_size, content_size, body_size, sent_by, sent_of};
-ghost use Rattle.http_cache_recording.specs.Printed.{printed_of, safari_cache, is_by_state, page_of};
+ghost use Rattle.http_cache_recording.specs.Printed.{printed_of, safari_cache, is_by_state, page_of, shown_text, worker_flag, is_by_worker, cache_of};
 
 use crate::element::Reader;
 use crate::entry::Printed;
 use crate::number::whole;
 use crate::target::user_len;
+use percent_encoding::{CONTROLS, percent_encode};
 use serde_json::Value;
 use std::alloc::{AllocError, Global};
 
@@ -50,6 +51,22 @@ pub(crate) fn copied(alloc: Global, text: Option<&str>) -> Result<Option<String>
         Some(text) => Ok(Some(String::from_str(alloc, text)?)),
         None => Ok(None),
     }
+}
+
+/// Returns a copy of a text in which each byte is percent-encoded that isn't printable ASCII.
+///
+/// Such bytes would move the cursor of a terminal, or turn the direction of what follows.
+#[tactic(auto, unfolding(crate::specs::Printed::shown_text))]
+pub(crate) fn shown(alloc: Global, text: Option<&str>) -> Result<Option<String>, AllocError>
+    ensures { IfOk result (λ copy. text_seen copy
+        ≡ option_map shown_text (option_map (λ t. t.now) text.entry)) }
+{
+    let Some(text) = text else {
+        return Ok(None);
+    };
+    let mut out = String::new(alloc);
+    percent_encode(text.as_bytes(), CONTROLS).append_to(&mut out)?;
+    Ok(Some(out))
 }
 
 /// Returns the text of the request under a name.
@@ -145,10 +162,25 @@ fn is_by_state(value: &Value) -> bool
         && response_size(value, "_transferSize").unwrap_or(0) == 0
 }
 
-/// Returns the browser's name for its own cache, if that answered.
-#[tactic(auto, unfolding(crate::specs::Printed::browser_of))]
-pub(crate) fn browser_of(value: &Value) -> Option<&str>
-    ensures { option_map (λ t. t.now) result ≡ browser_of (view value.now) }
+// Chromium's mark of an answer from a service worker.
+fn worker_flag(value: &Value) -> Option<bool>
+    ensures { result ≡ worker_flag (view value.now) }
+{
+    member(value, "response", "_fetchedViaServiceWorker")?.as_bool()
+}
+
+/// Returns whether a service worker answered, as Chromium or Safari records.
+#[tactic(auto, unfolding(crate::specs::Printed::is_by_worker))]
+pub(crate) fn is_by_worker(value: &Value) -> bool
+    ensures { result ≡ is_by_worker (view value.now) }
+{
+    worker_flag(value).unwrap_or(false) || text_in(value, "_fetchType") == Some("Service Worker")
+}
+
+// Returns the recording's mark of the browser's own cache.
+#[tactic(auto, unfolding(crate::specs::Printed::cache_of))]
+fn cache_of(value: &Value) -> Option<&str>
+    ensures { option_map (λ t. t.now) result ≡ cache_of (view value.now) }
 {
     if let Some(name) = some_text_in(value, "_fromCache") {
         return Some(name);
@@ -162,6 +194,19 @@ pub(crate) fn browser_of(value: &Value) -> Option<&str>
         Some("cache")
     } else {
         None
+    }
+}
+
+/// Returns the browser's name for its own cache, if that answered. It didn't if a service worker did,
+/// whose store is another one.
+#[tactic(auto, unfolding(crate::specs::Printed::browser_of))]
+pub(crate) fn browser_of(value: &Value) -> Option<&str>
+    ensures { option_map (λ t. t.now) result ≡ browser_of (view value.now) }
+{
+    if is_by_worker(value) {
+        None
+    } else {
+        cache_of(value)
     }
 }
 
@@ -232,7 +277,7 @@ fn sent_by(value: &Value, is_firefox: bool) -> u64
 fn sent_of(value: &Value, is_firefox: bool) -> u64
     ensures { result ≡ sent_of is_firefox (view value.now) }
 {
-    if browser_of(value).is_some() {
+    if browser_of(value).is_some() || is_by_worker(value) {
         return 0;
     }
     match response_size(value, "_transferSize") {
@@ -264,10 +309,10 @@ pub(crate) fn printed_of(
     ensures { IfOk result (λ printed. printed_seen printed
         ≡ printed_of reader (text_seen url) (view value.now)) }
 {
-    let page = copied(alloc, page_of(value, reader.has_pages))?;
-    let method = copied(alloc, method_of(value))?;
-    let browser = copied(alloc, browser_of(value))?;
-    let error = copied(alloc, error_of(value))?;
+    let page = shown(alloc, page_of(value, reader.has_pages))?;
+    let method = shown(alloc, method_of(value))?;
+    let browser = shown(alloc, browser_of(value))?;
+    let error = shown(alloc, error_of(value))?;
     Ok(Printed {
         method,
         url,

@@ -2,10 +2,14 @@
 use Rattle.std.specs.Prelude.{ℕ, ◌-◌, ◌^◌, Bool, false, List, [], ◌∷◌, slice_get, unwrap_or, if◌then◌else◌}
 use Rattle.std.specs.List.{flat_map, enumerate_from}
 use Rattle.std.specs.List.Sorted.{IsPermutation, IsSorted}
+use Rattle.std.specs.Ordering.{nat_cmp, ordering_then}
+use Rattle.std.specs.declared.cmp.Ordering.{Ordering}
 use Rattle.http_cache_recording.specs.Entry.{RecordedSeen}
 use Rattle.http_cache_report.specs.declared.urls.Url.{Url}
 use Rattle.http_cache_report.specs.Later.{size_at}
-use Rattle.http_cache_report.specs.Picks.{by_key}
+
+abbrev pub by_key : ℕ × ℕ → ℕ × ℕ → Ordering
+by_key x y = ordering_then (nat_cmp x.0 y.0) (nat_cmp x.1 y.1)
 
 -- the key of a listed url, which is before the keys of urls with fewer bytes
 abbrev pub key_by : ℕ → ℕ → Bool → List (ℕ × ℕ)

@@ -1,7 +1,6 @@
 -- Later visits, and the urls that they request.
-use Rattle.std.specs.Prelude.{ℕ, ℤ, ◌-◌, ◌*◌, ◌+ℤ◌, ◌-ℤ◌, pos, min, max, ◌==◌, ◌&&◌, ◌||◌, nat_lt, nat_le, not, Bool, true, false}
-use Rattle.std.specs.Prelude.{List, [], ◌∷◌, ◌++◌, map, slice_get, codes, Option, Some, None, if◌then◌else◌}
-use Rattle.std.specs.List.{list_any}
+use Rattle.std.specs.Prelude.{ℕ, ℤ, ◌-◌, ◌*◌, ◌+ℤ◌, ◌-ℤ◌, pos, min, max, ◌&&◌, ◌||◌, nat_lt, not, Bool, true, false}
+use Rattle.std.specs.Prelude.{List, [], ◌∷◌, ◌++◌, slice_get, codes, Option, Some, None, if◌then◌else◌}
 use Rattle.std.specs.Option.{option_map_or}
 use Rattle.http_uri.specs.declared.uri.Uri.{Uri}
 use Rattle.http_cache_rules.specs.Messages.{ResponseSeen}
@@ -15,7 +14,6 @@ use Rattle.http_cache_report.specs.declared.urls.Url.{Url}
 use Rattle.http_cache_report.specs.declared.urls.Life.{Life}
 use Rattle.http_cache_report.specs.declared.urls.Life.TheVariants as life
 use Rattle.http_cache_report.specs.declared.later.Visits.{Visits}
-use Rattle.http_cache_report.specs.declared.picks.Pick.{Pick}
 use Rattle.http_cache_report.specs.Visit.{SpanSeen, IsVisit}
 use Rattle.http_cache_report.specs.Queries.{text_at}
 
@@ -53,6 +51,10 @@ asks c url = is_again c url || is_confirmed c url
 abbrev pub any_asks : Visits → List ℕ → Bool
 any_asks v url = asks v.hour url || asks v.day url || asks v.week url || asks v.month url
 
+-- a 304 confirms the stored response of a url, for each of its requests
+abbrev pub is_only_confirmed : Counts → List ℕ → Bool
+is_only_confirmed visit url = is_confirmed visit url && not (is_again visit url)
+
 -- ---- what the whole page costs
 
 abbrev pub sum_in : Counts → List ℕ → ℕ
@@ -76,22 +78,6 @@ is_given (life.Guessed n) = false
 is_given life.NoCache = false
 is_given life.NotStored = false
 is_given life.Unknown = false
-
-abbrev pub is_picked : List Pick → Url → Bool
-is_picked ps u = list_any (λ (p : Pick). p.entry == u.entry) ps
-
--- a url of the first load states a lifetime, and a visit requests it
-abbrev pub is_asked_later : List RecordedSeen → Visits → Url → Bool
-is_asked_later rs v u = u.known.is_first && is_given u.life && any_asks v (text_at rs u.entry)
-
--- a later visit requests the url, it isn't changed first, and it is large enough or fails
-abbrev pub is_listed : List RecordedSeen → Visits → List Pick → ℕ → Url → Bool
-is_listed rs v ps least u =
-    is_asked_later rs v u && not (is_picked ps u)
-    && (nat_le 400 (status_at rs u.full) || nat_le least (size_at rs u.full))
-
-abbrev pub listed_of : List RecordedSeen → Visits → List Pick → ℕ → List Url → List Bool
-listed_of rs v ps least us = map (is_listed rs v ps least) us
 
 -- ---- urls that say no lifetime
 

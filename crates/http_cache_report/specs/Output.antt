@@ -13,6 +13,7 @@ use Rattle.http_cache_report.specs.declared.run.Form.{Form}
 use Rattle.http_cache_report.specs.declared.run.Form.TheVariants.{Report, Html, All}
 use Rattle.http_cache_report.specs.Screen.{AreHits}
 use Rattle.http_cache_report.specs.PageOf.{IsPage}
+use Rattle.http_cache_report.specs.Printable.{IsPlain}
 use Rattle.http_cache_audit.specs.Change.{ChangeSeen}
 use Rattle.http_cache_audit.specs.Report.{SettingsSeen, IsAudit}
 use Rattle.http_cache_audit.specs.WhatIf.{IsWhatIf}
@@ -47,9 +48,13 @@ abbrev pub AreHitsOfReport : Bool → SettingsSeen → List RecordedSeen → Hit
 AreHitsOfReport true s rs hits = hits ≡ no_hits
 AreHitsOfReport false s rs hits = AreHits s rs hits
 
--- the text is a page, or about the whole recording; of a report only the hits are known
+-- the text is a report: printable, and with the hits of the recording
+abbrev pub IsReport : Bool → SettingsSeen → List RecordedSeen → Hits → List ℕ → Type 0
+IsReport are_heads s rs hits text = AreHitsOfReport are_heads s rs hits × IsPlain text
+
+-- the text is a report, a page, or about the whole recording
 abbrev pub IsOfForm : Form → Bool → SettingsSeen → List RecordedSeen → Hits → List ℕ → Type 0
-IsOfForm Report are_heads s rs hits text = AreHitsOfReport are_heads s rs hits
+IsOfForm Report are_heads s rs hits text = IsReport are_heads s rs hits text
 IsOfForm Html are_heads s rs hits text = IsPage s rs hits text
 IsOfForm All are_heads s rs hits text = IsOfAll s.by_url s rs hits text
 

@@ -11,21 +11,22 @@ use Rattle.http_cache_audit.specs.Order.{target_of}
 use Rattle.http_cache_audit.specs.Assume.{put_value}
 use Rattle.http_cache_report.specs.declared.remedy.Remedy.{Remedy}
 use Rattle.http_cache_report.specs.declared.advice.Advice.{Advice}
-use Rattle.http_cache_report.specs.Advice.{control_of}
+use Rattle.http_cache_report.specs.Advice.{control_of, is_same}
 
 pub record RemedySeen : Type 0 where
   pub url : List ℕ
   pub advice : Advice
 
 abbrev pub remedy_seen : Remedy → RemedySeen
-remedy_seen r = record { url = string_bytes r.url; advice = r.advice }
+remedy_seen r = record { url = string_bytes r.url; advice = r.pick.advice }
 
 -- the text replaces the value of the name, if it is a valid value and there is room for it
 abbrev pub put_text : Headers → List ℕ → List ℕ → Headers
 put_text h name t = option_map_or (put_value h name) (value_of_line t) h
 
 abbrev pub with_control : Advice → Headers → Headers
-with_control a h = put_text (fin.remove h (codes "cache-control")) (codes "cache-control") (control_of a)
+with_control a h =
+    if is_same a.term then h else put_text (fin.remove h (codes "cache-control")) (codes "cache-control") (control_of a)
 
 abbrev pub with_tag : Advice → Headers → Headers
 with_tag a h = if a.adds_tag then put_text h (codes "etag") (codes "\"1\"") else h
@@ -44,6 +45,12 @@ remedied_answer a (received r) = received (remedied_response a r)
 abbrev pub remedied_reading : Advice → ReadingSeen → ReadingSeen
 remedied_reading a (entry e) = entry (record e { answer = remedied_answer a e.answer })
 remedied_reading a (skipped reason) = skipped reason
+
+-- the response of a reading, with other headers
+abbrev pub with_headers : Headers → AnswerSeen → AnswerSeen
+with_headers h failed = failed
+with_headers h (cached r) = cached (record { status = r.status; headers = h })
+with_headers h (received r) = received (record { status = r.status; headers = h })
 
 abbrev pub is_for : List ℕ → RemedySeen → Bool
 is_for url r = bytes_eq r.url url

@@ -1,23 +1,15 @@
 -- When something else is to be sent for a response of which only the head was read.
-use Rattle.std.specs.Prelude.{◌≡◌, ℕ, ◌+◌, nat_lt, Bool, List, [], ◌∷◌, map}
+use Rattle.std.specs.Prelude.{ℕ, ◌+◌, nat_lt, Bool, List}
 use Rattle.std.specs.Prelude.{if◌then◌else◌}
 use Rattle.std.specs.Option.{option_map_or}
-use Rattle.http_uri.specs.declared.uri.Uri.{Uri}
 use Rattle.http_cache_rules.specs.Messages.{ResponseSeen}
 use Rattle.http_cache_rules.specs.ReceivedAge.{received_age_of}
 use Rattle.http_cache_semantics.specs.Options.{Options}
 use Rattle.http_cache_recording.specs.Entry.{RecordedSeen}
 use Rattle.http_cache_audit.specs.declared.counts.Counts.{Counts}
 use Rattle.http_cache_audit.specs.Cost.{response_of}
-use Rattle.http_cache_report.specs.declared.advice.Advice.{Advice}
-use Rattle.http_cache_report.specs.declared.facts.Facts.{Facts}
-use Rattle.http_cache_report.specs.declared.facts.After.{After}
 use Rattle.http_cache_report.specs.declared.later.Visits.{Visits}
-use Rattle.http_cache_report.specs.Facts.{IsAfter}
 use Rattle.http_cache_report.specs.Later.{is_again, is_confirmed}
-use Rattle.http_cache_report.specs.Plain.{changing_seen}
-use Rattle.http_cache_report.specs.Remedy.{RemedySeen}
-use Rattle.http_cache_report.specs.Visit.{SpanSeen}
 
 abbrev pub cache_of : Options → Bool → Options
 cache_of o is_shared = record o { shared = is_shared }
@@ -33,18 +25,6 @@ weight c url = if is_again c url then 4 else (if is_confirmed c url then 1 else 
 -- the weight of visits an hour, a day and a week later
 abbrev pub weights : Visits → List ℕ → ℕ
 weights v url = weight v.hour url + weight v.day url + weight v.week url
-
-abbrev pub remedies_for : List ℕ → Advice → List RemedySeen
-remedies_for url a = record { url = url; advice = a } ∷ []
-
--- the costs of visits if a url follows its advice
-pub record AreVisitsWith (rs : List RecordedSeen) (options : Options) (target : Uri) (f : Facts) (s : SpanSeen) (url : List ℕ)
-    (a : Advice) (v : Visits) : Type 0 where
-  pub after : After
-  pub is_after :
-      IsAfter rs options target (remedies_for url a) f.known.items (map changing_seen f.changing.items) f.repeats.items s
-      after
-  pub are_visits : v ≡ after.visits
 
 abbrev pub asks_less : Visits → Visits → List ℕ → Bool
 asks_less after v url = nat_lt (weights after url) (weights v url)

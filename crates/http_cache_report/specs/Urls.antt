@@ -1,14 +1,15 @@
 -- The facts that a report has about each url, and the sums of a recording's loads.
-use Rattle.std.specs.Prelude.{ℕ, nat_lt, ◌&&◌, not, Bool, List, [], ◌∷◌, ◌++◌, slice_get, codes, bytes_eq, unwrap_or, Option, Some, None, if◌then◌else◌}
+use Rattle.std.specs.Prelude.{ℕ, nat_lt, ◌&&◌, ◌||◌, not, Bool, false, List, [], ◌∷◌, ◌++◌, slice_get, codes, bytes_eq, unwrap_or, Option, Some, None, if◌then◌else◌}
 use Rattle.std.specs.List.{flat_map, enumerate_from}
 use Rattle.std.specs.Option.{option_map_or}
-use Rattle.http_cache_recording.specs.Entry.{RecordedSeen, ReadingSeen, entry, skipped}
+use Rattle.http_cache_fields.specs.Headers.{Headers, contains_key}
+use Rattle.http_cache_recording.specs.Entry.{RecordedSeen, EntrySeen, ReadingSeen, entry, skipped}
 use Rattle.http_cache_recording.specs.declared.entry.Kind.{Kind}
 use Rattle.http_cache_recording.specs.declared.entry.Kind.TheVariants.{Internal, Preflight, Passed, Range, Failed, Asked}
 use Rattle.http_cache_audit.specs.declared.cost.Known.{Known}
 use Rattle.http_cache_audit.specs.Row.{RowSeen, AuditVerdictSeen, UsedSeen, LifetimeSeen, KeptSeen, ReceivedSeen}
 use Rattle.http_cache_audit.specs.Row as got
-use Rattle.http_cache_audit.specs.Order.{target_of}
+use Rattle.http_cache_audit.specs.Order.{entry_in, target_of}
 use Rattle.http_cache_audit.specs.Counts.{Addition, label_of, when, is_forced}
 use Rattle.http_cache_audit.specs.Cost.{used_in, load_name}
 use Rattle.http_cache_audit.specs.ByUrl.{is_asked_row, is_hit, firsts}
@@ -70,8 +71,20 @@ sent_additions r is_first =
     ++ when (is_sent_later is_first r.recorded.printed.sent)
     (label_of (codes "later_requests") (target_of r.recorded), 1))
 
+abbrev pub are_with_credentials : Headers → Bool
+are_with_credentials h = contains_key h (codes "cookie") || contains_key h (codes "authorization")
+
+-- the request had Cookie or Authorization
+abbrev pub has_credentials : RowSeen → Bool
+has_credentials r =
+    option_map_or (λ (e : EntrySeen). are_with_credentials e.headers) (entry_in r.recorded.reading) false
+
+abbrev pub credential_additions : RowSeen → List Addition
+credential_additions r = when (has_credentials r) (label_of (codes "with_credentials") (target_of r.recorded), 1)
+
 abbrev pub asked_additions : RowSeen → Bool → List Addition
-asked_additions r is_first = sent_additions r is_first ++ (hit_additions r ++ no_cache_additions r)
+asked_additions r is_first =
+    sent_additions r is_first ++ (hit_additions r ++ (no_cache_additions r ++ credential_additions r))
 
 abbrev pub kind_additions : RowSeen → Bool → List Addition
 kind_additions r is_first = if is_asked_row r then asked_additions r is_first else apart_additions r.recorded

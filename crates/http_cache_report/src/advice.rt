@@ -1,25 +1,23 @@
 //! Decides what to send instead of a response's headers.
 //!
-//! Pages and their data are validated at each use; the parts of pages get a lifetime. No advice
-//! says `public`, and a response for one user stays private.
-ghost use Rattle.std.specs.Prelude.{◌≡◌};
-ghost use Rattle.std.specs.List.{list_all, list_any};
+//! The parts of pages get a lifetime; pages and their data may get an ETag. No advice says `public`, a
+//! response for one user stays private, and a stated lifetime never gets shorter.
+ghost use Rattle.std.specs.Prelude.{◌≡◌, IfSome, true, false};
 ghost use Rattle.http_cache_fields.specs.Headers.{headers_of};
-ghost use Rattle.http_cache_report.specs.Advice.{term_text, private_text, control_of, is_type, is_media_type, is_text_type, is_program_type, is_part_type, is_part, has_validator};
-ghost use Rattle.http_cache_report.specs.Advice.{is_digit, is_letter, is_hex_digit, is_hash, is_separator, is_hashed, is_own};
-ghost use Rattle.http_cache_report.specs.Advice.{is_no_store_meant, term_of, advice_for_no_store, advice_for, advice_of};
+ghost use Rattle.http_cache_report.specs.Advice.{seconds_of, is_longer, is_same, IsFit, is_own, is_for_shared, term_text, private_text, control_of};
 
 use http::HeaderMap;
-use http::header::{CONTENT_TYPE, ETAG, LAST_MODIFIED, SET_COOKIE};
+use http::header::{CONTENT_TYPE, ETAG, LAST_MODIFIED, SET_COOKIE, VARY};
 use http_cache_audit::members::shown_url;
 use http_cache_fields::headers::{contains_key, first_text};
+use http_cache_fields::pieces::pieces_under;
 use http_cache_fields::reading::says;
 
 /// How long the advised response stays fresh.
-#[derive(Clone, Copy)]
+#[derive(Clone, Copy, PartialEq, Eq)]
 pub enum Term {
-    /// Not at all: it is validated at each use.
-    NoCache,
+    /// As its headers say now.
+    Same,
     /// A day.
     Day,
     /// A week.
@@ -41,11 +39,63 @@ pub struct Advice {
     pub answers_304: bool,
 }
 
+/// What a recording shows of the requests for a url, and of its lifetime.
+#[derive(Clone, Copy)]
+pub struct Shown {
+    /// Whether the cache serves many users, so that nothing helps it that is private.
+    pub is_shared: bool,
+    /// Whether a request for it had Cookie or Authorization.
+    pub with_credentials: bool,
+    /// Whether a request for it was made by a service worker's registration.
+    pub by_worker: bool,
+    /// Whether the server answers the response's own validator in full.
+    pub in_full: bool,
+    /// The greatest lifetime that the response states, in seconds.
+    pub stated: Option<u64>,
+}
+
+// What a response is, by its Content-Type.
+#[derive(Clone, Copy)]
+enum Content {
+    // A page or its data.
+    Page,
+    // An image, a font, a sound, a film, a style or a script.
+    Part,
+    // A document or a download.
+    File,
+    // Events, which are sent as they happen.
+    Events,
+}
+
+// The beginnings of the types of parts of pages, also of fonts and scripts under older types.
+const PARTS: [&str; 18] = [
+    "image/",
+    "font/",
+    "audio/",
+    "video/",
+    "text/css",
+    "text/javascript",
+    "text/ecmascript",
+    "text/x-javascript",
+    "text/x-ecmascript",
+    "application/javascript",
+    "application/ecmascript",
+    "application/x-javascript",
+    "application/x-ecmascript",
+    "application/wasm",
+    "application/font-",
+    "application/x-font-",
+    "application/vnd.ms-fontobject",
+    "application/vnd.ms-opentype",
+];
+
+const FILES: [&str; 2] = ["application/pdf", "application/octet-stream"];
+
 fn term_text(term: Term) -> &'static str
     ensures { result.now ≡ term_text term }
 {
     match term {
-        Term::NoCache => "no-cache",
+        Term::Same => "",
         Term::Day => "max-age=86400",
         Term::Week => "max-age=604800",
         Term::Year => "max-age=31536000, immutable",
@@ -56,14 +106,15 @@ fn private_text(term: Term) -> &'static str
     ensures { result.now ≡ private_text term }
 {
     match term {
-        Term::NoCache => "private, no-cache",
+        Term::Same => "",
         Term::Day => "private, max-age=86400",
         Term::Week => "private, max-age=604800",
         Term::Year => "private, max-age=31536000, immutable",
     }
 }
 
-/// Returns the Cache-Control of an advice. It never says `public`.
+/// Returns the Cache-Control of an advice, which never says `public`. It is empty if that stays the
+/// same.
 pub fn control_of(advice: Advice) -> &'static str
     ensures { result.now ≡ control_of advice }
 {
@@ -74,176 +125,232 @@ pub fn control_of(advice: Advice) -> &'static str
     }
 }
 
-fn is_type(media_type: &str, front: &str) -> bool
-    ensures { result ≡ is_type media_type.now front.now }
-{
-    media_type.as_bytes().starts_with(front.as_bytes())
-}
-
-// Returns whether a type is an image, a font, a sound or a film.
-fn is_media_type(media_type: &str) -> bool
-    ensures { result ≡ is_media_type media_type.now }
-{
-    is_type(media_type, "image/")
-        || is_type(media_type, "font/")
-        || is_type(media_type, "audio/")
-        || is_type(media_type, "video/")
-}
-
-// Returns whether a type is a style sheet, or a script under its usual type.
-fn is_text_type(media_type: &str) -> bool
-    ensures { result ≡ is_text_type media_type.now }
-{
-    is_type(media_type, "text/css") || is_type(media_type, "text/javascript")
-}
-
-// Returns whether a type is a script under another type, or WebAssembly.
-fn is_program_type(media_type: &str) -> bool
-    ensures { result ≡ is_program_type media_type.now }
-{
-    is_type(media_type, "application/javascript") || is_type(media_type, "application/wasm")
-}
-
-// Returns whether a type is a part of pages, and neither a page nor its data.
-fn is_part_type(media_type: &str) -> bool
-    ensures { result ≡ is_part_type media_type.now }
-{
-    is_media_type(media_type) || is_text_type(media_type) || is_program_type(media_type)
-}
-
-fn is_part(headers: &HeaderMap) -> bool
-    ensures { result ≡ is_part (headers_of headers.now) }
-{
-    match first_text(headers, CONTENT_TYPE) {
-        Some(media_type) => is_part_type(media_type),
+// Returns whether a media type begins so, in any letter case (RFC 9110, section 8.3.1).
+fn is_type(media_type: &str, begin: &str) -> bool {
+    match media_type.as_bytes().get(..begin.len()) {
+        Some(front) => front.eq_ignore_ascii_case(begin.as_bytes()),
         None => false,
     }
 }
 
-fn has_validator(headers: &HeaderMap) -> bool
-    ensures { result ≡ has_validator (headers_of headers.now) }
-{
+fn content_by(media_type: &str) -> Content {
+    if PARTS.iter().any(|begin| is_type(media_type, begin)) {
+        Content::Part
+    } else if FILES.iter().any(|begin| is_type(media_type, begin)) {
+        Content::File
+    } else if is_type(media_type, "text/event-stream") {
+        Content::Events
+    } else {
+        Content::Page
+    }
+}
+
+fn content_of(headers: &HeaderMap) -> Content {
+    match first_text(headers, CONTENT_TYPE) {
+        Some(media_type) => content_by(media_type),
+        None => Content::Page,
+    }
+}
+
+/// Returns whether a response is a part of pages by its Content-Type.
+pub fn is_part(headers: &HeaderMap) -> bool {
+    matches!(content_of(headers), Content::Part)
+}
+
+/// Returns whether a response is a page by its Content-Type.
+pub fn is_page(headers: &HeaderMap) -> bool {
+    match first_text(headers, CONTENT_TYPE) {
+        Some(media_type) => is_type(media_type, "text/html"),
+        None => false,
+    }
+}
+
+fn has_validator(headers: &HeaderMap) -> bool {
     contains_key(headers, ETAG) || contains_key(headers, LAST_MODIFIED)
 }
 
-fn is_digit(b: u8) -> bool
-    ensures { result ≡ is_digit b }
-{
-    b'0' <= b && b <= b'9'
+fn is_hex_digit(b: u8) -> bool {
+    b.is_ascii_digit() || (b'a' <= b && b <= b'f')
 }
 
-fn is_letter(b: u8) -> bool
-    ensures { result ≡ is_letter b }
-{
-    b'a' <= b && b <= b'f'
-}
-
-fn is_hex_digit(b: u8) -> bool
-    ensures { result ≡ is_hex_digit b }
-{
-    is_digit(b) || is_letter(b)
-}
-
-fn is_hex(piece: &[u8]) -> bool
-    ensures { result ≡ list_all is_hex_digit piece.now }
-{
+// Returns whether a piece of a name has eight or more digits of base 16, some of them letters.
+fn is_hex_hash(piece: &[u8]) -> bool {
     piece.iter().all(|b| is_hex_digit(*b))
+        && piece.iter().any(|b| b.is_ascii_digit())
+        && piece.iter().any(|b| b.is_ascii_lowercase())
 }
 
-fn has_letter(piece: &[u8]) -> bool
-    ensures { result ≡ list_any is_letter piece.now }
-{
-    piece.iter().any(|b| is_letter(*b))
+fn is_same_class(a: u8, b: u8) -> bool {
+    a.is_ascii_digit() == b.is_ascii_digit() && a.is_ascii_lowercase() == b.is_ascii_lowercase()
 }
 
-fn has_digit(piece: &[u8]) -> bool
-    ensures { result ≡ list_any is_digit piece.now }
-{
-    piece.iter().any(|b| is_digit(*b))
+// Returns whether digits, small and capital letters follow one another as if at random. A word with
+// a number after it doesn't.
+fn is_mixed(piece: &[u8]) -> bool {
+    piece.iter().all(|b| b.is_ascii_alphanumeric())
+        && piece.iter().any(|b| b.is_ascii_digit())
+        && piece
+            .array_windows::<2>()
+            .filter(|[a, b]| !is_same_class(*a, *b))
+            .count()
+            >= piece.len() / 2
 }
 
-// Returns whether a piece of a name is a hash: at least eight digits of base 16, some of them
-// letters and some not.
-fn is_hash(piece: &[u8]) -> bool
-    ensures { result ≡ is_hash piece.now }
-{
-    piece.len() >= 8 && is_hex(piece) && has_letter(piece) && has_digit(piece)
+// Returns whether a piece of a name is a hash of the content, as bundlers write it.
+fn is_hash(piece: &[u8]) -> bool {
+    piece.len() >= 8 && (is_hex_hash(piece) || is_mixed(piece))
 }
 
-fn is_separator(b: u8) -> bool
-    ensures { result ≡ is_separator b }
-{
-    b == b'.' || b == b'-' || b == b'_' || b == b'/'
+fn is_separator(b: u8) -> bool {
+    b == b'.' || b == b'-' || b == b'_'
 }
 
-/// Returns whether the name in a url has a hash, so that it changes with the content.
-pub fn is_hashed(url: &str) -> bool
-    ensures { result ≡ is_hashed url.now }
-{
-    shown_url(url, true)
-        .as_bytes()
-        .split(|b| is_separator(*b))
-        .any(|piece| is_hash(piece))
+// Returns whether a text of 36 bytes is a UUID (RFC 9562, section 4).
+fn is_uuid(text: &[u8]) -> bool {
+    text.iter().enumerate().all(|(index, b)| match index {
+        8 | 13 | 18 | 23 => *b == b'-',
+        _ => b.is_ascii_hexdigit(),
+    })
 }
 
-fn is_own(headers: &HeaderMap) -> bool
-    ensures { result ≡ is_own (headers_of headers.now) }
-{
-    says(headers, "private") || contains_key(headers, SET_COOKIE)
+// Returns the last segment of a url's path.
+fn last_segment(url: &str) -> &str {
+    let path = shown_url(url, true);
+    match path.rsplit_once('/') {
+        Some((_, segment)) => segment,
+        None => path,
+    }
 }
 
-// Returns whether a no-store is meant: another directive confirms it, or it is on a page or its
-// data.
-fn is_no_store_meant(headers: &HeaderMap) -> bool
-    ensures { result ≡ is_no_store_meant (headers_of headers.now) }
-{
-    says(headers, "no-cache") || says(headers, "private") || !is_part(headers)
+/// Returns whether the last segment of a url's path has a hash, so that its name changes with its
+/// content. A UUID is none: it names what may change.
+pub fn is_hashed(url: &str) -> bool {
+    let segment = last_segment(url).as_bytes();
+    !segment.array_windows::<36>().any(|text| is_uuid(text))
+        && segment
+            .split(|b| is_separator(*b))
+            .any(|piece| is_hash(piece))
 }
 
-fn term_of(headers: &HeaderMap, url: &str) -> Term
-    ensures { result ≡ term_of (headers_of headers.now) url.now }
+/// Returns whether a response is for one user: it says so, sets a cookie, or was asked for with
+/// Cookie or Authorization.
+pub fn is_own(headers: &HeaderMap, with_credentials: bool) -> bool
+    ensures { result ≡ is_own (headers_of headers.now) with_credentials }
 {
-    if !is_part(headers) {
-        Term::NoCache
+    with_credentials || says(headers, "private") || contains_key(headers, SET_COOKIE)
+}
+
+// Returns whether a response may be the script of a service worker, which browsers validate.
+fn is_worker(headers: &HeaderMap, shown: Shown) -> bool {
+    shown.by_worker || contains_key(headers, "service-worker-allowed")
+}
+
+// Returns the term for a response that states no lifetime.
+fn wanted_term(headers: &HeaderMap, url: &str, shown: Shown) -> Term {
+    let content = content_of(headers);
+    if is_worker(headers, shown) || matches!(content, Content::Page | Content::Events) {
+        Term::Same
     } else if is_hashed(url) {
         Term::Year
+    } else if matches!(content, Content::File) {
+        Term::Day
     } else {
         Term::Week
     }
 }
 
-fn advice_for_no_store(headers: &HeaderMap) -> Advice
-    ensures { result ≡ advice_for_no_store (headers_of headers.now) }
+fn seconds_of(term: Term) -> u64
+    ensures { result ≡ seconds_of term }
 {
-    let is_meant = is_no_store_meant(headers);
-    Advice {
-        term: if is_meant { Term::NoCache } else { Term::Day },
-        is_private: is_meant || is_own(headers),
-        adds_tag: is_meant && !has_validator(headers),
-        answers_304: false,
+    match term {
+        Term::Same => 0,
+        Term::Day => 86_400,
+        Term::Week => 604_800,
+        Term::Year => 31_536_000,
     }
 }
 
-fn advice_for(headers: &HeaderMap, url: &str, in_full: bool) -> Advice
-    ensures { result ≡ advice_for (headers_of headers.now) url.now in_full }
+fn is_longer(term: Term, stated: Option<u64>) -> bool
+    ensures { result ≡ is_longer term stated }
 {
-    Advice {
-        term: term_of(headers, url),
-        is_private: is_own(headers),
-        adds_tag: !has_validator(headers),
-        answers_304: in_full,
+    match stated {
+        Some(seconds) => seconds < seconds_of(term),
+        None => true,
     }
 }
 
-/// Returns what to send instead of a response's headers. `in_full` says whether the server answers
-/// the response's own validator in full.
-#[tactic(auto, unfolding(crate::specs::Advice::advice_of))]
-pub fn advice_of(headers: &HeaderMap, url: &str, in_full: bool) -> Advice
-    ensures { result ≡ advice_of (headers_of headers.now) url.now in_full }
+fn term_for(wanted: Term, stated: Option<u64>) -> Term
+    ensures { is_same result ≡ false → is_longer result stated ≡ true }
 {
-    if says(headers, "no-store") {
-        advice_for_no_store(headers)
+    if is_longer(wanted, stated) {
+        wanted
     } else {
-        advice_for(headers, url, in_full)
+        Term::Same
+    }
+}
+
+// Returns whether a response says what only shared caches need.
+fn is_for_shared(headers: &HeaderMap) -> bool
+    ensures { result ≡ is_for_shared (headers_of headers.now) }
+{
+    says(headers, "public") || says(headers, "s-maxage")
+}
+
+// Returns the advised term. What is stated for shared caches isn't taken from them.
+fn advised_term(headers: &HeaderMap, url: &str, shown: Shown) -> Term
+    ensures longer { is_same result ≡ false → is_longer result shown.stated ≡ true }
+    ensures shared { is_same result ≡ false
+        → is_own (headers_of headers.now) shown.with_credentials ≡ true
+        → is_for_shared (headers_of headers.now) ≡ false }
+{
+    if is_own(headers, shown.with_credentials) && (shown.is_shared || is_for_shared(headers)) {
+        Term::Same
+    } else {
+        term_for(wanted_term(headers, url, shown), shown.stated)
+    }
+}
+
+fn is_nothing(advice: Advice) -> bool {
+    advice.term == Term::Same && !advice.adds_tag && !advice.answers_304
+}
+
+fn varies_by_all(headers: &HeaderMap) -> bool {
+    pieces_under(headers, VARY).any(|piece| piece == "*")
+}
+
+fn is_stream(headers: &HeaderMap) -> bool {
+    matches!(content_of(headers), Content::Events)
+}
+
+fn advice_by(headers: &HeaderMap, url: &str, shown: Shown) -> Advice
+    ensures own { result.is_private ≡ is_own (headers_of headers.now) shown.with_credentials }
+    ensures longer { is_same result.term ≡ false → is_longer result.term shown.stated ≡ true }
+    ensures shared { is_same result.term ≡ false
+        → is_own (headers_of headers.now) shown.with_credentials ≡ true
+        → is_for_shared (headers_of headers.now) ≡ false }
+{
+    Advice {
+        term: advised_term(headers, url, shown),
+        is_private: is_own(headers, shown.with_credentials),
+        adds_tag: !has_validator(headers),
+        answers_304: shown.in_full,
+    }
+}
+
+/// Returns what to send instead of a response's headers, if anything.
+///
+/// A `no-store` stays, nothing is advised for a stream of events, and nothing helps a response that
+/// varies by `*`.
+pub fn advice_of(headers: &HeaderMap, url: &str, shown: Shown) -> Option<Advice>
+    ensures { IfSome result (IsFit (headers_of headers.now) shown) }
+{
+    if says(headers, "no-store") || varies_by_all(headers) || is_stream(headers) {
+        return None;
+    }
+    let advice = advice_by(headers, url, shown);
+    if is_nothing(advice) {
+        None
+    } else {
+        Some(advice)
     }
 }

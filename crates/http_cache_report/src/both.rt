@@ -10,7 +10,7 @@ ghost use Rattle.http_cache_report.specs.Both.{other_cache};
 use crate::by_size::{MOST, order_of, push_rest};
 use crate::numbers::duration;
 use crate::urls::Url;
-use crate::words::{UrlStyle, push_piece};
+use crate::words::{UrlStyle, column_text, push_piece};
 use http::Uri;
 use http_cache_audit::members::reasons;
 use http_cache_audit::row::{Kept, Received, Row};
@@ -115,12 +115,12 @@ fn both_line(
     other: &[Row<'_>],
     url: &Url,
 ) -> Result<String, AllocError> {
-    let text = short.url_text(recorded, url.entry);
+    let text = column_text(alloc, short, recorded, url.entry)?;
     let (own, other) = (
         text_of(alloc, own, url.row)?,
         text_of(alloc, other, url.row)?,
     );
-    format!(in alloc; "  {text:<34}{own:<26}{other}\n")
+    format!(in alloc; "  {text:<34}{own:<25} {other}\n")
 }
 
 fn push_at(

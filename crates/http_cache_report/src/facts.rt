@@ -13,9 +13,9 @@ ghost use Rattle.http_cache_report.specs.Facts.{AreCostsWith, IsAfter, AreRepeat
 
 use crate::later::{Visits, visits_of};
 use crate::picks::{known_after, url_costs};
-use crate::plain::{Changing, changing_in, plain_all};
+use crate::plain::{Changing, changing_in, plain_all, with_queries};
 use crate::queries::{bases_of, changing_of, text_at};
-use crate::remedy::{Remedy, is_still_in_full, remedied_all};
+use crate::remedy::{Remedy, is_still_in_full, remedied_all, restored_all};
 use crate::top::{first_line, loads_of, page_url};
 use crate::urls::{Url, sums_of, urls_in};
 use crate::visit::{Repeat, Span, repeats_of, span_of};
@@ -33,6 +33,8 @@ use std::alloc::{AllocError, Global};
 /// The facts about a recording.
 #[derive(Drop)]
 pub struct Facts {
+    /// Whether the cache serves many users.
+    pub is_shared: bool,
     /// The first line of its report.
     pub line: String,
     /// The host of its page.
@@ -121,6 +123,7 @@ fn facts_by(
     let line = first_line(alloc, rows, loads.as_slice(), took(&span), is_shared)?;
     let host = host_copy(alloc, rows, loads.as_slice())?;
     Ok(Facts {
+        is_shared,
         line,
         host,
         known,
@@ -213,7 +216,7 @@ fn repeats_after(
     Ok(all)
 }
 
-// Returns the costs of a recording without the queries that change.
+// Returns the costs of a recording without the queries that change, and the recording.
 fn plain_costs(
     alloc: Global,
     recorded: Vec<Recorded>,
@@ -221,12 +224,14 @@ fn plain_costs(
     options: &CacheOptions,
     known: &[Known],
     changing: &[Changing],
-) -> Result<Counts, AllocError>
-    ensures { IfOk result (AreUrlCosts (map (plain_recorded (map changing_seen changing.now))
-        (map recorded_seen recorded.items)) (options_of options.now) target.now known.now) }
+) -> Result<(Counts, Vec<Recorded>), AllocError>
+    ensures { IfOk result (λ made. AreUrlCosts (map (plain_recorded (map changing_seen changing.now))
+        (map recorded_seen recorded.items)) (options_of options.now) target.now known.now made.0) }
 {
-    let recorded = plain_all(alloc, recorded, changing)?;
-    costs_of(alloc, recorded.as_slice(), target, options, known)
+    let (recorded, own) = plain_all(alloc, recorded, changing)?;
+    let costs = costs_of(alloc, recorded.as_slice(), target, options, known)?;
+    let recorded = with_queries(alloc, recorded, own)?;
+    Ok((costs, recorded))
 }
 
 // Returns the costs of a recording with what is advised.
@@ -239,18 +244,19 @@ fn costs_with(
     changing: &[Changing],
     repeats: &[Repeat],
     span: &Span,
-) -> Result<(Counts, Counts, Visits), AllocError>
-    ensures { IfOk result (AreCostsWith (map recorded_seen recorded.items) (options_of options.now)
-        target.now known.now (map changing_seen changing.now) repeats.now (span_seen span.now)) }
+) -> Result<((Counts, Counts, Visits), Vec<Recorded>), AllocError>
+    ensures { IfOk result (λ made. AreCostsWith (map recorded_seen recorded.items)
+        (options_of options.now) target.now known.now (map changing_seen changing.now) repeats.now
+        (span_seen span.now) made.0) }
 {
     let mut recorded = recorded;
     let costs = costs_of(alloc, recorded.as_slice(), target, options, known)?;
     let visits = visits_of(alloc, &mut recorded, repeats, *span, target, *options)?;
-    let plain = plain_costs(alloc, recorded, target, options, known, changing)?;
-    Ok((costs, plain, visits))
+    let (plain, recorded) = plain_costs(alloc, recorded, target, options, known, changing)?;
+    Ok(((costs, plain, visits), recorded))
 }
 
-/// Returns the costs of a recording if urls follow their advice.
+/// Returns the costs of a recording if urls follow their advice, and the recording as it was.
 pub fn after_of(
     alloc: Global,
     recorded: Vec<Recorded>,
@@ -259,30 +265,33 @@ pub fn after_of(
     remedies: &[Remedy],
     facts: &Facts,
     span: &Span,
-) -> Result<After, AllocError>
-    ensures { IfOk result (IsAfter (map recorded_seen recorded.items) (options_of options.now)
-        target.now (map remedy_seen remedies.now) facts.now.known.items
-        (map changing_seen facts.now.changing.items) facts.now.repeats.items (span_seen span.now)) }
+) -> Result<(After, Vec<Recorded>), AllocError>
+    ensures { IfOk result (λ made. IsAfter (map recorded_seen recorded.items)
+        (options_of options.now) target.now (map remedy_seen remedies.now) facts.now.known.items
+        (map changing_seen facts.now.changing.items) facts.now.repeats.items (span_seen span.now)
+        made.0) }
 {
     let known = facts.known.as_slice();
     let repeats = facts.repeats.as_slice();
-    let (after, alone) = alone_of(alloc, recorded.as_slice(), target, options, known, remedies)?;
+    let (known, alone) = alone_of(alloc, recorded.as_slice(), target, options, known, remedies)?;
     let repeats = repeats_after(alloc, recorded.as_slice(), remedies, repeats)?;
-    let recorded = remedied_all(alloc, recorded, remedies)?;
-    let (costs, plain, visits) = costs_with(
+    let (recorded, own) = remedied_all(alloc, recorded, remedies)?;
+    let ((costs, plain, visits), recorded) = costs_with(
         alloc,
         recorded,
         target,
         options,
-        after.as_slice(),
+        known.as_slice(),
         facts.changing.as_slice(),
         repeats.as_slice(),
         span,
     )?;
-    Ok(After {
+    let recorded = restored_all(alloc, recorded, own)?;
+    let after = After {
         alone,
         costs,
         plain,
         visits,
-    })
+    };
+    Ok((after, recorded))
 }

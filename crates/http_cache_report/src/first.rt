@@ -1,124 +1,33 @@
 //! The lines about what to change first.
-ghost use Rattle.std.specs.Prelude.{◌≡◌, ◌++◌, map, IfOk, OnOk, string_bytes};
-ghost use Rattle.http_cache_recording.specs.Entry.{recorded_seen};
-ghost use Rattle.http_cache_report.specs.First.{less, saved_by};
-ghost use Rattle.http_cache_report.specs.First.{three_bytes};
-
-use crate::advice::{Advice, control_of};
-use crate::facts::After;
-use crate::later::Visits;
+use crate::advice::Advice;
+use crate::advised::{send_words, unless_of, unless_private, why_of, why_private};
+use crate::changes::{Change, less};
+use crate::facts::{After, Facts};
 use crate::numbers::{kilobytes, percent, rounded};
-use crate::picks::{Base, Pick};
+use crate::outlook::Outlook;
+use crate::picks::Base;
 use crate::queries::text_at;
-use crate::words::{UrlStyle, said_at};
-use http_cache_audit::counts::Counts;
+use crate::words::{UrlStyle, column_text, said_briefly};
 use http_cache_recording::Recorded;
 use std::alloc::{AllocError, Global};
 use std::fmt::Write;
 
-/// The lines about a url, to which the saving is added.
-#[derive(Drop)]
-pub struct Line {
-    /// The url.
-    pub url: String,
-    /// What is sent now, and what to send instead.
-    pub text: String,
-}
+/// The greatest number of listed changes.
+pub const MOST: usize = 5;
 
-/// Returns the words for an advised ETag.
-pub fn tag_words(adds_tag: bool) -> &'static str {
-    if adds_tag { ", and an ETag" } else { "" }
-}
-
-/// Returns the words for an advised 304.
-pub fn answer_words(answers_304: bool) -> &'static str {
-    if answers_304 {
-        ", and answer 304 to its ETag"
-    } else {
-        ""
-    }
-}
-
-fn send_text(alloc: Global, advice: Advice) -> Result<String, AllocError> {
-    let (control, tag) = (control_of(advice), tag_words(advice.adds_tag));
-    let answer = answer_words(advice.answers_304);
-    format!(in alloc; "      -> Cache-Control: {control}{tag}{answer}\n")
-}
-
-fn now_text(
+fn push_sent(
     alloc: Global,
+    out: &mut String,
     short: &UrlStyle<'_>,
     recorded: &[Recorded],
-    pick: &Pick,
-) -> Result<String, AllocError> {
-    let url = short.url_text(recorded, pick.entry);
+    change: &Change,
+) -> Result<(), AllocError> {
+    let pick = &change.pick;
+    let url = column_text(alloc, short, recorded, pick.entry)?;
     let requests = pick.requests;
     let size = kilobytes(alloc, pick.bytes)?;
-    let now = said_at(alloc, recorded, pick.full)?;
-    format!(in alloc; "  {url:<34}{requests:>5} req {size:>10}  {now}\n")
-}
-
-// Returns the url, its requests and bytes, its present headers, and what to send.
-fn pick_text(
-    alloc: Global,
-    short: &UrlStyle<'_>,
-    recorded: &[Recorded],
-    pick: &Pick,
-) -> Result<String, AllocError> {
-    let mut text = now_text(alloc, short, recorded, pick)?;
-    let send = send_text(alloc, pick.advice)?;
-    text.push_str(send.as_str())?;
-    Ok(text)
-}
-
-fn line_by(
-    alloc: Global,
-    short: &UrlStyle<'_>,
-    recorded: &[Recorded],
-    pick: &Pick,
-) -> Result<Line, AllocError> {
-    Ok(Line {
-        url: String::from_str(alloc, text_at(recorded, pick.entry))?,
-        text: pick_text(alloc, short, recorded, pick)?,
-    })
-}
-
-/// Returns the lines about what to change first, without the savings.
-pub fn lines_of(
-    alloc: Global,
-    short: &UrlStyle<'_>,
-    recorded: &[Recorded],
-    picks: &[Pick],
-) -> Result<Vec<Line>, AllocError> {
-    let mut all = Vec::with_capacity(alloc, picks.len())?;
-    for pick in picks {
-        all.push(line_by(alloc, short, recorded, pick)?)?;
-    }
-    Ok(all)
-}
-
-/// Returns by how many bytes the cost of a url falls, from two sums under a name.
-pub fn less(before: &Counts, after: &Counts, name: &str, url: &str) -> Result<u64, AllocError>
-    ensures { IfOk result (λ n. n ≡ less before.now after.now name.now url.now) }
-{
-    let (before, after) = (before.total_of(name, url)?, after.total_of(name, url)?);
-    Ok(before.saturating_sub(after))
-}
-
-/// Returns what a url saves in the later loads, or at the visit a day later.
-pub fn saved_by(
-    base: Base,
-    costs: &Counts,
-    visits: &Visits,
-    after: &After,
-    url: &str,
-) -> Result<u64, AllocError>
-    ensures { IfOk result (λ n. n ≡ saved_by base costs.now visits.now after.now url.now) }
-{
-    match base {
-        Base::Later => less(costs, &after.costs, "later_cost", url),
-        Base::Visit => less(&visits.day, &after.visits.day, "bytes", url),
-    }
+    let now = said_briefly(alloc, recorded, pick.full)?;
+    write!(out, "  {url:<34}{requests:>5} req {size:>10}  {now}\n")
 }
 
 fn first_words(alloc: Global, amount: &str, bytes: u64) -> Result<String, AllocError> {
@@ -138,11 +47,11 @@ fn alone_words(alloc: Global, amount: &str, bytes: u64) -> Result<String, AllocE
 // Returns the words for what a url saves in the first load.
 fn saved_first(
     alloc: Global,
-    costs: &Counts,
+    facts: &Facts,
     after: &After,
     url: &str,
 ) -> Result<String, AllocError> {
-    let bytes = less(costs, &after.costs, "first_cost", url)?;
+    let bytes = less(&facts.costs, &after.costs, "first_cost", url)?;
     let amount = kilobytes(alloc, bytes)?;
     first_words(alloc, amount.as_str(), bytes)
 }
@@ -150,68 +59,59 @@ fn saved_first(
 // Returns the words for what a url saves by answering a 304.
 fn saved_alone(
     alloc: Global,
-    costs: &Counts,
+    facts: &Facts,
     after: &After,
     url: &str,
 ) -> Result<String, AllocError> {
-    let bytes = less(costs, &after.alone, "later_cost", url)?;
+    let bytes = less(&facts.costs, &after.alone, "later_cost", url)?;
     let amount = kilobytes(alloc, bytes)?;
     alone_words(alloc, amount.as_str(), bytes)
 }
 
-fn saved_text(
+fn push_saved(
     alloc: Global,
-    base: Base,
-    costs: &Counts,
-    visits: &Visits,
+    out: &mut String,
+    facts: &Facts,
     after: &After,
+    change: &Change,
     url: &str,
-) -> Result<String, AllocError> {
-    let saved = kilobytes(alloc, saved_by(base, costs, visits, after, url)?)?;
-    let first = saved_first(alloc, costs, after, url)?;
-    let alone = saved_alone(alloc, costs, after, url)?;
-    format!(in alloc; "         saves {saved}{first}{alone}\n")
+) -> Result<(), AllocError> {
+    let saved = kilobytes(alloc, change.saved())?;
+    let first = saved_first(alloc, facts, after, url)?;
+    let alone = saved_alone(alloc, facts, after, url)?;
+    write!(out, "         saves {saved}{first}{alone}\n")
 }
 
-fn push_line(
-    alloc: Global,
-    out: &mut String,
-    base: Base,
-    costs: &Counts,
-    visits: &Visits,
-    after: &After,
-    line: &Line,
-) -> Result<(), AllocError> {
-    let saved = saved_text(alloc, base, costs, visits, after, line.url.as_str())?;
-    out.push_str(line.text.as_str())?;
-    out.push_str(saved.as_str())?;
-    Ok(())
+// Adds why something is advised, and when it is wrong.
+fn push_why(out: &mut String, advice: Advice) -> Result<(), AllocError> {
+    let (why, private) = (why_of(advice), why_private(advice));
+    let (unless, all) = (unless_of(advice), unless_private(advice));
+    write!(out, "         why: {why}{private}\n")?;
+    write!(out, "         not if: {unless}{all}\n")
 }
 
-/// Adds the lines about what to change first, each with its saving.
-pub fn push_lines(
+fn push_change(
     alloc: Global,
     out: &mut String,
-    base: Base,
-    costs: &Counts,
-    visits: &Visits,
+    short: &UrlStyle<'_>,
+    recorded: &[Recorded],
+    facts: &Facts,
     after: &After,
-    lines: &[Line],
+    change: &Change,
 ) -> Result<(), AllocError> {
-    for line in lines {
-        push_line(alloc, out, base, costs, visits, after, line)?;
-    }
-    Ok(())
+    let send = send_words(alloc, "Cache-Control: ", change.pick.advice)?;
+    push_sent(alloc, out, short, recorded, change)?;
+    write!(out, "      -> {send}\n")?;
+    let url = text_at(recorded, change.pick.entry);
+    push_saved(alloc, out, facts, after, change, url)?;
+    push_why(out, change.pick.advice)
 }
 
 // Returns the bytes of the first three urls.
-fn three_bytes(picks: &[Pick]) -> u64
-    ensures { result ≡ three_bytes picks.now }
-{
+fn three_bytes(changes: &[Change]) -> u64 {
     let mut sum = 0u64;
-    let len = picks.len().min(3);
-    for pick in &picks[..len] {
-        sum = sum.saturating_add(pick.bytes);
+    for change in changes.iter().take(3) {
+        sum = sum.saturating_add(change.pick.bytes);
     }
     sum
 }
@@ -229,15 +129,42 @@ fn push_share(out: &mut String, bytes: u64, all: u64) -> Result<(), AllocError> 
     write!(out, "{amount} kB ({part} %)\n")
 }
 
-/// Adds the head of the section: the share of the first three urls in all bytes.
-pub fn push_first_head(
+// Adds the head of the section: the share of the first three urls in all bytes.
+fn push_head(out: &mut String, base: Base, changes: &[Change], all: u64) -> Result<(), AllocError> {
+    let (words, bytes) = (base_words(base), three_bytes(changes));
+    if changes.is_empty() {
+        return write!(out, "\nCHANGE FIRST: no advice saves of what {words}\n");
+    }
+    write!(
+        out,
+        "\nCHANGE FIRST, by what is saved of what {words}: the first three are "
+    )?;
+    push_share(out, bytes, all)
+}
+
+// Adds how many changes aren't listed, if there are any.
+fn push_more(out: &mut String, changes: &[Change]) -> Result<(), AllocError> {
+    let more = changes.len().saturating_sub(MOST);
+    if more > 0 {
+        write!(out, "  and {more} more: --html has all\n")
+    } else {
+        Ok(())
+    }
+}
+
+/// Adds the section about what to change first: at most five changes, each with its saving.
+pub fn push_first(
+    alloc: Global,
     out: &mut String,
-    base: Base,
-    picks: &[Pick],
-    all: u64,
+    short: &UrlStyle<'_>,
+    recorded: &[Recorded],
+    facts: &Facts,
+    outlook: &Outlook,
 ) -> Result<(), AllocError> {
-    let (words, bytes) = (base_words(base), three_bytes(picks));
-    write!(out, "\nCHANGE FIRST, by what {words}: the first three are ")?;
-    push_share(out, bytes, all)?;
-    Ok(())
+    let changes = outlook.changes.as_slice();
+    push_head(out, outlook.base, changes, outlook.all)?;
+    for change in changes.iter().take(MOST) {
+        push_change(alloc, out, short, recorded, facts, &outlook.after, change)?;
+    }
+    push_more(out, changes)
 }

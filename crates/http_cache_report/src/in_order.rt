@@ -1,25 +1,22 @@
 //! The section about what is in order: urls of the first load that need no change.
-ghost use Rattle.std.specs.Prelude.{◌≡◌, ◌++◌, [], map, fold, IfOk, OnOk, string_bytes};
+ghost use Rattle.std.specs.Prelude.{◌≡◌, map, IfOk, IsTrue, true, false};
 ghost use Rattle.http_cache_recording.specs.Entry.{recorded_seen};
-ghost use Rattle.http_cache_report.specs.BySize.{IsOrder};
-ghost use Rattle.http_cache_report.specs.InOrder.{is_no_cache, is_only_confirmed, needs_nothing, is_kept, is_checked, kept_of, checked_of};
-ghost use Rattle.http_cache_report.specs.InOrder.{each_bytes};
+ghost use Rattle.http_cache_report.specs.Later.{any_asks, is_only_confirmed};
+ghost use Rattle.http_cache_report.specs.Queries.{text_at};
 
 use crate::by_size::{MOST, order_of};
-use crate::later::{Visits, any_asks, is_again, is_confirmed, is_given, is_picked};
+use crate::changes::Change;
+use crate::later::{Visits, any_asks, is_again, is_changed, is_confirmed, is_given};
 use crate::numbers::kilobytes;
-use crate::picks::Pick;
 use crate::queries::text_at;
 use crate::urls::{Life, Url};
-use crate::words::{UrlStyle, push_piece};
+use crate::words::{UrlStyle, column_text, push_piece};
 use crate::wrong::has_faults;
 use http_cache_audit::counts::Counts;
 use http_cache_recording::Recorded;
 use std::alloc::{AllocError, Global};
 
-fn is_no_cache(life: Life) -> bool
-    ensures { result ≡ is_no_cache life }
-{
+fn is_no_cache(life: Life) -> bool {
     matches!(life, Life::NoCache)
 }
 
@@ -34,14 +31,11 @@ fn is_only_confirmed(visit: &Counts, url: &str) -> Result<bool, AllocError>
 fn needs_nothing(
     alloc: Global,
     recorded: &[Recorded],
-    picks: &[Pick],
+    changes: &[Change],
     url: &Url,
-) -> Result<bool, AllocError>
-    ensures { IfOk result (λ holds. holds
-        ≡ needs_nothing (map recorded_seen recorded.now) picks.now url.now) }
-{
+) -> Result<bool, AllocError> {
     let wrong = has_faults(alloc, recorded, url)?;
-    Ok(url.known.is_first && !is_picked(picks, url) && !wrong)
+    Ok(url.known.is_first && !is_changed(changes, url) && !wrong)
 }
 
 // Returns whether a url states a lifetime, and no visit requests it.
@@ -49,13 +43,13 @@ fn is_kept(
     alloc: Global,
     recorded: &[Recorded],
     visits: &Visits,
-    picks: &[Pick],
+    changes: &[Change],
     url: &Url,
 ) -> Result<bool, AllocError>
-    ensures { IfOk result (λ holds. holds
-        ≡ is_kept (map recorded_seen recorded.now) visits.now picks.now url.now) }
+    ensures { IfOk result (λ holds. IsTrue holds
+        → any_asks visits.now (text_at (map recorded_seen recorded.now) url.now.entry) ≡ false) }
 {
-    let needs_nothing = needs_nothing(alloc, recorded, picks, url)?;
+    let needs_nothing = needs_nothing(alloc, recorded, changes, url)?;
     let asked = any_asks(visits, text_at(recorded, url.entry))?;
     Ok(needs_nothing && is_given(url.life) && !asked)
 }
@@ -65,13 +59,13 @@ fn is_checked(
     alloc: Global,
     recorded: &[Recorded],
     visits: &Visits,
-    picks: &[Pick],
+    changes: &[Change],
     url: &Url,
 ) -> Result<bool, AllocError>
-    ensures { IfOk result (λ holds. holds
-        ≡ is_checked (map recorded_seen recorded.now) visits.now picks.now url.now) }
+    ensures { IfOk result (λ holds. IsTrue holds → is_only_confirmed visits.now.day
+        (text_at (map recorded_seen recorded.now) url.now.entry) ≡ true) }
 {
-    let needs_nothing = needs_nothing(alloc, recorded, picks, url)?;
+    let needs_nothing = needs_nothing(alloc, recorded, changes, url)?;
     let confirmed = is_only_confirmed(&visits.day, text_at(recorded, url.entry))?;
     Ok(needs_nothing && is_no_cache(url.life) && confirmed)
 }
@@ -81,15 +75,12 @@ fn kept_of(
     alloc: Global,
     recorded: &[Recorded],
     visits: &Visits,
-    picks: &[Pick],
+    changes: &[Change],
     urls: &[Url],
-) -> Result<Vec<bool>, AllocError>
-    ensures { IfOk result (λ all. all.items
-        ≡ kept_of (map recorded_seen recorded.now) visits.now picks.now urls.now) }
-{
+) -> Result<Vec<bool>, AllocError> {
     let mut all = Vec::with_capacity(alloc, urls.len())?;
     for url in urls {
-        all.push(is_kept(alloc, recorded, visits, picks, url)?)?;
+        all.push(is_kept(alloc, recorded, visits, changes, url)?)?;
     }
     Ok(all)
 }
@@ -99,23 +90,18 @@ fn checked_of(
     alloc: Global,
     recorded: &[Recorded],
     visits: &Visits,
-    picks: &[Pick],
+    changes: &[Change],
     urls: &[Url],
-) -> Result<Vec<bool>, AllocError>
-    ensures { IfOk result (λ all. all.items
-        ≡ checked_of (map recorded_seen recorded.now) visits.now picks.now urls.now) }
-{
+) -> Result<Vec<bool>, AllocError> {
     let mut all = Vec::with_capacity(alloc, urls.len())?;
     for url in urls {
-        all.push(is_checked(alloc, recorded, visits, picks, url)?)?;
+        all.push(is_checked(alloc, recorded, visits, changes, url)?)?;
     }
     Ok(all)
 }
 
 // Returns the mean bytes of a url's requests in a later load, rounded down.
-fn each_bytes(sums: &Counts, url: &str) -> Result<u64, AllocError>
-    ensures { IfOk result (λ n. n ≡ each_bytes sums.now url.now) }
-{
+fn each_bytes(sums: &Counts, url: &str) -> Result<u64, AllocError> {
     let requests = sums.total_of("later_requests", url)?;
     if requests == 0 {
         return Ok(0);
@@ -138,7 +124,7 @@ fn piece_of(
     sums: &Counts,
     url: &Url,
 ) -> Result<String, AllocError> {
-    let text = short.url_text(recorded, url.entry);
+    let text = column_text(alloc, short, recorded, url.entry)?;
     let bytes = each_bytes(sums, text_at(recorded, url.entry))?;
     let amount = kilobytes(alloc, bytes)?;
     let words = each_words(alloc, amount.as_str(), bytes)?;
@@ -212,10 +198,10 @@ fn kept_line(
     recorded: &[Recorded],
     sums: &Counts,
     visits: &Visits,
-    picks: &[Pick],
+    changes: &[Change],
     urls: &[Url],
 ) -> Result<String, AllocError> {
-    let kept = kept_of(alloc, recorded, visits, picks, urls)?;
+    let kept = kept_of(alloc, recorded, visits, changes, urls)?;
     let order = order_of(alloc, recorded, urls, kept.as_slice())?;
     line_of(
         alloc,
@@ -235,10 +221,10 @@ fn checked_line(
     recorded: &[Recorded],
     sums: &Counts,
     visits: &Visits,
-    picks: &[Pick],
+    changes: &[Change],
     urls: &[Url],
 ) -> Result<String, AllocError> {
-    let checked = checked_of(alloc, recorded, visits, picks, urls)?;
+    let checked = checked_of(alloc, recorded, visits, changes, urls)?;
     let order = order_of(alloc, recorded, urls, checked.as_slice())?;
     line_of(
         alloc,
@@ -267,11 +253,11 @@ pub fn in_order_text(
     recorded: &[Recorded],
     sums: &Counts,
     visits: &Visits,
-    picks: &[Pick],
+    changes: &[Change],
     urls: &[Url],
 ) -> Result<String, AllocError> {
-    let mut lines = kept_line(alloc, short, recorded, sums, visits, picks, urls)?;
-    let checked = checked_line(alloc, short, recorded, sums, visits, picks, urls)?;
+    let mut lines = kept_line(alloc, short, recorded, sums, visits, changes, urls)?;
+    let checked = checked_line(alloc, short, recorded, sums, visits, changes, urls)?;
     lines.push_str(checked.as_str())?;
     section_if(alloc, lines.as_str())
 }

@@ -7,17 +7,20 @@ ghost use Rattle.http_cache_audit.specs.Counts.{CountsAlso, HoldsCounts, when, l
 ghost use Rattle.http_cache_report.specs.Visit.{span_seen};
 ghost use Rattle.http_cache_report.specs.Later.{AreVisits, IsLater, is_again, is_confirmed, asks, any_asks};
 ghost use Rattle.http_cache_report.specs.Later.{sum_in, status_at, size_at, is_given};
-ghost use Rattle.http_cache_report.specs.Later.{is_picked, is_asked_later, is_listed, listed_of, guess_in, guess_of, confirms};
+ghost use Rattle.http_cache_report.specs.Later.{guess_in, guess_of, confirms};
 ghost use Rattle.http_cache_report.specs.Later.{guess_sums, guess_by, guess_additions, least_guess, most_guess, guess_sum};
 ghost use Rattle.http_cache_report.specs.Later.{confirm_sums, status_in};
 
-use crate::advice::control_of;
+use crate::advice::Advice;
+use crate::advised::send_words;
+use crate::changes::Change;
+use crate::facts::Facts;
 use crate::numbers::{duration, kilobytes, rounded};
-use crate::picks::{Pick, advice_for};
+use crate::picks::advice_for;
 use crate::queries::text_at;
 use crate::urls::{Life, Url};
 use crate::visit::{Repeat, Span, visit};
-use crate::words::{UrlStyle, life_text};
+use crate::words::{UrlStyle, column_text, life_text};
 use http::Uri;
 use http_cache_audit::cost::response_of;
 use http_cache_audit::counts::Counts;
@@ -144,7 +147,7 @@ pub fn sum_in(visit: &Counts, name: &str) -> Result<u64, AllocError>
 
 fn push_unknown(out: &mut String, unknown: u64) -> Result<(), AllocError> {
     if unknown > 0 {
-        write!(out, " and {unknown} unknown")
+        write!(out, " + {unknown} unknown")
     } else {
         Ok(())
     }
@@ -155,7 +158,7 @@ fn push_total(out: &mut String, visit: &Counts) -> Result<(), AllocError> {
     let bytes = rounded(sum_in(visit, "bytes")?, 1_000);
     let confirmed = sum_in(visit, "confirmed")?;
     let unknown = sum_in(visit, "unknown")?;
-    write!(out, "  {bytes} kB + {confirmed}")?;
+    write!(out, "  {bytes} kB + {confirmed} x 304")?;
     push_unknown(out, unknown)
 }
 
@@ -205,84 +208,109 @@ pub fn is_given(life: Life) -> bool
 }
 
 /// Returns whether a url is among those to change first.
-pub fn is_picked(picks: &[Pick], url: &Url) -> bool
-    ensures { result ≡ is_picked picks.now url.now }
-{
-    picks.iter().any(|pick| pick.entry == url.entry)
+pub fn is_changed(changes: &[Change], url: &Url) -> bool {
+    changes.iter().any(|change| change.pick.entry == url.entry)
 }
 
-// Returns whether a url of the first load states a lifetime, and a visit requests it.
-fn is_asked_later(recorded: &[Recorded], visits: &Visits, url: &Url) -> Result<bool, AllocError>
-    ensures { IfOk result (λ holds. holds
-        ≡ is_asked_later (map recorded_seen recorded.now) visits.now url.now) }
-{
-    let asked = any_asks(visits, text_at(recorded, url.entry))?;
-    Ok(url.known.is_first && is_given(url.life) && asked)
+// Returns the least bytes of a listed url.
+fn least_of_listed(sums: &Counts) -> Result<u64, AllocError> {
+    Ok(sums.total_of("sent", "first_load")? / 1_000)
 }
 
-/// Returns whether a later visit requests a url that isn't changed first, and that is large enough
-/// or fails.
-pub fn is_listed(
+/// Returns whether a later visit requests a url of the first load that states a lifetime, and that is
+/// large enough or fails.
+pub fn is_asked_later(
     recorded: &[Recorded],
     visits: &Visits,
-    picks: &[Pick],
-    least: u64,
+    sums: &Counts,
     url: &Url,
-) -> Result<bool, AllocError>
-    ensures { IfOk result (λ holds. holds
-        ≡ is_listed (map recorded_seen recorded.now) visits.now picks.now least url.now) }
-{
-    let asked = is_asked_later(recorded, visits, url)?;
+) -> Result<bool, AllocError> {
+    let asked = any_asks(visits, text_at(recorded, url.entry))?;
+    let is_large = size_at(recorded, url.full) >= least_of_listed(sums)?;
+    let fails = status_at(recorded, url.full) >= 400;
+    Ok(url.known.is_first && is_given(url.life) && asked && (is_large || fails))
+}
+
+// Returns whether a visit asks for less with what is advised.
+fn asks_less(now: &Counts, then: &Counts, url: &str) -> Result<bool, AllocError> {
+    let (bytes, bytes_then) = (now.total_of("bytes", url)?, then.total_of("bytes", url)?);
+    let confirmed = now.total_of("confirmed", url)?;
+    let confirmed_then = then.total_of("confirmed", url)?;
+    Ok(bytes_then < bytes || (bytes_then == bytes && confirmed_then < confirmed))
+}
+
+fn any_asks_less(now: &Visits, then: &Visits, url: &str) -> Result<bool, AllocError> {
     Ok(
-        asked
-            && !is_picked(picks, url)
-            && (status_at(recorded, url.full) >= 400 || size_at(recorded, url.full) >= least),
+        asks_less(&now.hour, &then.hour, url)?
+            || asks_less(&now.day, &then.day, url)?
+            || asks_less(&now.week, &then.week, url)?
+            || asks_less(&now.month, &then.month, url)?,
     )
 }
 
-/// Returns for each url whether it is listed, as by `is_listed`.
+// Returns whether a url is listed: it isn't changed first, and a later visit requests it or asks for
+// less with what is advised.
+fn is_listed(
+    recorded: &[Recorded],
+    now: &Visits,
+    then: &Visits,
+    changes: &[Change],
+    sums: &Counts,
+    url: &Url,
+) -> Result<bool, AllocError> {
+    let is_asked = is_asked_later(recorded, now, sums, url)?;
+    let saves = any_asks_less(now, then, text_at(recorded, url.entry))?;
+    Ok((is_asked || saves) && !is_changed(changes, url))
+}
+
+/// Returns for each url whether the section on later visits lists it.
 pub fn listed_of(
     alloc: Global,
     recorded: &[Recorded],
-    visits: &Visits,
-    picks: &[Pick],
-    least: u64,
+    now: &Visits,
+    then: &Visits,
+    changes: &[Change],
+    sums: &Counts,
     urls: &[Url],
-) -> Result<Vec<bool>, AllocError>
-    ensures { IfOk result (λ all. all.items
-        ≡ listed_of (map recorded_seen recorded.now) visits.now picks.now least urls.now) }
-{
+) -> Result<Vec<bool>, AllocError> {
     let mut all = Vec::with_capacity(alloc, urls.len())?;
     for url in urls {
-        all.push(is_listed(recorded, visits, picks, least, url)?)?;
+        all.push(is_listed(recorded, now, then, changes, sums, url)?)?;
     }
     Ok(all)
 }
 
-/// Returns what to do about a url.
-pub fn act_on(recorded: &[Recorded], url: &Url) -> &'static str {
-    if status_at(recorded, url.full) >= 400 {
-        return "fix the link";
-    }
-    match advice_for(recorded, url) {
-        Some(advice) => control_of(advice),
-        None => "",
+/// Returns what a url that later visits request is advised to send, if a visit then asks for less.
+pub fn saving_advice(
+    recorded: &[Recorded],
+    now: &Visits,
+    then: &Visits,
+    facts: &Facts,
+    url: &Url,
+) -> Result<Option<Advice>, AllocError> {
+    if any_asks_less(now, then, text_at(recorded, url.entry))? {
+        advice_for(recorded, url, facts)
+    } else {
+        Ok(None)
     }
 }
 
-fn visit_text(
+// Returns what to do about a url.
+fn act_on(
     alloc: Global,
-    short: &UrlStyle<'_>,
     recorded: &[Recorded],
-    visits: &Visits,
+    now: &Visits,
+    then: &Visits,
+    facts: &Facts,
     url: &Url,
 ) -> Result<String, AllocError> {
-    let text = short.url_text(recorded, url.entry);
-    let size = kilobytes(alloc, size_at(recorded, url.full))?;
-    let life = life_text(alloc, url.life)?;
-    let acts = acts_text(alloc, visits, text_at(recorded, url.entry))?;
-    let act = act_on(recorded, url);
-    format!(in alloc; "  {text:<34}{size:>9}  {life:<11}{acts}{act}\n")
+    if status_at(recorded, url.full) >= 400 {
+        return String::from_str(alloc, "fix the link");
+    }
+    match saving_advice(recorded, now, then, facts, url)? {
+        Some(advice) => send_words(alloc, "", advice),
+        None => Ok(String::new(alloc)),
+    }
 }
 
 /// Adds the line of a url that later visits request.
@@ -291,11 +319,17 @@ pub fn push_visit_text(
     out: &mut String,
     short: &UrlStyle<'_>,
     recorded: &[Recorded],
-    visits: &Visits,
+    now: &Visits,
+    then: &Visits,
+    facts: &Facts,
     url: &Url,
 ) -> Result<(), AllocError> {
-    let text = visit_text(alloc, short, recorded, visits, url)?;
-    out.push_str(text.as_str())
+    let text = column_text(alloc, short, recorded, url.entry)?;
+    let size = kilobytes(alloc, size_at(recorded, url.full))?;
+    let life = life_text(alloc, url.life)?;
+    let acts = acts_text(alloc, now, text_at(recorded, url.entry))?;
+    let act = act_on(alloc, recorded, now, then, facts, url)?;
+    write!(out, "  {text:<34}{size:>9}  {life:<11}{acts}{act}\n")
 }
 
 fn guess_in(life: Life) -> Option<u64>

@@ -4,8 +4,10 @@
 #![tactic(auto)]
 
 pub mod advice;
+mod advised;
 mod both;
 mod by_size;
+mod changes;
 mod copies;
 pub mod error;
 mod facts;
@@ -14,6 +16,7 @@ pub mod heads;
 mod in_order;
 mod later;
 mod numbers;
+mod outlook;
 pub mod page;
 mod page_changes;
 mod page_requests;
@@ -23,6 +26,7 @@ mod page_visits;
 mod page_wrong;
 mod picks;
 mod plain;
+mod printable;
 mod queries;
 mod remedy;
 mod responses;

@@ -5,15 +5,14 @@ ghost use Rattle.http_cache_recording.specs.Entry.{recorded_seen};
 ghost use Rattle.http_cache_audit.specs.Report.{settings_seen};
 ghost use Rattle.http_cache_report.specs.PageOf.{IsPage};
 
-use crate::facts::{After, Facts, after_of, facts_of};
-use crate::later::{Visits, visits_of};
-use crate::page_changes::{Change, changes_of, put_changes};
+use crate::facts::{Facts, facts_of};
+use crate::outlook::outlook_of;
+use crate::page_changes::put_changes;
 use crate::page_requests::requests_of;
 use crate::page_three::put_three;
-use crate::page_visits::{put_visits, visit_table};
-use crate::page_wrong::{Wrong, both_page, put_wrong, wrong_in};
-use crate::picks::{Base, Pick, remedies_of};
-use crate::screen::{base_of, hits_of, notes_text, picks_by, short_of};
+use crate::page_visits::{put_visit_table, put_visits};
+use crate::page_wrong::{put_both, put_wrong};
+use crate::screen::{hits_of, notes_text, short_of};
 use crate::visit::Span;
 use http::Uri;
 use http_cache_audit::report::{Hits, Settings, no_target};
@@ -73,98 +72,34 @@ fn put_end(page: &mut Page) -> Result<(), AllocError> {
     put(page, FrameText::End)
 }
 
-// The parts that are made before the recording is changed.
-#[derive(Drop)]
-struct Parts {
-    // What to change first.
-    changes: Vec<Change>,
-    // What later visits request.
-    visits: Page,
-    // What looks wrong in headers.
-    wrong: Wrong,
-    // The differences to the other kind of cache.
-    both: Page,
-}
-
-fn parts_of(
-    alloc: Global,
-    recorded: &[Recorded],
-    target: &Uri,
-    settings: &Settings,
-    facts: &Facts,
-    visits: &Visits,
-    picks: &[Pick],
-) -> Result<Parts, AllocError> {
-    let short = short_of(facts, settings.hides_queries);
-    let urls = facts.urls.as_slice();
-    Ok(Parts {
-        changes: changes_of(alloc, &short, recorded, picks)?,
-        visits: visit_table(alloc, &short, recorded, visits, picks, facts)?,
-        wrong: wrong_in(alloc, &short, recorded, urls)?,
-        both: both_page(alloc, &short, recorded, target, settings.options, urls)?,
-    })
-}
-
-fn put_parts(
-    page: &mut Page,
-    facts: &Facts,
-    base: Base,
-    visits: &Visits,
-    parts: &mut Parts,
-    after: &After,
-) -> Result<(), AllocError> {
-    let changes = parts.changes.as_slice();
-    put_three(page, facts, base, visits, changes, after)?;
-    put(page, FrameText::Navigation)?;
-    put_changes(page, facts, base, visits, changes, after)?;
-    put_visits(page, visits, &after.visits)?;
-    page.append(&mut parts.visits)?;
-    put_wrong(page, facts, &mut parts.wrong, after)?;
-    page.append(&mut parts.both)
-}
-
 // Puts the sections of a recording that has a first load.
 fn put_sections(
     page: &mut Page,
     recorded: Vec<Recorded>,
     target: &Uri,
-    settings: Settings,
+    settings: &Settings,
     facts: &Facts,
     span: Span,
 ) -> Result<(), AllocError> {
-    let (alloc, options) = (page.alloc(), settings.options);
-    let mut recorded = recorded;
-    let repeats = facts.repeats.as_slice();
-    let visits = visits_of(alloc, &mut recorded, repeats, span, target, options)?;
-    let base = base_of(&facts.sums)?;
-    let picks = picks_by(alloc, recorded.as_slice(), facts, &visits, base)?;
-    let remedies = remedies_of(alloc, recorded.as_slice(), picks.as_slice())?;
-    let mut parts = parts_of(
-        alloc,
-        recorded.as_slice(),
-        target,
-        &settings,
-        facts,
-        &visits,
-        picks.as_slice(),
-    )?;
-    let after = after_of(
-        alloc,
-        recorded,
-        target,
-        &options,
-        remedies.as_slice(),
-        facts,
-        &span,
-    )?;
-    put_parts(page, facts, base, &visits, &mut parts, &after)
+    let alloc = page.alloc();
+    let made = outlook_of(alloc, recorded, target, &settings.options, facts, span)?;
+    let (outlook, recorded) = made;
+    let short = &short_of(facts, settings.hides_queries);
+    let recorded = recorded.as_slice();
+    put_three(page, facts, &outlook)?;
+    put(page, FrameText::Navigation)?;
+    put_changes(page, short, recorded, facts, &outlook)?;
+    put_visits(page, &outlook.visits, &outlook.after.visits)?;
+    put_visit_table(page, short, recorded, facts, &outlook)?;
+    put_wrong(page, short, recorded, facts, &outlook.after)?;
+    put_both(page, short, recorded, target, settings.options, facts)
 }
 
 fn put_sections_of(
     page: &mut Page,
     recorded: Vec<Recorded>,
     target: &Uri,
-    settings: Settings,
+    settings: &Settings,
     facts: &Facts,
 ) -> Result<(), AllocError> {
     match facts.span {
@@ -184,7 +119,7 @@ fn page_of(
     let notes = notes_text(alloc, &facts.sums, recorded.as_slice())?;
     let mut requests = requests_of(alloc, recorded.as_slice(), target, &settings, facts)?;
     put_head(&mut page, facts, settings.options.shared, notes.as_str())?;
-    put_sections_of(&mut page, recorded, target, settings, facts)?;
+    put_sections_of(&mut page, recorded, target, &settings, facts)?;
     page.append(&mut requests)?;
     put_end(&mut page)?;
     Ok(page)

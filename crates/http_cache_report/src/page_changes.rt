@@ -1,13 +1,14 @@
 //! What to change first, as a table of a page.
-use crate::advice::control_of;
+use crate::advice::{Advice, control_of};
+use crate::advised::{unless_of, unless_private, why_of, why_private};
+use crate::changes::{Change, less};
 use crate::facts::{After, Facts};
-use crate::first::{less, saved_by};
-use crate::later::Visits;
 use crate::numbers::kilobytes;
+use crate::outlook::Outlook;
 use crate::page_three::{part_of, saved_by_all};
-use crate::picks::{Base, Pick};
+use crate::page_visits::MOST_ROWS;
+use crate::picks::Base;
 use crate::queries::text_at;
-use crate::screen::all_by;
 use crate::words::{UrlStyle, said_at};
 use http_cache_audit::counts::Counts;
 use http_cache_page::changes::ChangeText;
@@ -15,48 +16,7 @@ use http_cache_page::constant::Constant;
 use http_cache_page::measure::Measure;
 use http_cache_page::piece::Page;
 use http_cache_recording::Recorded;
-use std::alloc::{AllocError, Global};
-
-/// A url whose headers are to be changed, with its texts.
-#[derive(Drop)]
-pub struct Change {
-    /// The change.
-    pub pick: Pick,
-    /// The url.
-    pub url: String,
-    /// The url as it is shown.
-    pub shown: String,
-    /// What its response says of caching.
-    pub now: String,
-}
-
-fn change_of(
-    alloc: Global,
-    short: &UrlStyle<'_>,
-    recorded: &[Recorded],
-    pick: &Pick,
-) -> Result<Change, AllocError> {
-    Ok(Change {
-        pick: *pick,
-        url: String::from_str(alloc, text_at(recorded, pick.entry))?,
-        shown: String::from_str(alloc, short.url_text(recorded, pick.entry))?,
-        now: said_at(alloc, recorded, pick.full)?,
-    })
-}
-
-/// Returns what to change first, with its texts.
-pub fn changes_of(
-    alloc: Global,
-    short: &UrlStyle<'_>,
-    recorded: &[Recorded],
-    picks: &[Pick],
-) -> Result<Vec<Change>, AllocError> {
-    let mut all = Vec::with_capacity(alloc, picks.len())?;
-    for pick in picks {
-        all.push(change_of(alloc, short, recorded, pick)?)?;
-    }
-    Ok(all)
-}
+use std::alloc::AllocError;
 
 fn put(page: &mut Page, text: ChangeText) -> Result<(), AllocError> {
     page.put(Constant::Change(text))
@@ -75,31 +35,63 @@ fn put_bar(page: &mut Page, bytes: u64, saved: u64, most: u64) -> Result<(), All
     page.measured(Measure::Spared, part_of(saved, most))
 }
 
-fn put_sent(page: &mut Page, change: &Change, saved: u64, most: u64) -> Result<(), AllocError> {
+fn put_sent(
+    page: &mut Page,
+    short: &UrlStyle<'_>,
+    recorded: &[Recorded],
+    change: &Change,
+    most: u64,
+) -> Result<(), AllocError> {
+    let pick = &change.pick;
     put(page, ChangeText::Url)?;
-    page.text(change.shown.as_str())?;
+    page.text(short.url_text(recorded, pick.entry))?;
     put(page, ChangeText::Requests)?;
-    page.number(change.pick.requests)?;
+    page.number(pick.requests)?;
     put(page, ChangeText::Bytes)?;
-    put_size(page, change.pick.bytes)?;
-    put_bar(page, change.pick.bytes, saved, most)
+    put_size(page, pick.bytes)?;
+    put_bar(page, pick.bytes, change.saved(), most)
 }
 
-// Puts what is sent now, and what to send instead.
-fn put_headers(page: &mut Page, change: &Change) -> Result<(), AllocError> {
-    let advice = change.pick.advice;
-    put(page, ChangeText::Now)?;
-    page.text(change.now.as_str())?;
-    put(page, ChangeText::Send)?;
-    page.text(control_of(advice))?;
-    put(page, ChangeText::SendEnd)?;
+fn put_control(page: &mut Page, control: &str) -> Result<(), AllocError> {
+    if control.is_empty() {
+        return Ok(());
+    }
+    put(page, ChangeText::Control)?;
+    page.text(control)?;
+    put(page, ChangeText::ControlEnd)
+}
+
+// Puts why something is advised, and when it is wrong.
+fn put_why(page: &mut Page, advice: Advice) -> Result<(), AllocError> {
+    put(page, ChangeText::Why)?;
+    page.text(why_of(advice))?;
+    page.text(why_private(advice))?;
+    put(page, ChangeText::WhyEnd)?;
+    put(page, ChangeText::Unless)?;
+    page.text(unless_of(advice))?;
+    page.text(unless_private(advice))?;
+    put(page, ChangeText::WhyEnd)
+}
+
+// Puts what to send instead.
+fn put_advice(page: &mut Page, advice: Advice) -> Result<(), AllocError> {
+    put_control(page, control_of(advice))?;
     if advice.adds_tag {
         put(page, ChangeText::Tag)?;
     }
     if advice.answers_304 {
         put(page, ChangeText::Answer)?;
     }
-    Ok(())
+    put_why(page, advice)
+}
+
+// Puts what is sent now, and what to send instead.
+fn put_headers(page: &mut Page, recorded: &[Recorded], change: &Change) -> Result<(), AllocError> {
+    let now = said_at(page.alloc(), recorded, change.pick.full)?;
+    put(page, ChangeText::Now)?;
+    page.text(now.as_str())?;
+    put(page, ChangeText::Send)?;
+    put_advice(page, change.pick.advice)
 }
 
 // Puts a part of the saving, if there is any.
@@ -136,18 +128,17 @@ fn put_saved(
 
 fn put_change(
     page: &mut Page,
-    costs: &Counts,
-    base: Base,
-    visits: &Visits,
-    change: &Change,
+    short: &UrlStyle<'_>,
+    recorded: &[Recorded],
+    facts: &Facts,
     after: &After,
+    change: &Change,
     most: u64,
 ) -> Result<(), AllocError> {
-    let url = change.url.as_str();
-    let saved = saved_by(base, costs, visits, after, url)?;
-    put_sent(page, change, saved, most)?;
-    put_headers(page, change)?;
-    put_saved(page, costs, after, url, saved)
+    let url = text_at(recorded, change.pick.entry);
+    put_sent(page, short, recorded, change, most)?;
+    put_headers(page, recorded, change)?;
+    put_saved(page, &facts.costs, after, url, change.saved())
 }
 
 // Puts the row of all changes together.
@@ -169,25 +160,25 @@ fn bytes_of(changes: &[Change]) -> u64 {
     sum
 }
 
-// Returns the bytes of the first change, which has most.
 fn most_of(changes: &[Change]) -> u64 {
-    match changes.first() {
-        Some(change) => change.pick.bytes,
-        None => 0,
+    let mut most = 0;
+    for change in changes {
+        most = change.pick.bytes.max(most);
     }
+    most
 }
 
 fn put_rows(
     page: &mut Page,
-    costs: &Counts,
-    base: Base,
-    visits: &Visits,
-    changes: &[Change],
-    after: &After,
+    short: &UrlStyle<'_>,
+    recorded: &[Recorded],
+    facts: &Facts,
+    outlook: &Outlook,
 ) -> Result<(), AllocError> {
+    let changes = outlook.changes.as_slice();
     let most = most_of(changes);
-    for change in changes {
-        put_change(page, costs, base, visits, change, after, most)?;
+    for change in changes.iter().take(MOST_ROWS) {
+        put_change(page, short, recorded, facts, &outlook.after, change, most)?;
     }
     Ok(())
 }
@@ -195,26 +186,24 @@ fn put_rows(
 /// Adds the section about what to change first.
 pub fn put_changes(
     page: &mut Page,
+    short: &UrlStyle<'_>,
+    recorded: &[Recorded],
     facts: &Facts,
-    base: Base,
-    visits: &Visits,
-    changes: &[Change],
-    after: &After,
+    outlook: &Outlook,
 ) -> Result<(), AllocError> {
+    let changes = outlook.changes.as_slice();
     put(page, ChangeText::Head)?;
     if changes.is_empty() {
         return put(page, ChangeText::Nothing);
     }
     put(
         page,
-        match base {
+        match outlook.base {
             Base::Later => ChangeText::Later,
             Base::Visit => ChangeText::Visit,
         },
     )?;
     put(page, ChangeText::Table)?;
-    put_rows(page, &facts.costs, base, visits, changes, after)?;
-    let all = all_by(base, &facts.sums, visits)?;
-    let saved = saved_by_all(base, &facts.costs, visits, changes, after)?;
-    put_total(page, bytes_of(changes), all, saved)
+    put_rows(page, short, recorded, facts, outlook)?;
+    put_total(page, bytes_of(changes), outlook.all, saved_by_all(changes))
 }

@@ -1,12 +1,11 @@
 //! The three numbers of a page: what is sent again, how much of it a few urls take, and how many
 //! requests need nothing.
-use crate::facts::{After, Facts};
-use crate::first::saved_by;
+use crate::changes::Change;
+use crate::facts::Facts;
 use crate::later::{Visits, sum_in};
 use crate::numbers::{percent, rounded};
-use crate::page_changes::Change;
+use crate::outlook::Outlook;
 use crate::picks::Base;
-use crate::screen::all_by;
 use http_cache_audit::counts::Counts;
 use http_cache_page::constant::Constant;
 use http_cache_page::measure::Measure;
@@ -76,19 +75,12 @@ fn three_bytes(changes: &[Change]) -> u64 {
 }
 
 /// Returns what all changes save.
-pub fn saved_by_all(
-    base: Base,
-    costs: &Counts,
-    visits: &Visits,
-    changes: &[Change],
-    after: &After,
-) -> Result<u64, AllocError> {
+pub fn saved_by_all(changes: &[Change]) -> u64 {
     let mut sum = 0u64;
     for change in changes {
-        let saved = saved_by(base, costs, visits, after, change.url.as_str())?;
-        sum = sum.saturating_add(saved);
+        sum = sum.saturating_add(change.saved());
     }
-    Ok(sum)
+    sum
 }
 
 fn put_urls(page: &mut Page, base: Base, changes: &[Change], all: u64) -> Result<(), AllocError> {
@@ -132,19 +124,11 @@ fn put_hits(page: &mut Page, sums: &Counts) -> Result<(), AllocError> {
 }
 
 /// Adds the three numbers.
-pub fn put_three(
-    page: &mut Page,
-    facts: &Facts,
-    base: Base,
-    visits: &Visits,
-    changes: &[Change],
-    after: &After,
-) -> Result<(), AllocError> {
-    let all = all_by(base, &facts.sums, visits)?;
-    let saved = saved_by_all(base, &facts.costs, visits, changes, after)?;
-    put_first(page, base, &facts.sums, visits)?;
+pub fn put_three(page: &mut Page, facts: &Facts, outlook: &Outlook) -> Result<(), AllocError> {
+    let (base, changes) = (outlook.base, outlook.changes.as_slice());
+    put_first(page, base, &facts.sums, &outlook.visits)?;
     put_asked(page, &facts.sums)?;
-    put_urls(page, base, changes, all)?;
-    put_spared(page, changes, saved)?;
+    put_urls(page, base, changes, outlook.all)?;
+    put_spared(page, changes, saved_by_all(changes))?;
     put_hits(page, &facts.sums)
 }

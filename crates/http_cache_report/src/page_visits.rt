@@ -1,15 +1,15 @@
 //! Later visits, as four sums and a table of a page.
+use crate::advised::send_words;
 use crate::by_size::order_of;
 use crate::facts::Facts;
 use crate::in_order::in_order_text;
 use crate::later::{
-    Visits, act, act_on, guess_of, is_listed, push_guesses, size_at, status_at, sum_in,
+    Visits, act, guess_of, listed_of, push_guesses, saving_advice, size_at, status_at, sum_in,
 };
+use crate::outlook::Outlook;
 use crate::page_changes::put_size;
 use crate::page_three::{part_of, put_kilobytes};
-use crate::picks::Pick;
 use crate::queries::text_at;
-use crate::screen::least_of;
 use crate::urls::{Life, Url};
 use crate::words::{UrlStyle, life_text};
 use http_cache_audit::counts::Counts;
@@ -84,28 +84,19 @@ pub fn put_visits(page: &mut Page, now: &Visits, then: &Visits) -> Result<(), Al
     put(page, VisitText::ListEnd)
 }
 
-fn is_shown(
-    recorded: &[Recorded],
-    visits: &Visits,
-    picks: &[Pick],
-    least: u64,
-    url: &Url,
-) -> Result<bool, AllocError> {
-    Ok(guess_of(recorded, url).is_some() || is_listed(recorded, visits, picks, least, url)?)
-}
-
 // Returns for each url whether it has a row: it is listed, or each cache guesses its lifetime.
 fn shown_of(
     alloc: Global,
     recorded: &[Recorded],
-    visits: &Visits,
-    picks: &[Pick],
-    least: u64,
-    urls: &[Url],
+    facts: &Facts,
+    outlook: &Outlook,
 ) -> Result<Vec<bool>, AllocError> {
+    let (urls, changes) = (facts.urls.as_slice(), outlook.changes.as_slice());
+    let (now, then) = (&outlook.visits, &outlook.after.visits);
+    let listed = listed_of(alloc, recorded, now, then, changes, &facts.sums, urls)?;
     let mut all = Vec::with_capacity(alloc, urls.len())?;
-    for url in urls {
-        all.push(is_shown(recorded, visits, picks, least, url)?)?;
+    for (url, is_listed) in urls.iter().zip(listed.iter()) {
+        all.push(*is_listed || guess_of(recorded, url).is_some())?;
     }
     Ok(all)
 }
@@ -142,15 +133,26 @@ fn put_life(page: &mut Page, life: Life) -> Result<(), AllocError> {
 }
 
 // Puts what to send instead.
-fn put_act_on(page: &mut Page, recorded: &[Recorded], url: &Url) -> Result<(), AllocError> {
+fn put_act_on(
+    page: &mut Page,
+    recorded: &[Recorded],
+    facts: &Facts,
+    outlook: &Outlook,
+    url: &Url,
+) -> Result<(), AllocError> {
     if status_at(recorded, url.full) >= 400 {
         return put(page, VisitText::Fix);
     }
-    if matches!(url.life, Life::Guessed(_)) {
+    let (now, then) = (&outlook.visits, &outlook.after.visits);
+    let advice = saving_advice(recorded, now, then, facts, url)?;
+    if advice.is_none() && matches!(url.life, Life::Guessed(_)) {
         return put(page, VisitText::Say);
     }
     put(page, VisitText::Send)?;
-    page.text(act_on(recorded, url))?;
+    if let Some(advice) = advice {
+        let words = send_words(page.alloc(), "", advice)?;
+        page.text(words.as_str())?;
+    }
     put(page, VisitText::RowEnd)
 }
 
@@ -158,7 +160,8 @@ fn put_row(
     page: &mut Page,
     short: &UrlStyle<'_>,
     recorded: &[Recorded],
-    visits: &Visits,
+    facts: &Facts,
+    outlook: &Outlook,
     url: &Url,
 ) -> Result<(), AllocError> {
     put(page, VisitText::Url)?;
@@ -166,21 +169,21 @@ fn put_row(
     put(page, VisitText::Size)?;
     put_size(page, size_at(recorded, url.full))?;
     put_life(page, url.life)?;
-    put_acts(page, visits, text_at(recorded, url.entry))?;
-    put_act_on(page, recorded, url)
+    put_acts(page, &outlook.visits, text_at(recorded, url.entry))?;
+    put_act_on(page, recorded, facts, outlook, url)
 }
 
 fn put_rows(
     page: &mut Page,
     short: &UrlStyle<'_>,
     recorded: &[Recorded],
-    visits: &Visits,
-    urls: &[Url],
+    facts: &Facts,
+    outlook: &Outlook,
     order: &[(u64, usize)],
 ) -> Result<(), AllocError> {
     for key in order.iter().take(MOST_ROWS) {
-        if let Some(url) = urls.get(key.1) {
-            put_row(page, short, recorded, visits, url)?;
+        if let Some(url) = facts.urls.as_slice().get(key.1) {
+            put_row(page, short, recorded, facts, outlook, url)?;
         }
     }
     Ok(())
@@ -231,38 +234,34 @@ fn put_in_order(
     page: &mut Page,
     short: &UrlStyle<'_>,
     recorded: &[Recorded],
-    visits: &Visits,
-    picks: &[Pick],
     facts: &Facts,
+    outlook: &Outlook,
 ) -> Result<(), AllocError> {
     let (sums, urls) = (&facts.sums, facts.urls.as_slice());
-    let text = in_order_text(page.alloc(), short, recorded, sums, visits, picks, urls)?;
+    let (visits, changes) = (&outlook.visits, outlook.changes.as_slice());
+    let text = in_order_text(page.alloc(), short, recorded, sums, visits, changes, urls)?;
     for line in text.as_str().split_terminator('\n') {
         put_order_line(page, line.trim())?;
     }
     Ok(())
 }
 
-/// Returns the table of what later visits request, which ends the section.
-pub fn visit_table(
-    alloc: Global,
+/// Adds the table of what later visits request, which ends the section.
+pub fn put_visit_table(
+    page: &mut Page,
     short: &UrlStyle<'_>,
     recorded: &[Recorded],
-    visits: &Visits,
-    picks: &[Pick],
     facts: &Facts,
-) -> Result<Page, AllocError> {
-    let urls = facts.urls.as_slice();
-    let least = least_of(&facts.sums)?;
-    let shown = shown_of(alloc, recorded, visits, picks, least, urls)?;
+    outlook: &Outlook,
+) -> Result<(), AllocError> {
+    let (alloc, urls) = (page.alloc(), facts.urls.as_slice());
+    let shown = shown_of(alloc, recorded, facts, outlook)?;
     let order = order_of(alloc, recorded, urls, shown.as_slice())?;
-    let mut page = Page::new(alloc);
-    put(&mut page, VisitText::Table)?;
-    put_rows(&mut page, short, recorded, visits, urls, order.as_slice())?;
-    put(&mut page, VisitText::TableEnd)?;
-    put_more(&mut page, order.len())?;
-    put_guesses(&mut page, recorded, visits, urls)?;
-    put_in_order(&mut page, short, recorded, visits, picks, facts)?;
-    put(&mut page, VisitText::End)?;
-    Ok(page)
+    put(page, VisitText::Table)?;
+    put_rows(page, short, recorded, facts, outlook, order.as_slice())?;
+    put(page, VisitText::TableEnd)?;
+    put_more(page, order.len())?;
+    put_guesses(page, recorded, &outlook.visits, urls)?;
+    put_in_order(page, short, recorded, facts, outlook)?;
+    put(page, VisitText::End)
 }

@@ -1,8 +1,8 @@
 //! What looks wrong, and where a browser's cache and a CDN's differ, as sections of a page.
 use crate::both::{differing_order, other_cache, text_of};
 use crate::by_size::order_of;
+use crate::changes::less;
 use crate::facts::{After, Facts};
-use crate::first::less;
 use crate::page_changes::put_size;
 use crate::page_visits::{MOST_ROWS, put_more};
 use crate::plain::Changing;
@@ -18,7 +18,7 @@ use http_cache_page::piece::Page;
 use http_cache_page::wrong::WrongText;
 use http_cache_recording::Recorded;
 use http_cache_semantics::CacheOptions;
-use std::alloc::{AllocError, Global};
+use std::alloc::AllocError;
 
 fn put(page: &mut Page, text: WrongText) -> Result<(), AllocError> {
     page.put(Constant::Wrong(text))
@@ -93,32 +93,6 @@ fn put_all_faults(
     Ok(())
 }
 
-/// What looks wrong in headers.
-#[derive(Drop)]
-pub struct Wrong {
-    /// The items of the list.
-    pub items: Page,
-    /// The number of urls with faults, whether listed or not.
-    pub count: usize,
-}
-
-/// Returns what looks wrong in headers.
-pub fn wrong_in(
-    alloc: Global,
-    short: &UrlStyle<'_>,
-    recorded: &[Recorded],
-    urls: &[Url],
-) -> Result<Wrong, AllocError> {
-    let wrong = wrong_of(alloc, recorded, urls)?;
-    let order = order_of(alloc, recorded, urls, wrong.as_slice())?;
-    let mut items = Page::new(alloc);
-    put_all_faults(&mut items, short, recorded, urls, order.as_slice())?;
-    Ok(Wrong {
-        items,
-        count: order.len(),
-    })
-}
-
 // Puts what the later loads save without a query, if they save anything.
 fn put_saves(page: &mut Page, bytes: u64) -> Result<(), AllocError> {
     if bytes == 0 {
@@ -151,18 +125,22 @@ fn put_queries(page: &mut Page, facts: &Facts, after: &After) -> Result<(), Allo
 /// Adds the section about what looks wrong.
 pub fn put_wrong(
     page: &mut Page,
+    short: &UrlStyle<'_>,
+    recorded: &[Recorded],
     facts: &Facts,
-    wrong: &mut Wrong,
     after: &After,
 ) -> Result<(), AllocError> {
-    if wrong.count == 0 && facts.changing.is_empty() {
+    let (alloc, urls) = (page.alloc(), facts.urls.as_slice());
+    let wrong = wrong_of(alloc, recorded, urls)?;
+    let order = order_of(alloc, recorded, urls, wrong.as_slice())?;
+    if order.is_empty() && facts.changing.is_empty() {
         return put(page, WrongText::Nothing);
     }
     put(page, WrongText::Head)?;
-    page.append(&mut wrong.items)?;
+    put_all_faults(page, short, recorded, urls, order.as_slice())?;
     put_queries(page, facts, after)?;
     put(page, WrongText::ListEnd)?;
-    put_more(page, wrong.count)?;
+    put_more(page, order.len())?;
     put(page, WrongText::End)
 }
 
@@ -233,35 +211,22 @@ fn put_rows(
     put_of_both(page, BothText::End)
 }
 
-fn put_both(
+/// Adds the section about the differences between a browser's cache and a CDN's.
+pub fn put_both(
     page: &mut Page,
     short: &UrlStyle<'_>,
     recorded: &[Recorded],
     target: &Uri,
     options: CacheOptions,
-    urls: &[Url],
+    facts: &Facts,
 ) -> Result<(), AllocError> {
     let (alloc, is_shared, other) = (page.alloc(), options.shared, other_cache(&options));
     let own = rows_of(alloc, recorded, target, options)?;
     let other = rows_of(alloc, recorded, target, other)?;
-    let (own, other) = (own.as_slice(), other.as_slice());
+    let (own, other, urls) = (own.as_slice(), other.as_slice(), facts.urls.as_slice());
     if is_shared {
         put_rows(page, short, recorded, other, own, urls)
     } else {
         put_rows(page, short, recorded, own, other, urls)
     }
-}
-
-/// Returns the section about the differences between a browser's cache and a CDN's.
-pub fn both_page(
-    alloc: Global,
-    short: &UrlStyle<'_>,
-    recorded: &[Recorded],
-    target: &Uri,
-    options: CacheOptions,
-    urls: &[Url],
-) -> Result<Page, AllocError> {
-    let mut page = Page::new(alloc);
-    put_both(&mut page, short, recorded, target, options, urls)?;
-    Ok(page)
 }

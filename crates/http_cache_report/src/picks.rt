@@ -1,32 +1,33 @@
-//! Decides what to change first: the urls with most bytes when a page is loaded again, and the
-//! costs of their requests.
+//! The urls that have an advice, the sums by which they are ordered, and the costs of all requests.
 ghost use Rattle.std.specs.Prelude.{◌≡◌, ◌++◌, [], ◌∷◌, map, IfOk, OnOk, option_map};
-ghost use Rattle.std.specs.List.{flat_map};
 ghost use Rattle.std.specs.Option.{option_map_or, option_to_list};
-ghost use Rattle.http_cache_semantics.specs.Messages.{response_seen};
 ghost use Rattle.http_cache_recording.specs.Entry.{recorded_seen};
 ghost use Rattle.http_cache_audit.specs.Row.{row_seen};
 ghost use Rattle.http_cache_audit.specs.Counts.{CountsAlso, HoldsCounts, label_of, total_in};
-ghost use Rattle.http_cache_report.specs.Queries.{base_of};
+ghost use Rattle.http_cache_report.specs.Queries.{base_of as url_base_of};
 ghost use Rattle.http_cache_report.specs.Remedy.{remedy_seen};
-ghost use Rattle.http_cache_report.specs.Picks.{advice_by, advice_in, advice_for, bytes_in, requests_in, is_much, key_by, key_at};
-ghost use Rattle.http_cache_report.specs.Picks.{keys_of, pick_by, pick_of, pick_at, ArePicks, remedy_by, known_with, known_at};
+ghost use Rattle.http_cache_report.specs.Picks.{known_with, known_at};
 ghost use Rattle.http_cache_report.specs.Picks.{known_after, cost_name, base_name, byte_additions, url_cost, url_costs_at, url_costs};
 
-use crate::advice::{Advice, advice_of};
-use crate::queries::{base_of, text_at};
+use crate::advice::{Advice, Shown, advice_of};
+use crate::facts::Facts;
+use crate::later::{Visits, is_asked_later};
+use crate::queries::{base_of as url_base, text_at};
 use crate::remedy::{Remedy, is_still_in_full};
-use crate::urls::Url;
-use http::response;
+use crate::urls::{Life, Url};
+use http::HeaderMap;
+use http::header::CACHE_CONTROL;
 use http_cache_audit::cost::{Known, cost_of, is_asked_reading, known_at, response_of};
 use http_cache_audit::counts::Counts;
 use http_cache_audit::order::target_of;
 use http_cache_audit::row::Row;
-use http_cache_recording::Recorded;
+use http_cache_fields::directives::split_piece;
+use http_cache_fields::headers::contains_key;
+use http_cache_fields::names::is_same_name;
+use http_cache_fields::pieces::pieces_under;
+use http_cache_fields::text::{number, unquote};
+use http_cache_recording::{Reading, Recorded};
 use std::alloc::{AllocError, Global};
-
-/// The greatest number of listed urls.
-const MOST: usize = 5;
 
 /// The sums by which urls are ordered.
 #[derive(Clone, Copy)]
@@ -37,7 +38,7 @@ pub enum Base {
     Visit,
 }
 
-/// A url whose headers are to be changed.
+/// A url whose headers may be changed.
 #[derive(Clone, Copy)]
 pub struct Pick {
     /// The entry of its first request.
@@ -46,121 +47,145 @@ pub struct Pick {
     pub full: usize,
     /// What to send.
     pub advice: Advice,
-    /// The bytes that are sent for it when the page is loaded again.
+    /// Whether many bytes are sent for it when the page is loaded again.
+    pub is_much: bool,
+    /// The bytes that are sent for it then.
     pub bytes: u64,
     /// The number of its requests for which they are sent.
     pub requests: u64,
 }
 
+impl Pick {
+    /// Returns the pick of a url that is on its own.
+    pub fn only(url: &Url, advice: Advice) -> Pick {
+        Pick {
+            entry: url.entry,
+            full: url.full,
+            advice,
+            is_much: true,
+            bytes: 0,
+            requests: 0,
+        }
+    }
+}
+
+fn max_of(a: Option<u64>, b: Option<u64>) -> Option<u64> {
+    match (a, b) {
+        (Some(a), Some(b)) => Some(a.max(b)),
+        (None, b) => b,
+        (a, None) => a,
+    }
+}
+
+// Returns the seconds of the first directive with a name, if they can be read.
+fn seconds_under(headers: &HeaderMap, name: &str) -> Option<u64> {
+    let piece = pieces_under(headers, CACHE_CONTROL).find(|piece| is_same_name(
+        split_piece(piece).0,
+        name,
+    ))?;
+    number(unquote(split_piece(piece).1?))
+}
+
+fn given_by(life: Life) -> Option<u64> {
+    match life {
+        Life::Given(seconds) | Life::Guessed(seconds) => Some(seconds),
+        Life::NoCache => Some(0),
+        Life::Unknown | Life::NotStored => None,
+    }
+}
+
+// Returns the greatest lifetime that a response states for any cache, or that each cache guesses.
+fn stated_by(headers: &HeaderMap, life: Life) -> Option<u64> {
+    let own = seconds_under(headers, "max-age");
+    let shared = seconds_under(headers, "s-maxage");
+    max_of(given_by(life), max_of(own, shared))
+}
+
+fn is_by_worker(full: &Recorded) -> bool {
+    match &full.reading {
+        Reading::Entry(entry) => contains_key(&entry.headers, "service-worker"),
+        Reading::Skipped(_) => false,
+    }
+}
+
 // Returns the advice for a full response, if that is a 200.
-fn advice_by(response: &response::Parts, url: &str, in_full: bool) -> Option<Advice>
-    ensures { result ≡ advice_by url.now in_full (response_seen response.now) }
-{
+fn advice_by(
+    full: &Recorded,
+    url: &Url,
+    is_shared: bool,
+    with_credentials: bool,
+) -> Option<Advice> {
+    let response = response_of(full)?;
     if response.status.as_u16() != 200 {
         return None;
     }
-    Some(advice_of(&response.headers, url, in_full))
+    let shown = Shown {
+        is_shared,
+        with_credentials,
+        by_worker: is_by_worker(full),
+        in_full: url.known.in_full,
+        stated: stated_by(&response.headers, url.life),
+    };
+    advice_of(&response.headers, target_of(full), shown)
 }
 
-fn advice_in(full: &Recorded, in_full: bool) -> Option<Advice>
-    ensures { result ≡ advice_in in_full (recorded_seen full.now) }
-{
-    match response_of(full) {
-        Some(response) => advice_by(response, target_of(full), in_full),
+/// Returns what a url is advised to send, if anything.
+pub fn advice_for(
+    recorded: &[Recorded],
+    url: &Url,
+    facts: &Facts,
+) -> Result<Option<Advice>, AllocError> {
+    let with_credentials = facts
+        .sums
+        .total_of("with_credentials", text_at(recorded, url.entry))?
+        > 0;
+    Ok(match recorded.get(url.full) {
+        Some(full) => advice_by(full, url, facts.is_shared, with_credentials),
         None => None,
-    }
-}
-
-/// Returns what a url is advised to send, if its full response is a 200.
-pub fn advice_for(recorded: &[Recorded], url: &Url) -> Option<Advice>
-    ensures { result ≡ advice_for (map recorded_seen recorded.now) url.now }
-{
-    match recorded.get(url.full) {
-        Some(full) => advice_in(full, url.known.in_full),
-        None => None,
-    }
+    })
 }
 
 impl Base {
-    fn bytes_in(self, sums: &Counts, url: &str) -> Result<u64, AllocError>
-        ensures { IfOk result (λ n. n ≡ bytes_in self (total_in sums.now) url.now) }
-    {
+    fn bytes_in(self, sums: &Counts, visits: &Visits, url: &str) -> Result<u64, AllocError> {
         match self {
             Base::Later => sums.total_of("later_bytes", url),
-            Base::Visit => sums.total_of("bytes", url),
+            Base::Visit => visits.day.total_of("bytes", url),
         }
     }
 
     // Returns the number of a url's requests for which bytes are sent.
-    fn requests_in(self, sums: &Counts, url: &str) -> Result<u64, AllocError>
-        ensures { IfOk result (λ n. n ≡ requests_in self (total_in sums.now) url.now) }
-    {
+    fn requests_in(self, sums: &Counts, visits: &Visits, url: &str) -> Result<u64, AllocError> {
         match self {
             Base::Later => sums.total_of("later_requests", url),
             Base::Visit => {
-                let again = sums.total_of("again", url)?;
-                let confirmed = sums.total_of("confirmed", url)?;
+                let again = visits.day.total_of("again", url)?;
+                let confirmed = visits.day.total_of("confirmed", url)?;
                 Ok(again.saturating_add(confirmed))
             }
         }
     }
 }
 
+/// Returns the sums by which urls are ordered: those of a visit if there is no later load.
+pub fn base_of(sums: &Counts) -> Result<Base, AllocError> {
+    Ok(if sums.total_of("loads", "later_loads")? == 0 {
+        Base::Visit
+    } else {
+        Base::Later
+    })
+}
+
+/// Returns all bytes of the later loads, or of the visit a day later.
+pub fn all_by(base: Base, sums: &Counts, visits: &Visits) -> Result<u64, AllocError> {
+    match base {
+        Base::Later => sums.total_of("asked", "later_loads"),
+        Base::Visit => visits.day.total_of("visit", "bytes"),
+    }
+}
+
 // Returns whether bytes are sent, and at least one percent of all.
-fn is_much(bytes: u64, all: u64) -> bool
-    ensures { result ≡ is_much bytes all }
-{
+fn is_much(bytes: u64, all: u64) -> bool {
     bytes > 0 && bytes as u128 * 100 >= all as u128
-}
-
-fn push_key(
-    keys: &mut Vec<(u64, usize)>,
-    index: usize,
-    all: u64,
-    bytes: u64,
-    advice: Option<Advice>,
-) -> Result<(), AllocError>
-    ensures { OnOk result (keys.new.items ≡ keys.old.items ++ key_by index all bytes advice) }
-{
-    if advice.is_some() && is_much(bytes, all) {
-        keys.push((u64::MAX - bytes, index))?;
-    }
-    Ok(())
-}
-
-fn push_key_of(
-    keys: &mut Vec<(u64, usize)>,
-    recorded: &[Recorded],
-    index: usize,
-    url: &Url,
-    base: Base,
-    sums: &Counts,
-    all: u64,
-) -> Result<(), AllocError>
-    ensures { OnOk result (keys.new.items ≡ keys.old.items ++ key_at (map recorded_seen recorded.now)
-        base (total_in sums.now) all (index, url.now)) }
-{
-    let bytes = base.bytes_in(sums, text_at(recorded, url.entry))?;
-    push_key(keys, index, all, bytes, advice_for(recorded, url))
-}
-
-// Returns the keys of the urls that have many bytes and an advice.
-fn keys_of(
-    alloc: Global,
-    recorded: &[Recorded],
-    urls: &[Url],
-    base: Base,
-    sums: &Counts,
-    all: u64,
-) -> Result<Vec<(u64, usize)>, AllocError>
-    ensures { IfOk result (λ keys. keys.items ≡ keys_of (map recorded_seen recorded.now) base
-        (total_in sums.now) all urls.now) }
-{
-    let mut keys = Vec::new(alloc);
-    for index in 0..urls.len() {
-        push_key_of(&mut keys, recorded, index, &urls[index], base, sums, all)?;
-    }
-    Ok(keys)
 }
 
 fn pick_by(
@@ -169,121 +194,64 @@ fn pick_by(
     advice: Advice,
     base: Base,
     sums: &Counts,
-) -> Result<Pick, AllocError>
-    ensures { IfOk result (λ pick. pick ≡ pick_by (map recorded_seen recorded.now) base
-        (total_in sums.now) url.now advice) }
-{
+    visits: &Visits,
+) -> Result<Pick, AllocError> {
     let text = text_at(recorded, url.entry);
+    let bytes = base.bytes_in(sums, visits, text)?;
+    let all = all_by(base, sums, visits)?;
     Ok(Pick {
         entry: url.entry,
         full: url.full,
         advice,
-        bytes: base.bytes_in(sums, text)?,
-        requests: base.requests_in(sums, text)?,
+        is_much: is_much(bytes, all),
+        bytes,
+        requests: base.requests_in(sums, visits, text)?,
     })
 }
 
-fn pick_of(
-    recorded: &[Recorded],
-    url: &Url,
-    base: Base,
-    sums: &Counts,
-) -> Result<Option<Pick>, AllocError>
-    ensures { IfOk result (λ pick. pick ≡ pick_of (map recorded_seen recorded.now) base
-        (total_in sums.now) url.now) }
-{
-    match advice_for(recorded, url) {
-        Some(advice) => Ok(Some(pick_by(recorded, url, advice, base, sums)?)),
-        None => Ok(None),
-    }
-}
-
-fn pick_at(
-    recorded: &[Recorded],
-    urls: &[Url],
-    key: (u64, usize),
-    base: Base,
-    sums: &Counts,
-) -> Result<Option<Pick>, AllocError>
-    ensures { IfOk result (λ pick. option_to_list pick
-        ≡ pick_at (map recorded_seen recorded.now) urls.now base (total_in sums.now) key) }
-{
-    match urls.get(key.1) {
-        Some(url) => pick_of(recorded, url, base, sums),
-        None => Ok(None),
-    }
-}
-
-fn push_some(picks: &mut Vec<Pick>, pick: Option<Pick>) -> Result<(), AllocError>
-    ensures { OnOk result (picks.new.items ≡ picks.old.items ++ option_to_list pick) }
-{
-    match pick {
-        Some(pick) => Ok(picks.push(pick)?),
-        None => Ok(()),
+// Returns whether the recording shows a body, of which bytes can be saved.
+fn is_sent(url: &Url) -> bool {
+    match url.known.size {
+        Some(size) => size.bytes > size.head,
+        None => false,
     }
 }
 
 fn push_pick(
     picks: &mut Vec<Pick>,
     recorded: &[Recorded],
-    urls: &[Url],
-    key: (u64, usize),
+    url: &Url,
+    facts: &Facts,
     base: Base,
-    sums: &Counts,
-) -> Result<(), AllocError>
-    ensures { OnOk result (picks.new.items ≡ picks.old.items
-        ++ pick_at (map recorded_seen recorded.now) urls.now base (total_in sums.now) key) }
-{
-    let pick = pick_at(recorded, urls, key, base, sums)?;
-    push_some(picks, pick)
-}
-
-fn first_picks(
-    alloc: Global,
-    recorded: &[Recorded],
-    urls: &[Url],
-    order: &[(u64, usize)],
-    base: Base,
-    sums: &Counts,
-) -> Result<Vec<Pick>, AllocError>
-    ensures { IfOk result (λ picks. picks.items ≡ flat_map
-        (pick_at (map recorded_seen recorded.now) urls.now base (total_in sums.now)) order.now) }
-{
-    let mut picks = Vec::with_capacity(alloc, order.len())?;
-    for key in order {
-        push_pick(&mut picks, recorded, urls, *key, base, sums)?;
+    visits: &Visits,
+) -> Result<(), AllocError> {
+    let Some(advice) = advice_for(recorded, url, facts)? else {
+        return Ok(());
+    };
+    if !is_sent(url) {
+        return Ok(());
     }
-    Ok(picks)
+    let pick = pick_by(recorded, url, advice, base, &facts.sums, visits)?;
+    if pick.is_much || is_asked_later(recorded, visits, &facts.sums, url)? {
+        picks.push(pick)?;
+    }
+    Ok(())
 }
 
-/// Returns the urls to change first: at most five, most bytes first, and in the order of their
-/// first requests if the bytes are equal. Urls with less than one percent of `all` bytes are left
-/// out.
+/// Returns the urls that have an advice, in the order of their first requests: those for which many
+/// bytes are sent when the page is loaded again, and those that the section on later visits lists.
 pub fn picks_of(
     alloc: Global,
     recorded: &[Recorded],
-    urls: &[Url],
+    facts: &Facts,
     base: Base,
-    sums: &Counts,
-    all: u64,
-) -> Result<Vec<Pick>, AllocError>
-    ensures { IfOk result (λ picks. ArePicks (map recorded_seen recorded.now) urls.now base
-        (total_in sums.now) all picks.items) }
-{
-    let mut order = keys_of(alloc, recorded, urls, base, sums, all)?;
-    order.sort_unstable();
-    let len = order.len().min(MOST);
-    first_picks(alloc, recorded, urls, &order.as_slice()[..len], base, sums)
-}
-
-fn remedy_by(alloc: Global, recorded: &[Recorded], pick: &Pick) -> Result<Remedy, AllocError>
-    ensures { IfOk result (λ m. remedy_seen m
-        ≡ remedy_by (map recorded_seen recorded.now) pick.now) }
-{
-    Ok(Remedy {
-        url: String::from_str(alloc, text_at(recorded, pick.entry))?,
-        advice: pick.advice,
-    })
+    visits: &Visits,
+) -> Result<Vec<Pick>, AllocError> {
+    let mut picks = Vec::new(alloc);
+    for url in facts.urls.as_slice() {
+        push_pick(&mut picks, recorded, url, facts, base, visits)?;
+    }
+    Ok(picks)
 }
 
 /// Returns what the urls are advised to send.
@@ -291,13 +259,13 @@ pub fn remedies_of(
     alloc: Global,
     recorded: &[Recorded],
     picks: &[Pick],
-) -> Result<Vec<Remedy>, AllocError>
-    ensures { IfOk result (λ all. map remedy_seen all.items
-        ≡ map (remedy_by (map recorded_seen recorded.now)) picks.now) }
-{
+) -> Result<Vec<Remedy>, AllocError> {
     let mut all = Vec::with_capacity(alloc, picks.len())?;
     for pick in picks {
-        all.push(remedy_by(alloc, recorded, pick)?)?;
+        all.push(Remedy {
+            url: String::from_str(alloc, text_at(recorded, pick.entry))?,
+            pick: *pick,
+        })?;
     }
     Ok(all)
 }
@@ -354,10 +322,10 @@ fn base_name(is_first: bool) -> &'static str
 }
 
 fn add_base(counts: &mut Counts, is_first: bool, url: &str, bytes: u64) -> Result<(), AllocError>
-    ensures { OnOk result (CountsAlso ((label_of (base_name is_first) (base_of url.now), bytes) ∷ [])
+    ensures { OnOk result (CountsAlso ((label_of (base_name is_first) (url_base_of url.now), bytes) ∷ [])
         counts.old counts.new) }
 {
-    counts.add(base_name(is_first), base_of(url), bytes)
+    counts.add(base_name(is_first), url_base(url), bytes)
 }
 
 // Adds the cost of a request for its url, and for all urls with its base.

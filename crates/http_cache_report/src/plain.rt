@@ -6,10 +6,10 @@ ghost use Rattle.http_cache_audit.specs.Counts.{total_in};
 ghost use Rattle.http_cache_report.specs.Plain.{changing_seen, front_of, changing_if, changing_at, changing_in, is_base, plain, plain_recorded};
 
 use crate::by_size::{MOST, push_rest};
-use crate::first::less;
+use crate::changes::less;
 use crate::numbers::kilobytes;
 use crate::queries::base_of;
-use crate::words::short;
+use crate::words::{COLUMN, cut, short};
 use http_cache_audit::counts::Counts;
 use http_cache_recording::{Printed, Recorded};
 use std::alloc::{AllocError, Global};
@@ -87,16 +87,20 @@ fn is_base(changing: &[Changing], base: &str) -> bool
     changing.iter().any(|one| one.base.as_str() == base)
 }
 
-// Returns a url without its query, if that changes.
-fn plain(alloc: Global, changing: &[Changing], url: String) -> Result<String, AllocError>
-    ensures { IfOk result (λ u. string_bytes u
+// Returns a url without its query if that changes, and then also as it was.
+fn plain(
+    alloc: Global,
+    changing: &[Changing],
+    url: String,
+) -> Result<(String, Option<String>), AllocError>
+    ensures { IfOk result (λ made. string_bytes made.0
         ≡ plain (map changing_seen changing.now) (string_bytes url)) }
 {
     let base = base_of(url.as_str());
     if is_base(changing, base) {
-        String::from_str(alloc, base)
+        Ok((String::from_str(alloc, base)?, Some(url)))
     } else {
-        Ok(url)
+        Ok((url, None))
     }
 }
 
@@ -104,13 +108,16 @@ fn plain_url(
     alloc: Global,
     changing: &[Changing],
     url: Option<String>,
-) -> Result<Option<String>, AllocError>
-    ensures { IfOk result (λ u. text_seen u
+) -> Result<(Option<String>, Option<String>), AllocError>
+    ensures { IfOk result (λ made. text_seen made.0
         ≡ option_map (plain (map changing_seen changing.now)) (text_seen url)) }
 {
     match url {
-        Some(url) => Ok(Some(plain(alloc, changing, url)?)),
-        None => Ok(None),
+        Some(url) => {
+            let (url, own) = plain(alloc, changing, url)?;
+            Ok((Some(url), own))
+        }
+        None => Ok((None, None)),
     }
 }
 
@@ -118,30 +125,64 @@ fn plain_recorded(
     alloc: Global,
     recorded: Recorded,
     changing: &[Changing],
-) -> Result<Recorded, AllocError>
-    ensures { IfOk result (λ r. recorded_seen r
+) -> Result<(Recorded, Option<String>), AllocError>
+    ensures { IfOk result (λ made. recorded_seen made.0
         ≡ plain_recorded (map changing_seen changing.now) (recorded_seen recorded)) }
 {
     let printed = recorded.printed;
-    let url = plain_url(alloc, changing, printed.url)?;
-    Ok(Recorded {
+    let (url, own) = plain_url(alloc, changing, printed.url)?;
+    let recorded = Recorded {
         printed: Printed { url, ..printed },
         reading: recorded.reading,
-    })
+    };
+    Ok((recorded, own))
 }
 
-/// Returns a recording without the queries that change.
+/// Returns a recording without the queries that change, and for each entry the url that it had, if
+/// that was replaced.
 pub fn plain_all(
     alloc: Global,
     recorded: Vec<Recorded>,
     changing: &[Changing],
-) -> Result<Vec<Recorded>, AllocError>
-    ensures { IfOk result (λ all. map recorded_seen all.items
+) -> Result<(Vec<Recorded>, Vec<Option<String>>), AllocError>
+    ensures { IfOk result (λ made. map recorded_seen made.0.items
         ≡ map (plain_recorded (map changing_seen changing.now)) (map recorded_seen recorded.items)) }
 {
     let mut all = Vec::with_capacity(alloc, recorded.len())?;
+    let mut own = Vec::with_capacity(alloc, recorded.len())?;
     for one in recorded {
-        all.push(plain_recorded(alloc, one, changing)?)?;
+        let (one, url) = plain_recorded(alloc, one, changing)?;
+        all.push(one)?;
+        own.push(url)?;
+    }
+    Ok((all, own))
+}
+
+fn with_query(recorded: Recorded, own: Option<String>) -> Recorded {
+    match own {
+        Some(own) => {
+            let printed = recorded.printed;
+            Recorded {
+                printed: Printed {
+                    url: Some(own),
+                    ..printed
+                },
+                reading: recorded.reading,
+            }
+        }
+        None => recorded,
+    }
+}
+
+/// Returns a recording in which entries have the urls again that they had.
+pub fn with_queries(
+    alloc: Global,
+    recorded: Vec<Recorded>,
+    own: Vec<Option<String>>,
+) -> Result<Vec<Recorded>, AllocError> {
+    let mut all = Vec::with_capacity(alloc, recorded.len())?;
+    for (one, own) in recorded.into_iter().zip(own) {
+        all.push(with_query(one, own))?;
     }
     Ok(all)
 }
@@ -176,7 +217,8 @@ fn query_line(
     plain: &Counts,
     one: &Changing,
 ) -> Result<String, AllocError> {
-    let mut line = query_words(alloc, short(host, one.base.as_str()), one.urls)?;
+    let url = cut(alloc, short(host, one.base.as_str()), COLUMN)?;
+    let mut line = query_words(alloc, url.as_str(), one.urls)?;
     let saved = saved_by(alloc, costs, plain, one)?;
     line.push_str(saved.as_str())?;
     line.push_str("\n")?;

@@ -12,17 +12,16 @@ ghost use Rattle.http_cache_report.specs.Visit.{span_seen};
 ghost use Rattle.http_cache_report.specs.Responses.{cache_of};
 ghost use Rattle.http_cache_report.specs.Responses.{age_of};
 ghost use Rattle.http_cache_report.specs.Responses.{weight};
-ghost use Rattle.http_cache_report.specs.Responses.{weights, remedies_for, AreVisitsWith, asks_less};
+ghost use Rattle.http_cache_report.specs.Responses.{weights, asks_less};
 
-use crate::advice::{Advice, control_of};
+use crate::advice::Advice;
+use crate::advised::send_words;
 use crate::both::obstacle_text;
 use crate::facts::{Facts, after_of, facts_of};
-use crate::first::{answer_words, tag_words};
 use crate::later::{Visits, is_again, is_confirmed, visits_of};
 use crate::numbers::{duration, kilobytes};
-use crate::picks::advice_for;
+use crate::picks::{Pick, advice_for, remedies_of};
 use crate::queries::text_at;
-use crate::remedy::Remedy;
 use crate::top::cache_text as asked_text;
 use crate::urls::Url;
 use crate::visit::Span;
@@ -187,12 +186,6 @@ fn seen_text(
     Ok(out)
 }
 
-fn send_text(alloc: Global, advice: Advice) -> Result<String, AllocError> {
-    let (control, tag) = (control_of(advice), tag_words(advice.adds_tag));
-    let answer = answer_words(advice.answers_304);
-    format!(in alloc; "Cache-Control: {control}{tag}{answer}")
-}
-
 // Returns the weight of a visit's requests. A full response weighs more than three 304s.
 fn weight(visit: &Counts, url: &str) -> Result<u64, AllocError>
     ensures { IfOk result (λ n. n ≡ weight visit.now url.now) }
@@ -217,17 +210,6 @@ fn weights(visits: &Visits, url: &str) -> Result<u64, AllocError>
     Ok(hour + day + week)
 }
 
-fn remedies_for(alloc: Global, url: &str, advice: Advice) -> Result<Vec<Remedy>, AllocError>
-    ensures { IfOk result (λ all. map remedy_seen all.items ≡ remedies_for url.now advice) }
-{
-    let mut all = Vec::new(alloc);
-    all.push(Remedy {
-        url: String::from_str(alloc, url)?,
-        advice,
-    })?;
-    Ok(all)
-}
-
 // Returns the costs of visits if a url follows its advice.
 fn visits_with(
     alloc: Global,
@@ -236,22 +218,12 @@ fn visits_with(
     options: &CacheOptions,
     facts: &Facts,
     span: &Span,
-    url: &str,
+    url: &Url,
     advice: Advice,
-) -> Result<Visits, AllocError>
-    ensures { IfOk result (AreVisitsWith (map recorded_seen recorded.items) (options_of options.now)
-        target.now facts.now (span_seen span.now) url.now advice) }
-{
-    let remedies = remedies_for(alloc, url, advice)?;
-    let after = after_of(
-        alloc,
-        recorded,
-        target,
-        options,
-        remedies.as_slice(),
-        facts,
-        span,
-    )?;
+) -> Result<Visits, AllocError> {
+    let remedies = remedies_of(alloc, recorded.as_slice(), &[Pick::only(url, advice)])?;
+    let remedies = remedies.as_slice();
+    let (after, _) = after_of(alloc, recorded, target, options, remedies, facts, span)?;
     Ok(after.visits)
 }
 
@@ -262,68 +234,15 @@ fn asks_less(after: &Visits, visits: &Visits, url: &str) -> Result<bool, AllocEr
     Ok(after < before)
 }
 
-fn send_line(alloc: Global, advice: Advice) -> Result<String, AllocError> {
-    let mut out = String::new(alloc);
-    let text = send_text(alloc, advice)?;
-    push_line(alloc, &mut out, "send:", text.as_str())?;
-    Ok(out)
+fn push_send(alloc: Global, out: &mut String, advice: Advice) -> Result<(), AllocError> {
+    let text = send_words(alloc, "Cache-Control: ", advice)?;
+    push_line(alloc, out, "send:", text.as_str())
 }
 
-// Returns the line of what to send, if the visits then request less.
-fn sent_line(
+// Adds the line of what to send, if the visits then request less.
+fn push_sent(
     alloc: Global,
-    advice: Advice,
-    url: &str,
-    visits: &Visits,
-    after: &Visits,
-) -> Result<String, AllocError> {
-    if asks_less(after, visits, url)? {
-        send_line(alloc, advice)
-    } else {
-        Ok(String::new(alloc))
-    }
-}
-
-fn advised_text(
-    alloc: Global,
-    recorded: Vec<Recorded>,
-    target: &Uri,
-    options: &CacheOptions,
-    facts: &Facts,
-    span: &Span,
-    url: &str,
-    visits: &Visits,
-    advice: Advice,
-) -> Result<String, AllocError> {
-    let after = visits_with(alloc, recorded, target, options, facts, span, url, advice)?;
-    sent_line(alloc, advice, url, visits, &after)
-}
-
-// Returns the line of what to send, if there is an advice.
-fn sent_by(
-    alloc: Global,
-    recorded: Vec<Recorded>,
-    target: &Uri,
-    options: &CacheOptions,
-    facts: &Facts,
-    span: &Span,
-    url: &str,
-    visits: &Visits,
-    advice: Option<Advice>,
-) -> Result<String, AllocError> {
-    match advice {
-        Some(advice) => {
-            advised_text(
-                alloc, recorded, target, options, facts, span, url, visits, advice,
-            )
-        }
-        None => Ok(String::new(alloc)),
-    }
-}
-
-// Returns what to send instead, if a url has an advice by which visits request less.
-fn sent_text(
-    alloc: Global,
+    out: &mut String,
     recorded: Vec<Recorded>,
     target: &Uri,
     options: &CacheOptions,
@@ -331,13 +250,17 @@ fn sent_text(
     span: &Span,
     url: &Url,
     visits: &Visits,
-) -> Result<String, AllocError> {
-    let advice = advice_for(recorded.as_slice(), url);
-    let text = String::from_str(alloc, text_at(recorded.as_slice(), url.entry))?;
-    let name = text.as_str();
-    sent_by(
-        alloc, recorded, target, options, facts, span, name, visits, advice,
-    )
+) -> Result<(), AllocError> {
+    let Some(advice) = advice_for(recorded.as_slice(), url, facts)? else {
+        return Ok(());
+    };
+    let name = String::from_str(alloc, text_at(recorded.as_slice(), url.entry))?;
+    let after = visits_with(alloc, recorded, target, options, facts, span, url, advice)?;
+    if asks_less(&after, visits, name.as_str())? {
+        push_send(alloc, out, advice)
+    } else {
+        Ok(())
+    }
 }
 
 // Returns what later visits do with a response, what looks wrong in it, and what to send instead.
@@ -354,8 +277,9 @@ fn later_text(
     let (repeats, when) = (facts.repeats.as_slice(), *span);
     let visits = visits_of(alloc, &mut recorded, repeats, when, target, *options)?;
     let mut out = seen_text(alloc, recorded.as_slice(), &visits, url)?;
-    let sent = sent_text(alloc, recorded, target, options, facts, span, url, &visits)?;
-    out.push_str(sent.as_str())?;
+    push_sent(
+        alloc, &mut out, recorded, target, options, facts, span, url, &visits,
+    )?;
     Ok(out)
 }
 

@@ -3,13 +3,14 @@ ghost use Rattle.std.specs.Prelude.{◌≡◌, ◌≢◌, List, ℕ, Some, Err, 
 ghost use Rattle.std.specs.Io.KnownBytes.{Appends};
 ghost use Rattle.http_cache_recording.specs.Entry.{recorded_seen};
 ghost use Rattle.http_cache_audit.specs.Report.{settings_seen};
-ghost use Rattle.http_cache_report.specs.Output.{front_of, any_audited, no_hits, IsOfAll, AreHitsOfReport, IsOfForm, IsPrinted, IsAudited, IsRefusal};
+ghost use Rattle.http_cache_report.specs.Output.{front_of, any_audited, no_hits, IsOfAll, AreHitsOfReport, IsReport, IsOfForm, IsPrinted, IsAudited, IsRefusal};
 ghost use Rattle.http_cache_report.specs.Output.{IsInput};
 ghost use Rattle.http_cache_audit.specs.Change.{change_seen};
 
 use crate::error::AuditError;
 use crate::heads::{heads_from_bytes, is_heads};
 use crate::page::page;
+use crate::printable::printable;
 use crate::responses::responses_text;
 use crate::screen::screen;
 use http_cache_audit::by_url::by_url;
@@ -161,14 +162,15 @@ fn report_of(
     are_heads: bool,
     settings: Settings,
 ) -> Result<(String, Hits), AllocError>
-    ensures { IfOk result (λ made. AreHitsOfReport are_heads (settings_seen settings)
-        (map recorded_seen recorded.items) made.1) }
+    ensures { IfOk result (λ made. IsReport are_heads (settings_seen settings)
+        (map recorded_seen recorded.items) made.1 (string_bytes made.0)) }
 {
     if are_heads {
         let text = responses_text(alloc, recorded, settings.options)?;
-        Ok((text, no_hits()))
+        Ok((printable(alloc, text.as_str())?, no_hits()))
     } else {
-        screen(alloc, recorded, settings)
+        let (text, hits) = screen(alloc, recorded, settings)?;
+        Ok((printable(alloc, text.as_str())?, hits))
     }
 }
 

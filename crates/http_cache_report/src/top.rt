@@ -9,7 +9,7 @@ ghost use Rattle.http_cache_report.specs.Top.{load_additions, count_of, is_other
 ghost use Rattle.http_cache_report.specs.Top.{kilobytes_in};
 
 use crate::numbers::{percent, rounded};
-use crate::words::{host_of, short};
+use crate::words::{LONGEST, cut, host_of, short};
 use http_cache_audit::counts::Counts;
 use http_cache_audit::members::shown_url;
 use http_cache_audit::order::target_of;
@@ -151,6 +151,7 @@ fn other_name<'a>(
 }
 
 fn push_others(
+    alloc: Global,
     out: &mut String,
     rows: &[Row<'_>],
     counts: &Counts,
@@ -161,6 +162,7 @@ fn push_others(
     match other {
         Some(index) => {
             let name = other_name(rows, counts, page, others, index)?;
+            let name = cut(alloc, name, LONGEST)?;
             write!(out, ", {others} of {name}")
         }
         None => Ok(()),
@@ -182,7 +184,8 @@ pub fn cache_text(is_shared: bool) -> &'static str {
 
 fn page_text(alloc: Global, counts: &Counts, page: &str) -> Result<String, AllocError> {
     let count = count_of(counts, page)?.max(1);
-    let (word, url) = (loads_word(count), short("", shown_url(page, true)));
+    let url = cut(alloc, short("", shown_url(page, true)), LONGEST)?;
+    let word = loads_word(count);
     format!(in alloc; "{count}{word}{url}")
 }
 
@@ -200,7 +203,7 @@ pub fn first_line(
     let mut out = page_text(alloc, &counts, page)?;
     let others = (loads.len() as u64).saturating_sub(count_of(&counts, page)?);
     let other = other_load(rows, page, loads);
-    push_others(&mut out, rows, &counts, page, others, other)?;
+    push_others(alloc, &mut out, rows, &counts, page, others, other)?;
     push_took(&mut out, seconds)?;
     out.push_str(cache_text(is_shared))?;
     Ok(out)

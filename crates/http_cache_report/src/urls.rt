@@ -1,20 +1,25 @@
 //! The facts that a report has about each url, and the sums of a recording's loads.
 ghost use Rattle.std.specs.Prelude.{◌≡◌, ◌++◌, [], length, map, IfOk, OnOk, option_map};
 ghost use Rattle.std.specs.Option.{option_map_or};
+ghost use Rattle.http_cache_fields.specs.Headers.{headers_of};
 ghost use Rattle.http_cache_recording.specs.Entry.{recorded_seen};
 ghost use Rattle.http_cache_audit.specs.Row.{row_seen, lifetime_seen};
 ghost use Rattle.http_cache_audit.specs.Counts.{CountsAlso, HoldsCounts, is_forced};
 ghost use Rattle.http_cache_audit.specs.Cost.{load_name};
-ghost use Rattle.http_cache_report.specs.Urls.{apart_text, apart_additions, saved_by, hit_additions, no_cache_additions};
+ghost use Rattle.http_cache_report.specs.Urls.{apart_text, apart_additions, saved_by, hit_additions, no_cache_additions, are_with_credentials, has_credentials, credential_additions};
 ghost use Rattle.http_cache_report.specs.Urls.{is_sent_later, sent_additions, asked_additions, kind_additions, row_additions, sums_of};
 ghost use Rattle.http_cache_report.specs.Urls.{life_by, life_of_used, life_of, url_at, urls_in, url_if};
 
+use crate::copies::entry_of;
 use crate::visit::full_of;
+use http::HeaderMap;
+use http::header::{AUTHORIZATION, COOKIE};
 use http_cache_audit::by_url::{is_asked_row, is_hit, urls_of};
 use http_cache_audit::cost::{Known, known_at, used_in};
 use http_cache_audit::counts::Counts;
 use http_cache_audit::order::target_of;
 use http_cache_audit::row::{Lifetime, Received, Row};
+use http_cache_fields::headers::contains_key;
 use http_cache_recording::{Kind, Reading, Recorded};
 use std::alloc::{AllocError, Global};
 
@@ -124,6 +129,30 @@ fn add_no_cache(counts: &mut Counts, row: &Row<'_>) -> Result<(), AllocError>
     Ok(())
 }
 
+fn are_with_credentials(headers: &HeaderMap) -> bool
+    ensures { result ≡ are_with_credentials (headers_of headers.now) }
+{
+    contains_key(headers, COOKIE) || contains_key(headers, AUTHORIZATION)
+}
+
+// Returns whether a request had Cookie or Authorization.
+fn has_credentials(row: &Row<'_>) -> bool
+    ensures { result ≡ has_credentials (row_seen row.now) }
+{
+    match entry_of(row.recorded) {
+        Some(entry) => are_with_credentials(&entry.headers),
+        None => false,
+    }
+}
+
+fn add_credentials(counts: &mut Counts, row: &Row<'_>) -> Result<(), AllocError>
+    ensures { OnOk result (CountsAlso (credential_additions (row_seen row.now))
+        counts.old counts.new) }
+{
+    let url = target_of(row.recorded);
+    counts.add_if(has_credentials(row), "with_credentials", url, 1)
+}
+
 fn is_sent_later(is_first: bool, sent: u64) -> bool
     ensures { result ≡ is_sent_later is_first sent }
 {
@@ -149,6 +178,7 @@ fn add_asked(counts: &mut Counts, row: &Row<'_>, is_first: bool) -> Result<(), A
     add_sent(counts, row, is_first)?;
     add_hit(counts, row)?;
     add_no_cache(counts, row)?;
+    add_credentials(counts, row)?;
     Ok(())
 }
 

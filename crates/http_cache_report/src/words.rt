@@ -60,6 +60,43 @@ impl<'a> UrlStyle<'a> {
     }
 }
 
+/// The width of the column of urls, with a blank after it.
+pub const COLUMN: usize = 33;
+
+/// The greatest length of a text outside the columns.
+pub const LONGEST: usize = 80;
+
+/// Returns a text of at most so many bytes: the front and the end of a longer one.
+pub fn cut(alloc: Global, text: &str, most: usize) -> Result<String, AllocError> {
+    if text.len() <= most {
+        return String::from_str(alloc, text);
+    }
+    let half = most / 2;
+    let front = &text[..text.floor_char_boundary(most.saturating_sub(half + 2))];
+    let end = &text[text.floor_char_boundary(text.len().saturating_sub(half))..];
+    format!(in alloc; "{front}..{end}")
+}
+
+/// Returns a url for a column: it has no queries if they are left out, and is cut if it is long.
+pub fn column_text(
+    alloc: Global,
+    short: &UrlStyle<'_>,
+    recorded: &[Recorded],
+    index: usize,
+) -> Result<String, AllocError> {
+    cut(alloc, short.url_text(recorded, index), COLUMN)
+}
+
+/// Returns what the response of an entry says of caching, cut if it is long.
+pub fn said_briefly(
+    alloc: Global,
+    recorded: &[Recorded],
+    index: usize,
+) -> Result<String, AllocError> {
+    let said = said_at(alloc, recorded, index)?;
+    cut(alloc, said.as_str(), LONGEST)
+}
+
 /// Adds a text, with a comma before it unless it is the first.
 pub fn push_piece(out: &mut String, piece: &str) -> Result<(), AllocError> {
     if !out.is_empty() {

@@ -1,55 +1,76 @@
 //! Finds what looks wrong, and says what to send instead.
-ghost use Rattle.std.specs.Prelude.{◌≡◌, ◌++◌, map, codes, IfOk, OnOk, string_bytes};
-ghost use Rattle.std.specs.List.{flat_map};
-ghost use Rattle.http_cache_recording.specs.Entry.{recorded_seen, reading_seen};
-ghost use Rattle.http_cache_audit.specs.Lint.{hint};
-ghost use Rattle.http_cache_report.specs.Wrong.{hints_in, hints_at, faults_of, has_faults};
-ghost use Rattle.http_cache_report.specs.Wrong.{wrong_of};
-
+use crate::advice::{is_page, is_part};
 use crate::by_size::{MOST, order_of, push_rest};
-use crate::urls::Url;
-use crate::words::UrlStyle;
+use crate::urls::{Life, Url};
+use crate::words::{UrlStyle, column_text};
+use http::HeaderMap;
+use http_cache_audit::cost::response_of;
 use http_cache_audit::lint::hints_of;
+use http_cache_fields::reading::says;
 use http_cache_recording::{Reading, Recorded};
 use std::alloc::{AllocError, Global};
 use std::fmt::Write;
 
-fn hints_in(alloc: Global, reading: &Reading) -> Result<Vec<String>, AllocError>
-    ensures { IfOk result (λ all. map string_bytes all.items ≡ hints_in (reading_seen reading.now)) }
-{
-    match reading {
-        Reading::Entry(entry) => hints_of(alloc, entry),
-        Reading::Skipped(_) => Ok(Vec::new(alloc)),
-    }
-}
-
-fn hints_at(alloc: Global, recorded: &[Recorded], index: usize) -> Result<Vec<String>, AllocError>
-    ensures { IfOk result (λ all. map string_bytes all.items
-        ≡ hints_at (map recorded_seen recorded.now) index) }
-{
+fn hints_at(alloc: Global, recorded: &[Recorded], index: usize) -> Result<Vec<String>, AllocError> {
     match recorded.get(index) {
-        Some(one) => hints_in(alloc, &one.reading),
+        Some(one) => match &one.reading {
+            Reading::Entry(entry) => hints_of(alloc, entry),
+            Reading::Skipped(_) => Ok(Vec::new(alloc)),
+        },
         None => Ok(Vec::new(alloc)),
     }
 }
 
-fn push_in_full(alloc: Global, all: &mut Vec<String>, in_full: bool) -> Result<(), AllocError>
-    ensures { OnOk result (map string_bytes all.new.items ≡ map string_bytes all.old.items
-        ++ hint in_full (codes "sent in full to its own validator")) }
-{
-    if in_full {
-        all.push(String::from_str(alloc, "sent in full to its own validator")?)?;
+fn push_if(
+    alloc: Global,
+    all: &mut Vec<String>,
+    holds: bool,
+    words: &str,
+) -> Result<(), AllocError> {
+    if holds {
+        all.push(String::from_str(alloc, words)?)?;
     }
     Ok(())
 }
 
-/// Returns the faults of a url: in its headers, and in how its server answers a condition.
-pub fn faults_of(alloc: Global, recorded: &[Recorded], url: &Url) -> Result<Vec<String>, AllocError>
-    ensures { IfOk result (λ all. map string_bytes all.items
-        ≡ faults_of (map recorded_seen recorded.now) url.now) }
-{
+fn headers_at(recorded: &[Recorded], index: usize) -> Option<&HeaderMap> {
+    Some(&response_of(recorded.get(index)?)?.headers)
+}
+
+fn is_unstored_part(recorded: &[Recorded], url: &Url) -> bool {
+    match headers_at(recorded, url.full) {
+        Some(headers) => is_part(headers) && says(headers, "no-store"),
+        None => false,
+    }
+}
+
+fn is_guessed_page(recorded: &[Recorded], url: &Url) -> bool {
+    match headers_at(recorded, url.full) {
+        Some(headers) => is_page(headers) && matches!(url.life, Life::Guessed(1..)),
+        None => false,
+    }
+}
+
+/// Returns the faults of a url: in its headers, in its lifetime, and in how its server answers a
+/// condition.
+pub fn faults_of(
+    alloc: Global,
+    recorded: &[Recorded],
+    url: &Url,
+) -> Result<Vec<String>, AllocError> {
     let mut all = hints_at(alloc, recorded, url.full)?;
-    push_in_full(alloc, &mut all, url.known.in_full)?;
+    let (unstored, guessed) = (
+        is_unstored_part(recorded, url),
+        is_guessed_page(recorded, url),
+    );
+    push_if(alloc, &mut all, unstored, "no-store on a part of pages")?;
+    push_if(alloc, &mut all, guessed, "a page whose lifetime is guessed")?;
+    push_if(
+        alloc,
+        &mut all,
+        url.known.in_full,
+        "sent in full to its own validator",
+    )?;
     Ok(all)
 }
 
@@ -63,9 +84,12 @@ pub fn send_for(words: &str) -> &'static str {
         "a max-age that can't be read" => "a number of seconds",
         "no-store beside max-age" => "only no-store, or only the lifetime",
         "public beside private" => "private if it is one user's, else public",
+        "Set-Cookie on what is shared" => "private, or the cookie in a response of its own",
+        "CDN-Cache-Control" => "nothing: a CDN obeys it first, and it isn't read here",
+        "Surrogate-Control" => "nothing: some CDNs obey it first, and it isn't read here",
+        "a permanent redirect without a lifetime" => "Cache-Control: max-age=N, or no-cache",
         "Pragma without Cache-Control" => "Cache-Control: no-cache",
         "Expires without Cache-Control" => "Cache-Control: max-age=N",
-        "Expires against max-age" => "only max-age",
         "an Expires that can't be read" => "Cache-Control: max-age=N",
         "an ETag without quotes" => "the ETag in quotes",
         "a Date in the future" => "the right time",
@@ -73,6 +97,8 @@ pub fn send_for(words: &str) -> &'static str {
         "Vary: *" => "no Vary",
         "Vary: Cookie" => "private if it is one user's, else no Vary",
         "Vary: User-Agent" => "no Vary",
+        "no-store on a part of pages" => "a lifetime, if it may lie on a disk",
+        "a page whose lifetime is guessed" => "Cache-Control: no-cache, or max-age=N",
         "sent in full to its own validator" => "a 304 to If-None-Match",
         _ => "",
     }
@@ -98,21 +124,22 @@ fn push_url(
     url: &Url,
 ) -> Result<(), AllocError> {
     let faults = faults_of(alloc, recorded, url)?;
-    push_faults(out, short.url_text(recorded, url.entry), faults.as_slice())
+    let text = column_text(alloc, short, recorded, url.entry)?;
+    push_faults(out, text.as_str(), faults.as_slice())
 }
 
 /// Returns whether a url has faults.
-pub fn has_faults(alloc: Global, recorded: &[Recorded], url: &Url) -> Result<bool, AllocError>
-    ensures { IfOk result (λ holds. holds ≡ has_faults (map recorded_seen recorded.now) url.now) }
-{
+pub fn has_faults(alloc: Global, recorded: &[Recorded], url: &Url) -> Result<bool, AllocError> {
     let faults = faults_of(alloc, recorded, url)?;
     Ok(!faults.is_empty())
 }
 
 /// Returns for each url whether it has faults.
-pub fn wrong_of(alloc: Global, recorded: &[Recorded], urls: &[Url]) -> Result<Vec<bool>, AllocError>
-    ensures { IfOk result (λ all. all.items ≡ wrong_of (map recorded_seen recorded.now) urls.now) }
-{
+pub fn wrong_of(
+    alloc: Global,
+    recorded: &[Recorded],
+    urls: &[Url],
+) -> Result<Vec<bool>, AllocError> {
     let mut all = Vec::with_capacity(alloc, urls.len())?;
     for url in urls {
         all.push(has_faults(alloc, recorded, url)?)?;

@@ -1,9 +1,0 @@
--- Each earlier url has its answer.
-use Rattle.std.proofs.Common.{◌≡◌, map, take}
-use Rattle.http_cache_recording.specs.Entry.{recorded_seen}
-use Rattle.http_cache_report.specs.InOrder.{is_checked}
-use Rattle.http_cache_report.proofs.in_order.checked_of.Given as goal
-
-abbrev pub invariant-loop-url : goal.invariant-loop-url
-invariant-loop-url l =
-    l.all.items ≡ map (is_checked (map recorded_seen l.recorded) l.visits l.picks) (take l.url-index l.urls)
