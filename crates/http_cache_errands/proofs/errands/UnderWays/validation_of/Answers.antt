@@ -24,6 +24,10 @@ pub loop-token-preserved : goal.loop-token-preserved
 loop-token-preserved c =
     let done = c.loop-token.invariant.2.0 in
     let one : ℕ × UnderWay = (c.in-Some.token.now, c.in-Some.one.now) in (
-      tt, tt, (done ++ one ∷ [],
-      c.loop-token.invariant.2.1 ∙ ap (λ es. done ++ es) c.in-Some.ensures.steps ∙ sym (append_assoc done (one ∷ []) c.next.new.self)),
+      tt,
+      tt,
+      (
+        done ++ one ∷ [],
+        c.loop-token.invariant.2.1 ∙ ap (λ es. done ++ es) c.in-Some.ensures.steps ∙ sym (append_assoc done (one ∷ []) c.next.new.self),
+      ),
     )
