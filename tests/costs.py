@@ -178,7 +178,7 @@ def is_same(a, b):
 
 def audited(program, log, words):
     text = json.dumps({"log": log}).encode()
-    ended = subprocess.run([program, "--json", *words], input=text, capture_output=True, timeout=60)
+    ended = subprocess.run([program, "--json-lines", *words], input=text, capture_output=True, timeout=60)
     return [json.loads(line) for line in ended.stdout.decode().splitlines()]
 
 

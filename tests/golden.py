@@ -1,19 +1,29 @@
-"""Compares each form of an audit with a file of tests/recordings/golden: the words, the layout and the order. No contract speaks
-of them. Their numbers are compared with references elsewhere (tests/audit, tests/report.py, tests/visits.py).
+"""Compares each form of an audit with the files of tests/recordings/golden: the words, the layout and the order. No contract
+speaks of them. Their numbers are compared with references elsewhere (tests/audit, tests/report.py, tests/visits.py).
 
-Called with a program, it writes the files anew; read the difference before it is committed."""
+A file is named for its recording and its form. Called with a program, this writes the files anew, and those of further names;
+read the difference before it is committed."""
 import subprocess
 import sys
 from pathlib import Path
 
 FOLDER = Path(__file__).resolve().parent / "recordings"
-# The words of the command line for each file, whose name begins with the recording's.
-FORMS = {"site.txt": [], "site.lines": ["--lines"], "site.jsonl": ["--json"], "site.html": ["--html"]}
+# The words of the command line for each form.
+FORMS = {
+    "txt": [],
+    "lines": ["--lines"],
+    "json": ["--json"],
+    "jsonl": ["--json-lines"],
+    "html": ["--html"],
+    "urls": ["--by-url"],
+    "with": ["--with", "*.js: Cache-Control: max-age=600", "--with", "*: ETag:"],
+}
 
 
 def audited(program, name):
-    recording = FOLDER / f"{name.partition('.')[0]}.har"
-    return subprocess.run([program, *FORMS[name], recording], capture_output=True, timeout=60).stdout
+    recording, _, form = name.partition(".")
+    given = next(FOLDER.glob(f"{recording}.h*")).read_bytes()
+    return subprocess.run([program, *FORMS[form]], input=given, capture_output=True, timeout=60).stdout
 
 
 def first_difference(got, wanted):
@@ -26,14 +36,15 @@ def first_difference(got, wanted):
 
 def golden_faults(program):
     """Returns how many forms were compared, and the first difference of each that differs."""
-    faults = []
-    for name in FORMS:
-        got, wanted = audited(program, name), (FOLDER / "golden" / name).read_bytes()
+    paths, faults = sorted((FOLDER / "golden").iterdir()), []
+    for path in paths:
+        got, wanted = audited(program, path.name), path.read_bytes()
         if got != wanted:
-            faults.append((name, *first_difference(got, wanted)))
-    return len(FORMS), faults
+            faults.append((path.name, *first_difference(got, wanted)))
+    return len(paths), faults
 
 
 if __name__ == "__main__":
-    for golden in FORMS:
+    written = [path.name for path in (FOLDER / "golden").iterdir()]
+    for golden in sorted({*written, *sys.argv[2:]}):
         (FOLDER / "golden" / golden).write_bytes(audited(sys.argv[1], golden))

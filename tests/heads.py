@@ -341,7 +341,7 @@ def row_faults(program, audit):
     """Returns how many heads and errors were compared, and the faults."""
     count, faults = 0, []
     for case in cases():
-        out, error = audit(program, b"".join(part.text for part in case.parts), ("--json",))
+        out, error = audit(program, b"".join(part.text for part in case.parts), ("--json-lines",))
         rows, right = rows_of(out), wanted(case)
         seen = [{name: row.get(name) for name in want} for row, want in zip(rows, right)]
         count += max(len(right), 1)

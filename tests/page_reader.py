@@ -6,18 +6,21 @@ import re
 from html.parser import HTMLParser
 from pathlib import Path
 
-SOURCES = Path(__file__).resolve().parent.parent / "crates" / "http_cache_page" / "src"
+SOURCES = Path(__file__).resolve().parent.parent / "crates" / "http_cache_show" / "src"
 EMPTY = {"meta", "link", "input"}
 BLOCKS = {"tr", "li", "p", "h1", "h2", "h3", "title", "summary", "pre"}
 # The attributes with a number in them.
 NUMBERS = {("rect", "width", "N%"), ("svg", "height", "N"), ("a", "href", "#rN"), ("tr", "id", "rN"), ("td", "data-v", "N"),
-           ("h3", "data-v", "N")}
+           ("h3", "data-v", "N"), ("td", "class", "c cN")}
+
+# The letters for what became of a request, which are classes too.
+LETTERS = "FVBNSYCURMEA"
 
 
 def attributes_of_sources():
-    """Returns the attributes in the constants of the sources."""
+    """Returns the attributes in the constants of the sources, and the classes of the letters of the timeline."""
     text = "".join(path.read_text() for path in SOURCES.glob("*.rt")).replace('\\"', '"')
-    return {(name.lower(), value) for name, value in re.findall(r'([A-Za-z-]+)="([^"]*)"', text)} | {("hidden", None)}
+    return {(name.lower(), value) for name, value in re.findall(r'([A-Za-z-]+)="([^"]*)"', text)} | {("hidden", None)} | {("class", letter) for letter in LETTERS}
 
 
 KNOWN = attributes_of_sources()

@@ -138,7 +138,7 @@ def are_plain(text, entries, summary):
 
 
 def faults_of(program, case):
-    ended, plain = run_on(program, case, ["--json"]), run_on(program, case, ["--lines"])
+    ended, plain = run_on(program, case, ["--json-lines"]), run_on(program, case, ["--lines"])
     if (ended.returncode, plain.returncode) != (0, 0):
         return [(case["title"], ended.returncode, ended.stderr, plain.stderr)]
     *rows, summary = [json.loads(line) for line in ended.stdout.decode().splitlines()]

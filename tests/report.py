@@ -118,7 +118,7 @@ def hostile_faults(program):
     forged = recording_of([entry(0, "p", "http://h/"), entry(1, "q", FORGED, _fromCache="\x1b[31m", method="\x9b")])
     text = report(program, forged)
     faults += [("forged", text)] if f", 1 of {ESCAPED}, in 0 s" not in text or re.search(r"[^ -~\n]", text) else []
-    for words in (["--json"], ["--lines"], ["--by-url"]):
+    for words in (["--json"], ["--json-lines"], ["--lines"], ["--by-url"]):
         text = report(program, forged, words)
         faults += [("forged", *words, text)] if re.search(r"[^ -~\n]", text) else []
     value = ("Cache-Control", LONG_VALUE)
@@ -127,9 +127,9 @@ def hostile_faults(program):
     faults += [("glued columns",)] if lacking(long, [["  /aaaaaaaaaaaaaa..aaaaaaaaaaab.css ", " req "]]) else []
     worker = entry(1, "p", "http://h/a", _fromCache="disk")
     worker["response"]["_fetchedViaServiceWorker"] = True
-    row = json.loads(report(program, recording_of([entry(0, "p", "http://h/"), worker]), ["--json"]).splitlines()[1])
+    row = json.loads(report(program, recording_of([entry(0, "p", "http://h/"), worker]), ["--json-lines"]).splitlines()[1])
     faults += [("a service worker", row)] if "browser" in row or row.get("reason") != "service worker" or row.get("sent") else []
-    return 6, faults
+    return 7, faults
 
 
 def kilobytes(count):

@@ -9,12 +9,18 @@ import zlib
 from pathlib import Path
 
 EXAMPLE = Path(__file__).resolve().parent.parent / "examples" / "session.har"
-OPTIONS = ["--private", "--shared", "--heuristic", "--lines", "--json", "--by-url", "--no-query", "--ignore-request-no-cache", "--with",
+OPTIONS = ["--private", "--shared", "--heuristic", "--lines", "--json", "--json-lines", "--by-url", "--no-query", "--ignore-request-no-cache", "--with",
            "--fail-under"]
-UNKNOWN = "cacheaudit: unknown argument; --help lists them\n"
+# The last words of command lines that bin/cacheaudit refuses by itself.
+EARLY = ["--lins", "-", "b.har", "--heuristic"]
+UNKNOWN = "cacheaudit: unknown argument '{}'; --help lists them\n"
+NOT_TEXT = "cacheaudit: an argument isn't UTF-8; --help lists them\n"
+NO_VALUE = "cacheaudit: {}: no value; --help lists them\n"
+FRACTION = "cacheaudit: --heuristic: not a fraction N/D: '{}'\n"
+TOGETHER = "cacheaudit: {} and {} can't be used together\n"
 NOTHING = "cacheaudit: no entry was audited\n"
 CHANGE = "cacheaudit: --with: "
-RATE = "cacheaudit: --fail-under: not a whole number from 0 to 100\n"
+RATE = "cacheaudit: --fail-under: not a whole number from 0 to 100: '{}'\n"
 FEW = "cacheaudit: 4 of 13 repeated requests are hits, fewer than {} %\n"
 LIMIT = 48 << 20
 
@@ -33,12 +39,13 @@ def hostile_changes(recording):
         (["--with", "*: Content-Length: -1"], recording, 0, ""),
         (["--with", "*: Date: Fri, 31 Dec 9999 23:59:59 GMT"], recording, 0, ""),
         (["--with", "*: Cache-Control: max-age=" + "9" * 1000], recording, 0, ""),
-        (["--with", "*: ETag: a\r\nSet-Cookie: b=1"], recording, 64, CHANGE + "not a header value\n"),
-        (["--with", "*: ETag: \x7f"], recording, 64, CHANGE + "not a header value\n"),
-        (["--with", "*: Cache-Control\r\nX: y: 1"], recording, 64, CHANGE + "not a header name\n"),
-        (["--with", "*: \u00e9: 1"], recording, 64, CHANGE + "not a header name\n"),
-        (["--with", "*: " + "a" * 100_000 + ": b"], recording, 64, CHANGE + "not a header name\n"),
-        (["--with", b"*: ETag: \xff"], recording, 64, UNKNOWN),
+        (["--with", "*: ETag: a\r\nSet-Cookie: b=1"], recording, 64, CHANGE + "not a header value: '*: ETag: a??Set-Cookie: b=1'\n"),
+        (["--with", "*: ETag: \x7f"], recording, 64, CHANGE + "not a header value: '*: ETag: ?'\n"),
+        (["--with", "*: Cache-Control\r\nX: y: 1"], recording, 64, CHANGE + "not a header name: '*: Cache-Control??X: y: 1'\n"),
+        (["--with", "*: \u00e9: 1"], recording, 64, CHANGE + "not a header name: '*: ??: 1'\n"),
+        (["--with", "*: " + "a" * 100_000 + ": b"], recording, 64, CHANGE + f"not a header name: '*: {'a' * 95}..{'a' * 97}: b'\n"),
+        (["--with", b"*: ETag: \xff"], recording, 64, NOT_TEXT),
+        (["--\x1b[2J\u202e\nx"], recording, 64, UNKNOWN.format("--?[2J????x")),
     ]
 
 
@@ -70,38 +77,39 @@ def runs():
         ([], b"HTTP/1.1 20 OK\r\n\r\n", 2, "cacheaudit: heads: not a response head at line 1\n"),
         ([], b"HTTP/1.1 100 \r\n\r\n", 2, "cacheaudit: heads: no response head\n"),
         *[(words, b"HTTP/1.1 200 \r\n\r\n", 0, "") for words in ([], ["--lines"], ["--fail-under", "50"], ["--with", "*: ETag:"])],
-        (["--json"], b'{"entries":[1,null]}', 1, NOTHING),
-        (["--nothing"], b"", 64, UNKNOWN),
-        (["-"], b"", 64, UNKNOWN),
-        ([str(EXAMPLE), str(EXAMPLE)], b"", 64, UNKNOWN),
-        (["--heuristic"], b"", 64, UNKNOWN),
-        (["--heuristic", "1/0"], b"", 64, UNKNOWN),
-        (["--heuristic", "1"], b"", 64, UNKNOWN),
-        (["--with"], b"", 64, UNKNOWN),
-        (["--with", "*: ETag"], b"", 64, CHANGE + "not `PATTERN: HEADER: VALUE`\n"),
-        (["--with", "*"], b"", 64, CHANGE + "not `PATTERN: HEADER: VALUE`\n"),
-        (["--with", "*: E Tag: x"], b"", 64, CHANGE + "not a header name\n"),
-        (["--with", "*: : x"], b"", 64, CHANGE + "not a header name\n"),
-        (["--with", "*: ETag: a\nb"], b"", 64, CHANGE + "not a header value\n"),
+        (["--json-lines"], b'{"entries":[1,null]}', 1, NOTHING),
+        (["--lins"], b"", 64, UNKNOWN.format("--lins")),
+        (["-"], b"", 64, UNKNOWN.format("-")),
+        ([str(EXAMPLE), "b.har"], b"", 64, "cacheaudit: a second file: 'b.har'\n"),
+        (["--heuristic"], b"", 64, NO_VALUE.format("--heuristic")),
+        (["--heuristic", "1/0"], b"", 64, FRACTION.format("1/0")),
+        (["--heuristic", "1"], b"", 64, FRACTION.format("1")),
+        (["--with"], b"", 64, NO_VALUE.format("--with")),
+        (["--with", "*: ETag"], b"", 64, CHANGE + "not `PATTERN: HEADER: VALUE`: '*: ETag'\n"),
+        (["--with", "*"], b"", 64, CHANGE + "not `PATTERN: HEADER: VALUE`: '*'\n"),
+        (["--with", "*: E Tag: x"], b"", 64, CHANGE + "not a header name: '*: E Tag: x'\n"),
+        (["--with", "*: : x"], b"", 64, CHANGE + "not a header name: '*: : x'\n"),
+        (["--with", "*: ETag: a\nb"], b"", 64, CHANGE + "not a header value: '*: ETag: a?b'\n"),
         (["--with", "*: ETag:"], bytes_of, 0, ""),
         (["--with", "*: ETag: : "], bytes_of, 0, ""),
         (["--with", "*: ETag:", "--with", "a: b: c"], b"[]", 1, NOTHING),
         *hostile_changes(bytes_of),
-        (["--fail-under", "101"], b"", 64, RATE),
-        (["--fail-under", "-1"], b"", 64, RATE),
-        (["--fail-under", "60 "], b"", 64, RATE),
-        (["--fail-under"], b"", 64, UNKNOWN),
-        (["--fail-under", "1", "--with", "*: ETag:"], bytes_of, 64, UNKNOWN),
+        (["--fail-under", "101"], b"", 64, RATE.format("101")),
+        (["--fail-under", "-1"], b"", 64, RATE.format("-1")),
+        (["--fail-under", "60 "], b"", 64, RATE.format("60 ")),
+        (["--fail-under"], b"", 64, NO_VALUE.format("--fail-under")),
+        (["--fail-under", "1", "--with", "*: ETag:"], bytes_of, 64, TOGETHER.format("--with", "--fail-under")),
         (["--lines", "--fail-under", "30"], bytes_of, 0, ""),
         (["--shared", "--fail-under", "31"], bytes_of, 4, FEW.format(31)),
         (["--private", "--fail-under", "31"], bytes_of, 0, ""),
         (["--fail-under", "100"], b"[]", 1, NOTHING),
         (["--by-url"], bytes_of, 0, ""),
         (["--by-url"], b"[]", 1, NOTHING),
-        (["--by-url", "--fail-under", "1"], bytes_of, 64, UNKNOWN),
-        (["--by-url", "--with", "*: ETag:"], bytes_of, 64, UNKNOWN),
+        (["--by-url", "--fail-under", "1"], bytes_of, 64, TOGETHER.format("--by-url", "--fail-under")),
+        (["--by-url", "--with", "*: ETag:"], bytes_of, 64, TOGETHER.format("--by-url", "--with")),
         ([str(EXAMPLE.parent / "nothing.har")], b"", 2, f"cacheaudit: {EXAMPLE.parent}/nothing.har: "),
         ([str(EXAMPLE.parent)], b"", 2, "cacheaudit: "),
+        (["\x1b[2J\n\u202e.har"], b"", 2, "cacheaudit: ?[2J????.har: "),
     ]
 
 
@@ -159,9 +167,19 @@ def without_memory(program):
     return 1, [] if is_so else [("out of memory", run.returncode, run.stderr)]
 
 
+def early_faults():
+    """Checks that bin/cacheaudit refuses words without the program, within two seconds, and by the program's line."""
+    command, faults = EXAMPLE.parent.parent / "bin" / "cacheaudit", []
+    for words, _, status, error in (run for run in runs() if run[2] == 64 and run[0][-1] in EARLY):
+        run = subprocess.run([command, *words], input=b"", capture_output=True, timeout=2)
+        if not is_ended_so(run, status, error):
+            faults.append(("bin/cacheaudit", words, run.returncode, run.stderr, "wanted", error))
+    return len(EARLY), faults
+
+
 def status_faults(program):
     """Returns how many runs and checks there are, and the faults."""
-    counted = [option_faults(program), without_memory(program)]
+    counted = [option_faults(program), without_memory(program), early_faults()]
     faults = [fault for _, some in counted for fault in some]
     wanted = runs()
     for words, given, status, error in wanted:

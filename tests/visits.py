@@ -2,9 +2,8 @@
 
 What later loads send, and what the advice saves, is worked out by a second walk over the recording, with the advised headers.
 For a later visit the requests of the first load are repeated at the end of the recording, with times, Date and Expires moved.
-The program makes these walks by --json. The costs of their rows are added up here."""
+The program makes these walks by --json-lines. The costs of their rows are added up here."""
 import copy
-import html
 import json
 import re
 import subprocess
@@ -16,9 +15,6 @@ from costs import ASKED, FRESH, VALIDATE, Recorded, audited, header, is_same, pa
 DELAYS = (3600, 86400, 7 * 86400, 30 * 86400)
 CONDITIONS = ("if-none-match", "if-modified-since")
 ADVISED = re.compile(r"      -> (?:Cache-Control: )?(.*?)((?:, and )?an ETag)?((?:, and )?answer 304 to its ETag)?$")
-# A row of the page on what to change first, and one on later visits: the url and what to send.
-CHANGED = re.compile(r'<tr><th scope="row" class="u"><code>([^<]*)</code></th><td class="n r">.*?<td class="new">(.*?)<small class="why">')
-LISTED = re.compile(r'<tr><th scope="row" class="u"><code>([^<]*)</code></th><td class="n size">.*<td class="do"><code>([^<]+)</code></td></tr>')
 
 
 def took(entry):
@@ -221,16 +217,42 @@ def advised(session, text):
     return found
 
 
-def advised_on_page(session, page):
-    """Returns all urls that have an advice on the page, which lists more than the report, with the advice for each."""
-    by_short = {}
-    for url in session.urls:
-        by_short.setdefault(shortened(url, session.host), url)
-    found = {}
-    for short, words in [*LISTED.findall(page), *CHANGED.findall(page.replace("\n", " "))]:
-        control = re.search(r"(?:private, )?max-age=\d+(?:, immutable)?", words)
-        found[by_short[html.unescape(short)]] = control[0] if control else "", "an ETag" in words, "answer 304" in words
-    return found
+def advised_in(found):
+    """Returns all urls that have an advice in the object of --json, with the advice for each."""
+    sent = [(one["url"], one["send"]) for one in [*found["changes"], *found["visited"]] if one["send"]]
+    return {url: (send["cache_control"] or "", send["etag"], send["answer_304"]) for url, send in sent}
+
+
+def is_by_visit(session):
+    return not any(not session.recorded.is_first(i) for i in session.recorded.order if session.rows[i]["verdict"] != "skipped")
+
+
+def wanted_change(session, url, visits, then, costs, costs_then, costs_alone):
+    """Returns the costs of a url that the object has to have: those now, with what is advised, and with 304s alone."""
+    now, after = (visits[1][2][url], then[1][2][url]) if is_by_visit(session) else (costs[url][1], costs_then[url][1])
+    first = {"first_load_now": costs[url][0], "first_load_then": costs_then[url][0]}
+    return {"cost_now": now, "cost_then": after, **first, "by_304_now": costs[url][1], "by_304_then": costs_alone[url][1]}
+
+
+def object_faults(session, found, visits, then, costs, costs_then, costs_alone):
+    """Returns how many parts of the object of --json were checked, and those with other numbers than the walks."""
+    faults = []
+    for one in found["changes"]:
+        wanted = wanted_change(session, one["url"], visits, then, costs, costs_then, costs_alone)
+        faults += [] if wanted.items() <= one.items() and one["cost_then"] < one["cost_now"] else [(one, wanted)]
+    for one, seconds, now, after in zip(found["visits"], DELAYS, visits, then):
+        wanted = {"after_seconds": seconds, "now": now[0], "then": after[0]}
+        got = {name: list(one[name].values()) if name != "after_seconds" else one[name] for name in wanted}
+        in_order = {name: [value[1], value[0], value[2]] if name != "after_seconds" else value for name, value in wanted.items()}
+        faults += [] if got == in_order else [(one, wanted)]
+    words = {"again": "again", "304": "304", "-": "nothing"}
+    for one in found["visited"]:
+        acts = [words[word(acts.get(one["url"], (False, False)))] for _, acts, _ in visits]
+        faults += [] if one["visits"] == acts else [(one, acts)]
+    guesses = guesses_of(session, visits)
+    # Without a row that stores one of these urls, only the browser's own answers show their lifetimes.
+    faults += [] if guesses is None or found["guesses"] == guesses else [(found["guesses"], guesses)]
+    return len(found["changes"]) + len(found["visits"]) + len(found["visited"]) + 1, faults
 
 
 def with_advice(session, advice):
@@ -261,7 +283,7 @@ def plain(session, log):
 def pick_lines(session, advice, visits, then, costs, costs_then, costs_alone):
     """Yields the pieces of the lines on what to change first."""
     later = session.later()
-    by_visit = not any(not session.recorded.is_first(i) for i in session.recorded.order if session.rows[i]["verdict"] != "skipped")
+    by_visit = is_by_visit(session)
     for url in advice:
         short = column(url, session.host)
         size = visits[1][2][url] if by_visit else later[url][0]
@@ -279,7 +301,7 @@ def order_of(session, advice, visits, then, costs, costs_then):
 
     Each has at least a hundredth of all bytes, and its full response is a 200."""
     later = session.later()
-    by_visit = not any(not session.recorded.is_first(i) for i in session.recorded.order if session.rows[i]["verdict"] != "skipped")
+    by_visit = is_by_visit(session)
     sizes = visits[1][2] if by_visit else {url: both[0] for url, both in later.items()}
     all_bytes = visits[1][0][0] if by_visit else sum(sizes.values())
 
@@ -293,8 +315,8 @@ def order_of(session, advice, visits, then, costs, costs_then):
     return sorted((url for url in listed if saved(url) > 0), key=lambda url: -saved(url))[:5]
 
 
-def guess_pieces(session, visits):
-    """Returns the pieces of the line on urls that state no lifetime."""
+def guesses_of(session, visits):
+    """Returns the sums of the urls that state no lifetime, or None if there are none."""
     found = {}
     for url in session.urls:
         i = session.sample[url]
@@ -304,11 +326,20 @@ def guess_pieces(session, visits):
         if session.recorded.is_first(i) and by == "last-modified" and seconds is not None and status < 400:
             found[url] = seconds, session.rows[session.full_index(i)].get("sent", 0)
     if not found:
+        return None
+    guesses, sizes = zip(*found.values())
+    counts = [sum(word(acts.get(url, (0, 0))) == "304" for url in found) for _, acts, _ in visits]
+    return {"urls": len(found), "bytes": sum(sizes), "least": min(guesses), "most": max(guesses), "answers_304": counts}
+
+
+def guess_pieces(session, visits):
+    """Returns the pieces of the line on urls that state no lifetime."""
+    found = guesses_of(session, visits)
+    if not found:
         return []
-    guesses = [seconds for seconds, _ in found.values()]
-    counts = "".join(f"{sum(word(acts.get(url, (0, 0))) == '304' for url in found):<6}" for _, acts, _ in visits)
-    return [[f"  {len(found)} that say no lifetime, {kilobytes(sum(size for _, size in found.values()))}, guessed as "
-             f"{duration(min(guesses))} to {duration(max(guesses))}; by a 304: {counts}"]]
+    counts = "".join(f"{count:<6}" for count in found["answers_304"])
+    return [[f"  {found['urls']} that say no lifetime, {kilobytes(found['bytes'])}, guessed as "
+             f"{duration(found['least'])} to {duration(found['most'])}; by a 304: {counts}"]]
 
 
 def act_lines(session, visits, text):
@@ -428,9 +459,9 @@ def visit_faults(program, recordings):
         text = subprocess.run([program, *words], input=recording, capture_output=True, timeout=60).stdout.decode()
         log, entries = session.recorded.log, session.recorded.entries
         visits = [session.visit(log, delay, session.in_full) for delay in DELAYS]
-        page = subprocess.run([program, "--html", *words], input=recording, capture_output=True, timeout=60).stdout.decode()
-        advice, every = advised(session, text), advised_on_page(session, page)
-        faults += [(name, "the page has other advice", url) for url in advice if every.get(url) != advice[url]]
+        found = json.loads(subprocess.run([program, "--json", *words], input=recording, capture_output=True, timeout=60).stdout)
+        advice, every = advised(session, text), advised_in(found)
+        faults += [(name, "the object has other advice", url) for url in advice if every.get(url) != advice[url]]
         changed = with_advice(session, every)
         still = session.in_full - {url for url, headers in every.items() if headers[2]}
         then = [session.visit(changed, delay, still) for delay in DELAYS]
@@ -449,7 +480,7 @@ def visit_faults(program, recordings):
         faults += [(name, pieces) for pieces in wanted if not any(all(piece in line for piece in pieces) for line in lines)]
         first = order_of(session, every, visits, then, costs, costs_then)
         faults += [(name, list(advice), first)] if list(advice) != first else []
-        checked, wrong = act_lines(session, visits, text)
-        count += checked
-        faults += [(name, *one) for one in wrong]
+        for checked, wrong in (act_lines(session, visits, text), object_faults(session, found, visits, then, costs, costs_then, costs_alone)):
+            count += checked
+            faults += [(name, *one) for one in wrong]
     return count, faults

@@ -6,10 +6,9 @@
 mod arguments;
 mod progress;
 
-use arguments::{Invocation, Order, Refusal, invocation_of};
-use http_cache_audit::change::ChangeError;
-use http_cache_report::error::AuditError;
-use http_cache_report::run::{Ended, run};
+use arguments::{Invocation, Order, Refusal, invocation_of, shown};
+use http_cache_show::error::AuditError;
+use http_cache_show::run::{Ended, run};
 use jiff::Timestamp;
 use progress::Watched;
 use std::fs::File;
@@ -19,13 +18,14 @@ use std::process::ExitCode;
 use std::{env, io};
 
 const USAGE: &str =
-    "usage: cacheaudit [--private | --shared] [--heuristic N/D] [--html | --lines | --json | --by-url]
+    "usage: cacheaudit [--private | --shared] [--heuristic N/D] [--html | --json | --lines | --json-lines | --by-url]
                   [--no-query] [--ignore-request-no-cache] [--with 'PATTERN: HEADER: VALUE']..
                   [--fail-under N] [FILE]
 reports of a recorded session (HAR 1.2) what to change first, what later visits cost, and what looks wrong;
 or of responses (the heads that curl -sI, -sIL or -si prints) what caches do with each, and what to send
     --html                     the report of a recorded session as one page of HTML, which needs nothing else
-    --lines, --json            a line or an object for each request: what a cache would have answered, and why
+    --json                     what the report finds in a recorded session as one JSON object
+    --lines, --json-lines      a line or an object for each request: what a cache would have answered, and why
     --by-url                   an object for each url
     --private, --shared        a cache of one user, as a browser's (the report's default), or of many, as a
                                CDN's (the default of all else)
@@ -122,7 +122,9 @@ fn audit_file(rt: &HostRuntime, path: &str, order: &Order) -> ExitCode {
     match File::open(rt, path) {
         Ok(file) => audit(rt, file, order),
         Err(e) => {
-            let _ = eprintln!(rt; "cacheaudit: {path}: {e}");
+            if let Ok(path) = shown(rt.alloc(), path) {
+                let _ = eprintln!(rt; "cacheaudit: {path}: {e}");
+            }
             ExitCode::from(AuditError::NotReadable.exit_status())
         }
     }
@@ -141,7 +143,7 @@ fn audit_input(rt: &HostRuntime, order: &Order) -> ExitCode {
 fn refuse(rt: &HostRuntime, refusal: Refusal) -> ExitCode {
     let _ = eprintln!(rt; "cacheaudit: {refusal}");
     ExitCode::from(match refusal {
-        Refusal::Change(ChangeError::Memory) => AuditError::Memory.exit_status(),
+        Refusal::Memory => AuditError::Memory.exit_status(),
         _ => NO_COMMAND,
     })
 }
@@ -156,7 +158,7 @@ fn say(rt: &HostRuntime, text: &str) -> ExitCode {
 fn main(rt: HostRuntime) -> ExitCode {
     let invocation = match env::args(&rt) {
         Ok(words) => invocation_of(rt.alloc(), words),
-        Err(_) => Err(Refusal::Unknown),
+        Err(_) => Err(Refusal::NotText),
     };
     match invocation {
         Ok(Invocation::Help) => say(&rt, USAGE),

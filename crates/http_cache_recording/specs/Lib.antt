@@ -7,3 +7,4 @@ pub mod Fields
 pub mod Printed
 pub mod Element
 pub mod Recording
+pub mod Heads

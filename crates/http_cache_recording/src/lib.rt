@@ -1,10 +1,12 @@
-//! Reads a recorded session (HAR 1.2), entry by entry. It knows nothing of caching.
+//! Reads a recorded session (HAR 1.2), entry by entry, or heads of responses. It knows nothing of
+//! caching.
 #![tactic(auto)]
 
 mod element;
 pub mod entry;
 mod error;
 mod fields;
+pub mod heads;
 mod mend;
 mod moment;
 mod number;

@@ -1,0 +1,6 @@
+-- Lemmas about what is found.
+pub mod ChangeLemmas
+pub mod ChangesLemmas
+pub mod CountsLemmas
+pub mod ReportLemmas
+pub mod VisitLemmas

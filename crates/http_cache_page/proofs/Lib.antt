@@ -1,3 +1,0 @@
-pub mod EscapeLemmas
-pub mod ConstantLemmas
-pub mod TagLemmas

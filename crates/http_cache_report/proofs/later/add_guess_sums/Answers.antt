@@ -1,7 +1,0 @@
-use Rattle.http_cache_audit.proofs.CountsLemmas.{also_then}
-use Rattle.http_cache_report.proofs.later.add_guess_sums.Goals as goal
-
-pub returns : goal.returns
-returns c =
-    also_then _ _ _ c.add.new.self _ c.in_ok-add.ensures
-    (also_then _ _ _ c.add-2.new.self _ c.in_ok-add-2.ensures c.in_ok-add_all_confirms.ensures)

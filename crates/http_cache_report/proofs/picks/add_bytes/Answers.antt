@@ -1,5 +1,0 @@
-use Rattle.http_cache_audit.proofs.CountsLemmas.{also_then}
-use Rattle.http_cache_report.proofs.picks.add_bytes.Goals as goal
-
-pub returns : goal.returns
-returns c = also_then _ _ _ c.add.new.self _ (rw (c.cost_name.ensures) at c.in_ok-add.ensures) c.in_ok-add_base.ensures

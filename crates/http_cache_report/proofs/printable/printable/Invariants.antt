@@ -1,7 +1,0 @@
--- The lines so far are printable.
-use Rattle.std.proofs.Common.{string_bytes}
-use Rattle.http_cache_report.specs.Printable.{IsPlain}
-use Rattle.http_cache_report.proofs.printable.printable.Given as goal
-
-abbrev pub invariant-loop-line : goal.invariant-loop-line
-invariant-loop-line l = IsPlain (string_bytes l.out)

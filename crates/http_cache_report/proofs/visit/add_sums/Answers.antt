@@ -1,6 +1,0 @@
-use Rattle.http_cache_audit.proofs.CountsLemmas.{also_then}
-use Rattle.http_cache_report.proofs.visit.add_sums.Goals as goal
-
-pub returns : goal.returns
-returns c =
-    also_then _ _ _ c.add_amounts.new.counts _ c.in_ok-add_amounts.ensures (rw c.is_again.ensures at c.in_ok-add_if.ensures)

@@ -1,0 +1,5 @@
+-- Lemmas about what is written.
+pub mod EscapeLemmas
+pub mod PrintableLemmas
+pub mod ReadLemmas
+pub mod TagLemmas

@@ -1,0 +1,4 @@
+pub mod ListLemmas
+pub mod SourcesLemmas
+pub mod StoredLemmas
+pub mod WalkLemmas

@@ -1,0 +1,10 @@
+pub mod Row
+pub mod Order
+pub mod Sources
+pub mod Assume
+pub mod Lifetime
+pub mod Own
+pub mod Again
+pub mod Stored
+pub mod Walk
+pub mod Settings
