@@ -8,10 +8,10 @@ ghost use Rattle.http_cache_findings.specs.Advice.{seconds_of, is_longer, is_sam
 
 use http::HeaderMap;
 use http::header::{CONTENT_TYPE, ETAG, LAST_MODIFIED, SET_COOKIE, VARY};
-use http_cache_walk::order::shown_url;
 use http_cache_fields::headers::{contains_key, first_text};
 use http_cache_fields::pieces::pieces_under;
 use http_cache_fields::reading::says;
+use http_cache_walk::order::shown_url;
 
 /// How long the advised response stays fresh.
 #[derive(Clone, Copy, PartialEq, Eq)]

@@ -7,11 +7,11 @@ ghost use Rattle.http_cache_findings.specs.Change.{change_seen, after_first, aft
 ghost use Rattle.http_cache_findings.specs.Change.{changed_answer, changed_reading, changed_by, changed, IsChange, IsNoChange};
 ghost use Rattle.http_cache_findings.specs.declared.change.ChangeError.TheVariants.{Memory};
 
-use http_cache_walk::assume::put_value;
-use http_cache_walk::order::target_of;
 use http::response;
 use http_cache_fields::headers::remove;
 use http_cache_recording::{Answer, Entry, Reading, Recorded, field_name, value_of_line};
+use http_cache_walk::assume::put_value;
+use http_cache_walk::order::target_of;
 use http_header::{HeaderName, HeaderValue};
 use std::alloc::{AllocError, Global};
 use thiserror::Error;

@@ -4,9 +4,9 @@ ghost use Rattle.std.specs.List.{flat_map, list_all};
 ghost use Rattle.std.specs.Option.{option_map_or, option_to_list};
 ghost use Rattle.http_cache_findings.specs.Changes.{price, change_by, saves, key_by, key_at, keys_of, change_if, change_at, AreChanges};
 
+use crate::counts::Counts;
 use crate::picks::{Base, Pick};
 use crate::remedy::Remedy;
-use crate::counts::Counts;
 use std::alloc::{AllocError, Global};
 
 /// A change of a url's headers.

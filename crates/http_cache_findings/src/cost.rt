@@ -16,12 +16,12 @@ ghost use Rattle.http_cache_findings.specs.Cost.{is_same_response, is_304, is_us
 ghost use Rattle.http_cache_findings.specs.Cost.{cost_by, cost_of, load_name, sum_additions, is_asked_reading};
 ghost use Rattle.http_cache_findings.specs.Cost.{cost_additions, all_costs};
 
-use http_cache_walk::again::{are_same_bodies, is_same_validator};
 use crate::counts::{Counts, is_asked, is_in_full};
-use http_cache_walk::order::target_of;
-use http_cache_walk::row::{Outcome, Row, Used};
 use http::response;
 use http_cache_recording::{Answer, Body, Reading, Recorded};
+use http_cache_walk::again::{are_same_bodies, is_same_validator};
+use http_cache_walk::order::target_of;
+use http_cache_walk::row::{Outcome, Row, Used};
 use jiff::Timestamp;
 use std::alloc::{AllocError, Global};
 

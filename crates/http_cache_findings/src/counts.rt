@@ -4,9 +4,9 @@ ghost use Rattle.http_cache_findings.specs.Counts.{label_of, when, total_in, Hol
 ghost use Rattle.http_cache_findings.specs.Counts.{is_noticed, is_in_full};
 ghost use Rattle.http_cache_walk.specs.Sources.{is_asked};
 
+use http_cache_recording::Kind;
 use http_cache_walk::row::Again;
 use http_cache_walk::texts::put;
-use http_cache_recording::Kind;
 use std::alloc::{AllocError, Global};
 use std::collections::BTreeMap;
 

@@ -10,6 +10,8 @@ ghost use Rattle.http_cache_findings.specs.Visit.{span_seen};
 ghost use Rattle.http_cache_findings.specs.Facts.{seconds_between, took, AreFacts, AreAlone, AreUrlCosts, known_repeat, repeats_after};
 ghost use Rattle.http_cache_findings.specs.Facts.{AreCostsWith, IsAfter, AreRepeats, AreFactsBy};
 
+use crate::cost::{Known, known_of};
+use crate::counts::Counts;
 use crate::findings::Loads;
 use crate::later::{Visits, visits_of};
 use crate::loads::{all_loads, loads_of};
@@ -20,12 +22,10 @@ use crate::remedy::{Remedy, is_still_in_full, remedied_all, restored_all};
 use crate::urls::{Url, sums_of, urls_in};
 use crate::visit::{Repeat, Span, repeats_of, span_of};
 use http::Uri;
-use crate::cost::{Known, known_of};
-use crate::counts::Counts;
-use http_cache_walk::row::Row;
-use http_cache_walk::walk::rows_of;
 use http_cache_recording::Recorded;
 use http_cache_semantics::CacheOptions;
+use http_cache_walk::row::Row;
+use http_cache_walk::walk::rows_of;
 use jiff::Timestamp;
 use std::alloc::{AllocError, Global};
 

@@ -2,13 +2,13 @@
 //! server answers a condition.
 use crate::advice::{is_page, is_part};
 use crate::by_size::order_of;
+use crate::cost::response_of;
 use crate::findings::{Fault, FaultyUrl};
+use crate::lint::{Flaw, flaws_of};
 use crate::queries::url_at;
 use crate::says::said_at;
 use crate::urls::{Life, Url};
 use http::HeaderMap;
-use crate::cost::response_of;
-use crate::lint::{Flaw, flaws_of};
 use http_cache_fields::reading::says;
 use http_cache_recording::{Reading, Recorded};
 use std::alloc::{AllocError, Global};

@@ -1,9 +1,9 @@
 //! What a report finds in a recording: numbers, urls and enums, without words or layout. A url has
 //! no query if queries are left out.
 use crate::advice::Advice;
+use crate::lint::Flaw;
 use crate::picks::Base;
 use crate::urls::Life;
-use crate::lint::Flaw;
 use http_cache_semantics::explain::Obstacles;
 
 /// The loads of a recording.

@@ -12,6 +12,7 @@ ghost use Rattle.http_cache_findings.specs.Plain.{changing_seen};
 
 use crate::by_size::order_of;
 use crate::changes::Change;
+use crate::counts::Counts;
 use crate::facts::{Facts, facts_of};
 use crate::faults::faulty_of;
 use crate::findings::{
@@ -32,10 +33,9 @@ use crate::split::split_of;
 use crate::urls::Url;
 use crate::visit::Span;
 use http::Uri;
-use crate::counts::Counts;
+use http_cache_recording::Recorded;
 use http_cache_walk::order::shown_url;
 use http_cache_walk::settings::{Settings, any_credentials, no_target};
-use http_cache_recording::Recorded;
 use std::alloc::{AllocError, Global};
 
 fn sent_of(sums: &Counts) -> Result<Sent, AllocError>
@@ -226,7 +226,13 @@ fn visited_of(
     for key in order.as_slice() {
         if let (Some(url), Some(is_listed)) = (urls.get(key.1), listed.get(key.1)) {
             all.push(visited_url(
-                alloc, recorded, hides_queries, facts, outlook, url, *is_listed,
+                alloc,
+                recorded,
+                hides_queries,
+                facts,
+                outlook,
+                url,
+                *is_listed,
             )?)?;
         }
     }
@@ -269,11 +275,7 @@ fn apart_of(alloc: Global, sums: &Counts) -> Result<Vec<Apart>, AllocError> {
 }
 
 // Returns what is found without visits.
-fn plain_findings(
-    alloc: Global,
-    facts: Facts,
-    no_credentials: bool,
-) -> Result<Findings, AllocError>
+fn plain_findings(alloc: Global, facts: Facts, no_credentials: bool) -> Result<Findings, AllocError>
     ensures { IfOk result (ArePlainFindings facts no_credentials) }
 {
     let sums = &facts.sums;
@@ -344,7 +346,15 @@ fn found_with(
 {
     let (outlook, recorded) = outlook_of(alloc, recorded, target, &settings.options, &facts, span)?;
     let all = recorded.as_slice();
-    let found = all_findings(alloc, all, target, settings, facts, &outlook, no_credentials)?;
+    let found = all_findings(
+        alloc,
+        all,
+        target,
+        settings,
+        facts,
+        &outlook,
+        no_credentials,
+    )?;
     Ok((found, recorded))
 }
 

@@ -5,13 +5,13 @@ ghost use Rattle.http_cache_findings.specs.Later.{any_asks, is_only_confirmed};
 ghost use Rattle.http_cache_findings.specs.Queries.{text_at};
 
 use crate::by_size::order_of;
+use crate::counts::Counts;
 use crate::faults::faults_of;
 use crate::findings::GoodUrl;
 use crate::later::{any_asks, is_again, is_changed, is_confirmed, is_given};
 use crate::outlook::Outlook;
 use crate::queries::{text_at, url_at};
 use crate::urls::{Life, Url};
-use crate::counts::Counts;
 use http_cache_recording::Recorded;
 use std::alloc::{AllocError, Global};
 
@@ -108,7 +108,14 @@ pub fn kept_of(
     for url in urls {
         listed.push(is_kept(alloc, recorded, outlook, url)?)?;
     }
-    good_of(alloc, recorded, hides_queries, sums, urls, listed.as_slice())
+    good_of(
+        alloc,
+        recorded,
+        hides_queries,
+        sums,
+        urls,
+        listed.as_slice(),
+    )
 }
 
 /// Returns the urls of the first load that say `no-cache`, and that a 304 confirms a day later.
@@ -124,5 +131,12 @@ pub fn checked_of(
     for url in urls {
         listed.push(is_checked(alloc, recorded, outlook, url)?)?;
     }
-    good_of(alloc, recorded, hides_queries, sums, urls, listed.as_slice())
+    good_of(
+        alloc,
+        recorded,
+        hides_queries,
+        sums,
+        urls,
+        listed.as_slice(),
+    )
 }

@@ -3,11 +3,11 @@ ghost use Rattle.std.specs.Prelude.{◌≡◌, map};
 ghost use Rattle.http_cache_recording.specs.Entry.{recorded_seen};
 ghost use Rattle.http_cache_findings.specs.Later.{guess_in, guess_of};
 
+use crate::counts::Counts;
 use crate::findings::Guesses;
 use crate::later::{Visits, is_again, is_confirmed, size_at, status_at};
 use crate::queries::text_at;
 use crate::urls::{Life, Url};
-use crate::counts::Counts;
 use http_cache_recording::Recorded;
 use std::alloc::{AllocError, Global};
 
@@ -32,11 +32,7 @@ pub fn guess_of(recorded: &[Recorded], url: &Url) -> Option<u64>
 }
 
 // Returns how many urls whose lifetime is guessed a 304 confirms at a visit.
-fn confirmed_of(
-    recorded: &[Recorded],
-    visit: &Counts,
-    urls: &[Url],
-) -> Result<u64, AllocError> {
+fn confirmed_of(recorded: &[Recorded], visit: &Counts, urls: &[Url]) -> Result<u64, AllocError> {
     let mut count = 0u64;
     for url in urls {
         let text = text_at(recorded, url.entry);

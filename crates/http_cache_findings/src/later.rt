@@ -8,14 +8,14 @@ ghost use Rattle.http_cache_findings.specs.Later.{sum_in, status_at, size_at, is
 
 use crate::advice::Advice;
 use crate::changes::Change;
+use crate::cost::response_of;
+use crate::counts::Counts;
 use crate::facts::Facts;
 use crate::picks::advice_for;
 use crate::queries::text_at;
 use crate::urls::{Life, Url};
 use crate::visit::{Repeat, Span, visit};
 use http::Uri;
-use crate::cost::response_of;
-use crate::counts::Counts;
 use http_cache_recording::Recorded;
 use http_cache_semantics::CacheOptions;
 use std::alloc::{AllocError, Global};

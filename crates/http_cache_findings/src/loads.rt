@@ -7,8 +7,8 @@ ghost use Rattle.http_cache_findings.specs.Counts.{CountsAlso, HoldsCounts, tota
 ghost use Rattle.http_cache_findings.specs.Loads.{page_additions, is_new, load_by, loads_of, url_at, page_url, load_addition};
 ghost use Rattle.http_cache_findings.specs.Loads.{load_additions, count_of, is_other, other_load};
 
-use crate::findings::Loads;
 use crate::counts::Counts;
+use crate::findings::Loads;
 use http_cache_walk::order::{shown_url, target_of};
 use http_cache_walk::row::Row;
 use std::alloc::{AllocError, Global};

@@ -10,6 +10,8 @@ ghost use Rattle.http_cache_findings.specs.Picks.{known_with, known_at};
 ghost use Rattle.http_cache_findings.specs.Picks.{known_after, cost_name, base_name, byte_additions, url_cost, url_costs_at, url_costs};
 
 use crate::advice::{Advice, Shown, advice_of};
+use crate::cost::{Known, cost_of, is_asked_reading, known_at, response_of};
+use crate::counts::Counts;
 use crate::facts::Facts;
 use crate::later::{Visits, is_asked_later};
 use crate::queries::{base_of as url_base, text_at};
@@ -17,16 +19,14 @@ use crate::remedy::{Remedy, is_still_in_full};
 use crate::urls::{Life, Url};
 use http::HeaderMap;
 use http::header::CACHE_CONTROL;
-use crate::cost::{Known, cost_of, is_asked_reading, known_at, response_of};
-use crate::counts::Counts;
-use http_cache_walk::order::target_of;
-use http_cache_walk::row::Row;
 use http_cache_fields::directives::split_piece;
 use http_cache_fields::headers::contains_key;
 use http_cache_fields::names::is_same_name;
 use http_cache_fields::pieces::pieces_under;
 use http_cache_fields::text::{number, unquote};
 use http_cache_recording::{Reading, Recorded};
+use http_cache_walk::order::target_of;
+use http_cache_walk::row::Row;
 use std::alloc::{AllocError, Global};
 
 /// The sums by which urls are ordered.

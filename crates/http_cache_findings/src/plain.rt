@@ -4,8 +4,8 @@ ghost use Rattle.http_cache_recording.specs.Entry.{recorded_seen, text_seen};
 ghost use Rattle.http_cache_findings.specs.Counts.{total_in};
 ghost use Rattle.http_cache_findings.specs.Plain.{changing_seen, front_of, changing_if, changing_at, changing_in, is_base, plain, plain_recorded};
 
-use crate::queries::base_of;
 use crate::counts::Counts;
+use crate::queries::base_of;
 use http_cache_recording::{Printed, Recorded};
 use std::alloc::{AllocError, Global};
 

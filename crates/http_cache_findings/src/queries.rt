@@ -9,16 +9,16 @@ ghost use Rattle.http_cache_findings.specs.Queries.{text_at, base_of, has_query,
 ghost use Rattle.http_cache_findings.specs.Queries.{mark_additions, base_additions, query_additions, bases_at, bases_of};
 ghost use Rattle.http_cache_findings.specs.Queries.{is_one_body, is_changing, changing_by, changing_of};
 
+use crate::cost::response_of;
+use crate::counts::Counts;
 use crate::urls::Url;
 use crate::visit::full_of;
 use http::header::{ETAG, LAST_MODIFIED};
 use http::response;
-use crate::cost::response_of;
-use crate::counts::Counts;
-use http_cache_walk::order::{shown_url, target_of};
-use http_cache_walk::row::Row;
 use http_cache_fields::headers::first_text;
 use http_cache_recording::{Body, Reading, Recorded};
+use http_cache_walk::order::{shown_url, target_of};
+use http_cache_walk::row::Row;
 use std::alloc::{AllocError, Global};
 
 /// Returns the url of an entry, or an empty text if there is no such entry.

@@ -12,10 +12,10 @@ use crate::advice::{Advice, Term, control_of};
 use crate::picks::Pick;
 use http::header::{CACHE_CONTROL, ETAG};
 use http::{HeaderMap, response};
-use http_cache_walk::assume::put_value;
-use http_cache_walk::order::target_of;
 use http_cache_fields::headers::{copy_of_map, remove};
 use http_cache_recording::{Answer, Entry, Reading, Recorded, value_of_line};
+use http_cache_walk::assume::put_value;
+use http_cache_walk::order::target_of;
 use http_header::HeaderName;
 use std::alloc::{AllocError, Global};
 

@@ -6,6 +6,7 @@ ghost use Rattle.std.specs.Prelude.{◌≡◌, IfOk};
 ghost use Rattle.http_cache_findings.specs.Responses.{weight, weights, asks_less};
 
 use crate::advice::Advice;
+use crate::counts::Counts;
 use crate::facts::{Facts, after_of, facts_of};
 use crate::faults::faults_of;
 use crate::findings::{Act, Fault, HeadFindings, Storing};
@@ -17,12 +18,11 @@ use crate::split::{cache_of, storing_at};
 use crate::urls::Url;
 use crate::visit::Span;
 use http::Uri;
-use crate::counts::Counts;
+use http_cache_recording::Recorded;
+use http_cache_semantics::CacheOptions;
 use http_cache_walk::order::target_of;
 use http_cache_walk::settings::no_target;
 use http_cache_walk::walk::rows_of;
-use http_cache_recording::Recorded;
-use http_cache_semantics::CacheOptions;
 use std::alloc::{AllocError, Global};
 
 // Returns what a cache does with the only response of a recording.

@@ -1,7 +1,7 @@
 //! What a response says of caching: its Cache-Control, else its Expires or Pragma, and its validator.
+use crate::cost::response_of;
 use http::HeaderMap;
 use http::header::{CACHE_CONTROL, ETAG, EXPIRES, LAST_MODIFIED, PRAGMA};
-use crate::cost::response_of;
 use http_cache_fields::headers::{contains_key, first_text};
 use http_cache_recording::Recorded;
 use std::alloc::{AllocError, Global};

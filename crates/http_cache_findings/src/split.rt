@@ -4,17 +4,17 @@ ghost use Rattle.http_cache_semantics.specs.Options.{options_of};
 ghost use Rattle.http_cache_findings.specs.Split.{cache_of};
 
 use crate::by_size::order_of;
+use crate::cost::response_of;
 use crate::findings::{Held, Refused, SplitUrl, Storing};
 use crate::queries::url_at;
 use crate::urls::Url;
 use http::Uri;
-use crate::cost::response_of;
-use http_cache_walk::row::{Kept, Received, Row};
-use http_cache_walk::walk::rows_of;
 use http_cache_recording::{Printed, Recorded};
 use http_cache_rules::lifetime::received_age;
 use http_cache_semantics::CacheOptions;
 use http_cache_semantics::explain::Obstacles;
+use http_cache_walk::row::{Kept, Received, Row};
+use http_cache_walk::walk::rows_of;
 use std::alloc::{AllocError, Global};
 
 // Returns the age with which a response was received.

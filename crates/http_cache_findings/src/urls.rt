@@ -10,17 +10,17 @@ ghost use Rattle.http_cache_findings.specs.Urls.{apart_text, apart_additions, sa
 ghost use Rattle.http_cache_findings.specs.Urls.{is_sent_later, sent_additions, asked_additions, kind_additions, row_additions, sums_of};
 ghost use Rattle.http_cache_findings.specs.Urls.{life_by, life_of_used, life_of, url_at, urls_in, url_if};
 
+use crate::by_url::{is_asked_row, is_hit, urls_of};
 use crate::copies::entry_of;
+use crate::cost::{Known, known_at, used_in};
+use crate::counts::Counts;
 use crate::visit::full_of;
 use http::HeaderMap;
 use http::header::{AUTHORIZATION, COOKIE};
-use crate::by_url::{is_asked_row, is_hit, urls_of};
-use crate::cost::{Known, known_at, used_in};
-use crate::counts::Counts;
-use http_cache_walk::order::target_of;
-use http_cache_walk::row::{Lifetime, Received, Row};
 use http_cache_fields::headers::contains_key;
 use http_cache_recording::{Kind, Reading, Recorded};
+use http_cache_walk::order::target_of;
+use http_cache_walk::row::{Lifetime, Received, Row};
 use std::alloc::{AllocError, Global};
 
 /// How long a response stays fresh.

@@ -14,17 +14,17 @@ ghost use Rattle.http_cache_findings.specs.Visit.{is_sent, is_again, amount_addi
 ghost use Rattle.http_cache_findings.specs.Visit.{repeat_additions, repeat_in, row_additions, AreVisitCounts, IsVisit};
 
 use crate::copies::{copies_of, entry_of};
-use http::Uri;
 use crate::cost::{
     Cost, FirstLoad, Known, cost_of, first_load, is_asked_reading, is_full, is_of_first, known_at,
     used_in,
 };
 use crate::counts::Counts;
+use http::Uri;
+use http_cache_recording::Recorded;
+use http_cache_semantics::CacheOptions;
 use http_cache_walk::order::target_of;
 use http_cache_walk::row::{Outcome, Row};
 use http_cache_walk::walk::rows_of;
-use http_cache_recording::Recorded;
-use http_cache_semantics::CacheOptions;
 use jiff::Timestamp;
 use std::alloc::{AllocError, Global};
 

@@ -8,11 +8,11 @@ ghost use Rattle.http_cache_findings.specs.WhatIf.{AreCosts, AreOtherCosts, AreC
 use crate::change::{Change, changed_all};
 use crate::cost::{Known, all_costs, known_of};
 use crate::counts::Counts;
-use http_cache_walk::settings::no_target;
-use http_cache_walk::walk::rows_of;
 use http::Uri;
 use http_cache_recording::Recorded;
 use http_cache_semantics::CacheOptions;
+use http_cache_walk::settings::no_target;
+use http_cache_walk::walk::rows_of;
 use std::alloc::{AllocError, Global};
 
 fn costs_now(
@@ -58,6 +58,12 @@ pub fn costs_if(
     let target = no_target(alloc)?;
     let (known, now) = costs_now(alloc, recorded.as_slice(), &target, *options)?;
     let recorded = changed_all(alloc, recorded, changes)?;
-    let then = costs_then(alloc, recorded.as_slice(), known.as_slice(), &target, *options)?;
+    let then = costs_then(
+        alloc,
+        recorded.as_slice(),
+        known.as_slice(),
+        &target,
+        *options,
+    )?;
     Ok((now, then))
 }

@@ -15,8 +15,8 @@ ghost use Rattle.http_cache_recording.specs.Heads.{is_of_proxy, is_skipped, is_d
 ghost use Rattle.http_cache_recording.specs.Heads.{printed_of, entry_of, recorded_of, with_head, IsHeads};
 ghost use Rattle.http_cache_recording.specs.declared.heads.HeadsError.TheVariants.{Memory};
 
-use crate::fields::{field_name, value_of_line};
 use crate::entry::{Answer, Entry, Kind, Printed, Reading, Recorded};
+use crate::fields::{field_name, value_of_line};
 use http::header::{CONTENT_LENGTH, DATE};
 use http::{HeaderMap, Method, response};
 use http_cache_fields::headers::first_text;
