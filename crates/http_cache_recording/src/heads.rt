@@ -228,10 +228,14 @@ fn line_of(bytes: &[u8], front: &[u8]) -> usize
 // The greatest length of the name in an error.
 const SHOWN: usize = 40;
 
+fn is_end_of_name(b: u8) -> bool {
+    b == b':' || b == b'\r'
+}
+
 // Returns the front of a line up to a colon.
 fn name_in(alloc: Global, line: &[u8]) -> Result<String, AllocError> {
     let mut name = String::new(alloc);
-    for b in line.iter().take(SHOWN).take_while(|b| **b != b':') {
+    for b in line.iter().take(SHOWN).take_while(|b| !is_end_of_name(**b)) {
         let is_printable = b' ' <= *b && *b <= b'~';
         name.push(if is_printable { char::from(*b) } else { '?' })?;
     }
