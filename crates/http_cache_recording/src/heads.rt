@@ -498,8 +498,8 @@ fn recorded_all(
 ///
 /// # Errors
 ///
-/// `NotAHead`, `NotAField` or `TooLong` if a head can't be read, `NoHead` if there is none or all are skipped,
-/// and `Memory` if there is not enough memory.
+/// `NotAHead`, `NotAField` or `TooLong` if a head can't be read, `NoHead` if there is none or all are
+/// skipped, and `Memory` if there is not enough memory.
 pub fn heads_from_bytes(
     alloc: Global,
     keys: RandomState,
