@@ -12,8 +12,19 @@ use Rattle.http_cache_semantics.specs.declared.explain.Storability.TheVariants.{
 use Rattle.http_cache_walk.specs.declared.stored.Chosen.{Chosen}
 use Rattle.http_cache_walk.specs.Stored.{first_of, StoredSeen, answer, answers, with_staying, stays, Receipt}
 use Rattle.http_cache_walk.specs.Row.{KeptSeen, updated}
-use Rattle.http_cache_walk.specs.Assume.{AssumedSeen}
+use Rattle.http_cache_fields.specs.Headers.{Headers}
+use Rattle.http_cache_walk.specs.Assume.{AssumedSeen, request_of, compared}
 use Rattle.http_cache_walk.proofs.ListLemmas.{drop-at}
+
+empty : {X : Type 0} (xs : List X) → length xs ≡ 0 → xs ≡ []
+empty [] none = refl
+empty (x ∷ xs) none = absurd (omega (arith, none))
+
+-- a request without unknown values is compared as it is
+pub compared_known : (a : AssumedSeen) (h : Headers) (unknown : List (List ℕ)) → length a.unknown ≡ 0
+    → length unknown ≡ 0 → request_of (compared a h unknown) ≡ request_of a
+unfolding compared
+compared_known a h unknown all none = rw (empty a.unknown all, empty unknown none) refl
 
 -- what is chosen if one was found, and others follow
 abbrev pub chosen_after : Option Chosen → List Chosen → Option Chosen

@@ -1,14 +1,15 @@
 -- The responses that are stored for one target and method, the newest first.
 use Rattle.std.specs.Prelude.{ℕ, suc, ℤ, Bool, true, false, not, ◌||◌, nat_le, List, [], ◌∷◌, ◌++◌, codes, bytes_eq}
 use Rattle.std.specs.Prelude.{Option, Some, None, is_some, is_none, map, filter, fold, take, remove, slice_get, position}
-use Rattle.std.specs.Prelude.{if◌then◌else◌}
+use Rattle.std.specs.Prelude.{option_and_then, if◌then◌else◌}
 use Rattle.std.specs.List.{find, list_any}
 use Rattle.std.specs.Option.{option_or, option_map_or, option_to_list}
 use Rattle.http_header.specs.Token.{lowercase}
 use Rattle.http_cache_fields.specs.Headers.{Headers, first_under, first_text}
 use Rattle.http_cache_fields.specs.Pieces.{pieces_under}
 use Rattle.http_cache_fields.specs.Directives.{same_value}
-use Rattle.http_cache_semantics.specs.Messages.{ResponseSeen}
+use Rattle.http_cache_semantics.specs.Lookup.{answers_once_validated, may_be_used}
+use Rattle.http_cache_semantics.specs.Messages.{RequestSeen, ResponseSeen}
 use Rattle.http_cache_semantics.specs.Options.{Options}
 use Rattle.http_cache_semantics.specs.Exchange.{Exchange, exchange_of}
 use Rattle.http_cache_semantics.specs.Kept.{kept_exchange}
@@ -17,7 +18,7 @@ use Rattle.http_cache_semantics.specs.Storability.{obstacles}
 use Rattle.http_cache_semantics.specs.Age.{age_at, time_to_live_at, is_stale_at}
 use Rattle.http_cache_semantics.specs.Explain.{explanation}
 use Rattle.http_cache_semantics.specs.Update.{selects, next_exchange}
-use Rattle.http_cache_semantics.specs.Reason.{ReasonSeen, is_mismatch, other_target, other_host, other_of_get_and_head}
+use Rattle.http_cache_semantics.specs.Reason.{ReasonSeen, other_target, other_host, other_of_get_and_head}
 use Rattle.http_cache_semantics.specs.Reason.{other_method, varies_by, asks_no_cache, asks_pragma, asks_max_age}
 use Rattle.http_cache_semantics.specs.Reason.{asks_min_fresh, is_stale}
 use Rattle.http_cache_semantics.specs.declared.explain.Obstacles.{Obstacles}
@@ -57,19 +58,26 @@ demand_of (asks_max_age seconds) = Some Limit
 demand_of (asks_min_fresh seconds) = Some Limit
 demand_of (is_stale why) = None
 
--- by the reason why it isn't used without validation
-abbrev pub chosen_by : Option ReasonSeen → ℕ → Option Chosen
-chosen_by None index = Some (record { index = index; is_fresh = true; demand = None })
-chosen_by (Some why) index =
-    if is_mismatch why then None
-    else Some (record { index = index; is_fresh = false; demand = demand_of why })
-
 abbrev pub compared_to : StoredSeen → AssumedSeen → AssumedSeen
 compared_to s a = compared a s.exchange.request_headers s.unknown
 
--- if the stored response is for the request
+abbrev pub validated_for : StoredSeen → RequestSeen → ℕ → ℤ → Chosen
+validated_for s request index now = record {
+  index = index;
+  is_fresh = false;
+  demand = option_and_then demand_of (explanation s.exchange request now).reason;
+}
+
+-- without validation if the stored response may be used so, or else if it answers once validated
+abbrev pub answer_to : StoredSeen → RequestSeen → ℕ → ℤ → Option Chosen
+answer_to s request index now =
+    if may_be_used s.exchange request now
+    then Some (record { index = index; is_fresh = true; demand = None })
+    else if answers_once_validated s.exchange request then Some (validated_for s request index now)
+    else None
+
 unfoldable pub answer : StoredSeen → AssumedSeen → ℕ → ℤ → Option Chosen
-answer s a index now = chosen_by (explanation s.exchange (request_of (compared_to s a)) now).reason index
+answer s a index now = answer_to s (request_of (compared_to s a)) index now
 
 -- with their indices from the given one on
 abbrev pub answers : ℕ → List StoredSeen → AssumedSeen → ℤ → List Chosen

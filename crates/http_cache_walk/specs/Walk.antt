@@ -10,6 +10,7 @@ use Rattle.http_uri.specs.declared.uri.Uri.{Uri}
 use Rattle.http_cache_fields.specs.Headers.{Headers, value_count}
 use Rattle.http_cache_fields.specs.Directives.{cache_control, has}
 use Rattle.http_cache_fields.specs.Pragma.{pragma_forbids}
+use Rattle.http_cache_rules.specs.Joined.{joined_headers}
 use Rattle.http_cache_semantics.specs.Messages.{ResponseSeen}
 use Rattle.http_cache_semantics.specs.Options.{Options, options_of}
 use Rattle.http_cache_semantics.specs.Exchange.{Exchange}
@@ -111,7 +112,7 @@ assumed_by_own w a ss (from_network r) = a
 -- a recording may lack headers of requests that didn't use the network
 unfoldable pub asked_of : WalkSeen → WalkedSeen → List StoredSeen → AssumedSeen
 asked_of k w ss =
-    let a = without_assumptions k.target w.sent.entry.method w.sent.entry.headers in
+    let a = without_assumptions k.target w.sent.entry.method (joined_headers w.sent.entry.headers) in
     if is_received w.sent.entry.answer then a
     else assumed_by_own w (assumed_by w a ss) ss w.sent.entry.answer
 

@@ -2,6 +2,7 @@
 //! ones.
 ghost use Rattle.std.specs.Prelude.{◌≡◌, option_map, IfOk, OnOk};
 ghost use Rattle.http_cache_fields.specs.Headers.{headers_of, first};
+ghost use Rattle.http_cache_rules.specs.Joined.{joined_headers};
 ghost use Rattle.http_cache_recording.specs.Entry.{entry_seen};
 ghost use Rattle.http_cache_walk.specs.Sources.{sources_seen, source_in};
 ghost use Rattle.http_cache_walk.specs.Assume.{assumed_seen, without_assumptions};
@@ -16,6 +17,7 @@ use http::{HeaderMap, Method, Uri};
 use http_cache_fields::headers::{contains_key, copy_of_map, insert, remove};
 use http_cache_fields::pieces::pieces_under;
 use http_cache_recording::{Entry, field_name, has_room};
+use http_cache_rules::joined::joined_headers;
 use http_cache_semantics::{CacheError, RequestLike};
 use http_header::{HeaderName, HeaderValue};
 use std::alloc::{AllocError, Global};
@@ -125,7 +127,7 @@ fn is_among(names: &[HeaderName], name: &HeaderName) -> bool
 }
 
 impl<'a> AssumedRequest<'a> {
-    /// Returns a request with these headers, of which nothing is assumed.
+    /// Returns a request with these headers, one line for each name, of which nothing is assumed.
     pub(crate) fn new(
         alloc: Global,
         target: &'a Uri,
@@ -134,12 +136,12 @@ impl<'a> AssumedRequest<'a> {
     ) -> Result<AssumedRequest<'a>, AllocError>
         ensures { IfOk result (λ asked.
             assumed_seen asked
-            ≡ without_assumptions target.now method.now (headers_of headers.now)) }
+            ≡ without_assumptions target.now method.now (joined_headers (headers_of headers.now))) }
     {
         Ok(AssumedRequest {
             target,
             method,
-            headers: copy_of_map(headers)?,
+            headers: joined_headers(alloc, headers)?,
             unknown: Vec::new(alloc),
             assumed: Vec::new(alloc),
         })
@@ -209,9 +211,15 @@ impl<'a> AssumedRequest<'a> {
         ensures { IfOk result (λ asked. assumed_seen asked
             ≡ compared (assumed_seen self.now) (headers_of stored.now) unknown.now) }
     {
-        let mut asked = AssumedRequest::new(alloc, self.target, self.method, &self.headers)?;
-        take_over(&mut asked.headers, stored, self.unknown.as_slice())?;
-        take_over(&mut asked.headers, stored, unknown)?;
-        Ok(asked)
+        let mut headers = copy_of_map(&self.headers)?;
+        take_over(&mut headers, stored, self.unknown.as_slice())?;
+        take_over(&mut headers, stored, unknown)?;
+        Ok(AssumedRequest {
+            target: self.target,
+            method: self.method,
+            headers,
+            unknown: Vec::new(alloc),
+            assumed: Vec::new(alloc),
+        })
     }
 }

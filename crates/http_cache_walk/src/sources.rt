@@ -94,8 +94,13 @@ impl<'a> Sources<'a> {
         if !is_source(sent.entry) {
             return Ok(());
         }
-        put(alloc, &mut self.by_target, sent.target(), sent.entry)?;
-        put(alloc, &mut self.by_host, host_of(sent.target()), sent.entry)?;
+        let (target, entry) = (sent.target(), sent.entry);
+        put(&mut self.by_target, String::from_str(alloc, target)?, entry)?;
+        put(
+            &mut self.by_host,
+            String::from_str(alloc, host_of(target))?,
+            entry,
+        )?;
         Ok(())
     }
 }

@@ -1,6 +1,6 @@
 //! The responses that are stored for one target and method, the newest first.
 ghost use Rattle.std.specs.Prelude.{◌≡◌, ◌+◌, ◌<◌, ◌∷◌, length, map, option_map, remove, slice_get, string_bytes, take, is_none, is_some, true, Some, position};
-ghost use Rattle.std.specs.Prelude.{IfOk, IfSome, OnOk};
+ghost use Rattle.std.specs.Prelude.{IfOk, IfSome, OnOk, option_and_then};
 ghost use Rattle.std.specs.List.{list_any};
 ghost use Rattle.http_cache_fields.specs.Headers.{headers_of, first_text};
 ghost use Rattle.http_cache_semantics.specs.Messages.{response_seen};
@@ -10,8 +10,8 @@ ghost use Rattle.http_cache_semantics.specs.Update.{selects};
 ghost use Rattle.http_cache_walk.specs.Row.{used_seen, received_seen, kept_seen};
 ghost use Rattle.http_cache_walk.specs.Lifetime.{kept_of};
 ghost use Rattle.http_cache_walk.specs.Order.{sent_seen};
-ghost use Rattle.http_cache_walk.specs.Assume.{assumed_seen};
-ghost use Rattle.http_cache_walk.specs.Stored.{stored_seen, chosen_by, compared_to, answer, choose, used_of, validator_of};
+ghost use Rattle.http_cache_walk.specs.Assume.{assumed_seen, request_of};
+ghost use Rattle.http_cache_walk.specs.Stored.{stored_seen, demand_of, compared_to, answer_to, answer, choose, used_of, validator_of};
 ghost use Rattle.http_cache_walk.specs.Stored.{differing, varies_by_all, stays, left_by, put_first, exchange_for};
 ghost use Rattle.http_cache_walk.specs.Stored.{forbidden_by, keeps_all, receive_full, updated_one, receive_304, selected};
 ghost use Rattle.http_cache_walk.specs.Stored.{receive_own_304, is_of_all};
@@ -57,21 +57,14 @@ pub(crate) struct Chosen {
     pub demand: Option<Demand>,
 }
 
-fn chosen_by(reason: Option<Reason<'_>>, index: usize) -> Option<Chosen>
-    ensures { result ≡ chosen_by (option_map reason_seen reason.entry) index }
+fn demand_for(reason: Option<Reason<'_>>) -> Option<Demand>
+    ensures { result ≡ option_and_then demand_of (option_map reason_seen reason.entry) }
 {
-    let (is_fresh, demand) = match reason {
-        None => (true, None),
-        Some(Reason::NoCache | Reason::Pragma) => (false, Some(Demand::NoCache)),
-        Some(Reason::MaxAge(_) | Reason::MinFresh(_)) => (false, Some(Demand::Limit)),
-        Some(Reason::Stale(_)) => (false, None),
-        Some(_) => return None,
-    };
-    Some(Chosen {
-        index,
-        is_fresh,
-        demand,
-    })
+    match reason? {
+        Reason::NoCache | Reason::Pragma => Some(Demand::NoCache),
+        Reason::MaxAge(_) | Reason::MinFresh(_) => Some(Demand::Limit),
+        _ => None,
+    }
 }
 
 fn has_first(headers: &HeaderMap, name: HeaderName) -> bool
@@ -119,6 +112,29 @@ impl Stored {
         )
     }
 
+    fn answer_to(&self, asked: &AssumedRequest<'_>, index: usize, now: Timestamp) -> Option<Chosen>
+        ensures value { result ≡ answer_to (stored_seen self.now) (request_of (assumed_seen asked.now))
+            index now.nanosecond }
+        ensures at { IfSome result (λ chosen. chosen.index ≡ index) }
+    {
+        if self.policy.may_be_used(asked, now) {
+            return Some(Chosen {
+                index,
+                is_fresh: true,
+                demand: None,
+            });
+        }
+        if !self.policy.answers_once_validated(asked) {
+            return None;
+        }
+        Some(Chosen {
+            index,
+            is_fresh: false,
+            demand: demand_for(self.policy.explain(asked, now).reason),
+        })
+    }
+
+    // A request without unknown values is compared as it is.
     #[tactic(auto, unfolding(crate::specs::Stored::answer))]
     fn answer(
         &self,
@@ -131,8 +147,11 @@ impl Stored {
             ≡ answer (stored_seen self.now) (assumed_seen asked.now) index now.nanosecond) }
         ensures at { IfOk result (λ c. IfSome c (λ chosen. chosen.index ≡ index)) }
     {
+        if self.unknown.is_empty() && asked.unknown.is_empty() {
+            return Ok(self.answer_to(asked, index, now));
+        }
         let asked = self.compared(alloc, asked)?;
-        Ok(chosen_by(self.policy.explain(&asked, now).reason, index))
+        Ok(self.answer_to(&asked, index, now))
     }
 
     /// Returns what is reported of the response if it answers a request.
@@ -181,8 +200,8 @@ pub(crate) fn stored_at(list: &[Stored], index: usize) -> &Stored
     &list[index]
 }
 
-/// Returns the first stored response that may be used without validation, or else the first for the
-/// request.
+/// Returns the first stored response that may be used without validation, or else the first that
+/// answers the request once it is validated (RFC 9111, section 4).
 pub(crate) fn choose(
     alloc: Global,
     stored: &[Stored],

@@ -1,22 +1,16 @@
 //! Maps by texts of a file. They are ordered, so that no text makes them slow.
-ghost use Rattle.std.specs.Prelude.{◌≡◌, ℕ, List, Some, None, bytes_eq, OnOk, if◌then◌else◌};
+ghost use Rattle.std.specs.Prelude.{◌≡◌, ℕ, List, Some, None, bytes_eq, string_bytes, OnOk, if◌then◌else◌};
 ghost use Rattle.std.specs.BTreeMap.{get_by_text};
 
-use std::alloc::{AllocError, Global};
+use std::alloc::AllocError;
 use std::collections::BTreeMap;
 
-/// Replaces the value under a text.
+/// Replaces the value under a key.
 #[tactic(auto, using(std::proofs::lemmas::Map::Text::text_keys))]
-pub fn put<V: Drop>(
-    alloc: Global,
-    map: &mut BTreeMap<String, V>,
-    text: &str,
-    value: V,
-) -> Result<(), AllocError>
-    ensures { OnOk result ((key : List ℕ) → get_by_text map.new key
-        ≡ (if bytes_eq text.now key then Some value else get_by_text map.old key)) }
+pub fn put<V: Drop>(map: &mut BTreeMap<String, V>, key: String, value: V) -> Result<(), AllocError>
+    ensures { OnOk result ((at : List ℕ) → get_by_text map.new at
+        ≡ (if bytes_eq (string_bytes key) at then Some value else get_by_text map.old at)) }
 {
-    let key = String::from_str(alloc, text)?;
     match map.insert(key, value) {
         Ok(former) => {
             drop(former);

@@ -105,7 +105,7 @@ fn clear(
     let Some(list) = take(shelves, key.as_str()) else {
         return Ok(0);
     };
-    put(alloc, shelves, key.as_str(), Vec::new(alloc))?;
+    put(shelves, key, Vec::new(alloc))?;
     Ok(list.len())
 }
 
@@ -136,18 +136,17 @@ fn take_stored(alloc: Global, shelves: &mut Shelves, key: &str) -> (Vec<Stored>,
 }
 
 fn put_stored(
-    alloc: Global,
     shelves: &mut Shelves,
-    key: &str,
+    key: String,
     stored: Vec<Stored>,
     keeps: bool,
 ) -> Result<(), AllocError>
     ensures { OnOk result ((at : List ℕ) → shelf_at shelves.new at
-        ≡ cond (keeps && bytes_eq key.now at) (Some (map stored_seen stored.items))
+        ≡ cond (keeps && bytes_eq (string_bytes key) at) (Some (map stored_seen stored.items))
         (shelf_at shelves.old at)) }
 {
     if keeps {
-        put(alloc, shelves, key, stored)?;
+        put(shelves, key, stored)?;
     }
     Ok(())
 }
@@ -582,7 +581,7 @@ impl<'a> Walk<'a> {
         let (mut stored, is_known) = take_stored(self.alloc, shelves, key.as_str());
         let row = self.asked_row(&mut stored, is_known, sources, sent)?;
         let keeps = is_asked(sent.entry) || is_known;
-        put_stored(self.alloc, shelves, key.as_str(), stored, keeps)?;
+        put_stored(shelves, key, stored, keeps)?;
         Ok(row)
     }
 

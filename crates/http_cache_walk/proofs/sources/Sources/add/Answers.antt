@@ -17,5 +17,6 @@ returns c = λ before holds.
     let entry = c.args.sent.now.entry in
     sources-next before (sent_seen c.args.sent.now) (sources_seen c.args.self.now) _
     (sym c.is_source.ensures ∙ c.if-not-is_source.false) holds
-    (λ t. put-seen seen entry _ _ _ (rw c.target.ensures at (c.in_ok-put.ensures t)))
-    (λ h. put-seen seen entry _ _ _ (rw (c.host_of.ensures, c.target-2.ensures) at (c.in_ok-put-2.ensures h)))
+    (λ t. put-seen seen entry _ _ _ (rw (c.in_ok-from_str.ensures.ok, c.target-target.ensures) at (c.in_ok-put.ensures t)))
+    (λ h. put-seen seen entry _ _ _
+    (rw (c.in_ok-from_str-2.ensures.ok, c.host_of.ensures, c.target-target.ensures) at (c.in_ok-put-2.ensures h)))

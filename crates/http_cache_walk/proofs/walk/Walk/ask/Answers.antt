@@ -1,5 +1,5 @@
 -- The list is removed, and put back if it is kept.
-use Rattle.std.proofs.Common.{rules, ◌≡◌, ◌∙◌, ap, ℕ, List, cond, None, bytes_eq, ◌||◌, ◌&&◌, is_some, Some, map}
+use Rattle.std.proofs.Common.{rules, ◌≡◌, ◌∙◌, ap, ℕ, List, cond, None, bytes_eq, ◌||◌, ◌&&◌, is_some, Some, map, string_bytes}
 use Rattle.http_cache_walk.specs.Order.{sent_seen}
 use Rattle.http_cache_walk.specs.Sources.{sources_seen, is_asked}
 use Rattle.http_cache_walk.specs.Stored.{StoredSeen, stored_seen}
@@ -25,7 +25,7 @@ returns-clause-left c = λ key.
     let at = shelf_at c.args.shelves.now in
     let kind = is_asked sent.entry.kind in
     let same : c.as_str-2.result.now ≡ key_in sent = search rules in
-    let same_again : c.as_str-3.result.now ≡ key_in sent = search rules in
+    let same_again : string_bytes c.in_ok-key.key ≡ key_in sent = search rules in
     let known = c.take_stored-stored.ensures.is_known ∙ ap (λ (l : List ℕ). is_some (at l)) same in
     let stored = c.take_stored-stored.ensures.stored ∙ ap (λ (l : List ℕ). on_shelf (at l)) same in
     let keeps : c.if-is_asked.keeps ≡ (kind || is_some (at (key_in sent))) =
