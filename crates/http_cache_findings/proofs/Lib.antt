@@ -2,5 +2,6 @@
 pub mod ChangeLemmas
 pub mod ChangesLemmas
 pub mod CountsLemmas
+pub mod PlainLemmas
 pub mod ReportLemmas
 pub mod VisitLemmas

@@ -1,13 +1,11 @@
 -- Lists and texts of a report grow by one element at a time.
-use Rattle.std.proofs.Common.{◌≡◌, ◌∙◌, sym, ap, subst, refl, ℕ, suc, ◌+◌, add-one, List, [], ◌∷◌, ◌++◌, map, take, slice_get, Option, Some, None, codes}
-use Rattle.std.specs.Prelude.{◌==◌}
+use Rattle.std.proofs.Common.{◌≡◌, ◌∙◌, sym, ap, subst, ℕ, suc, ◌+◌, add-one, List, [], ◌∷◌, ◌++◌, map, take, slice_get, Some}
 use Rattle.std.specs.List.{flat_map, enumerate_from}
 use Rattle.std.proofs.lemmas.List.{map-id, map_push}
 use Rattle.http_cache_findings.specs.declared.counts.Counts.{Counts}
-use Rattle.http_cache_findings.specs.Counts.{Addition, CountsAlso, HoldsCounts, label_of}
+use Rattle.http_cache_findings.specs.Counts.{Addition, CountsAlso, HoldsCounts}
 use Rattle.http_cache_findings.proofs.CountsLemmas.{holds_next, written_next, made_at}
 use Rattle.http_cache_walk.proofs.ListLemmas.{map-next}
-use Rattle.http_cache_findings.specs.Loads.{is_new}
 
 pub holds_plain : {X : Type 0} (f : X → List Addition) (xs : List X) (k : ℕ) (x : X) (a b : Counts)
     → slice_get xs k ≡ Some x → HoldsCounts (flat_map f (take k xs)) a → CountsAlso (f x) a b
@@ -23,10 +21,6 @@ made_plain f xs k x now new at so_far more =
     let same = λ (n : ℕ). map-id (take n xs) in
     subst (λ l. new ≡ flat_map f l) (same (k + 1))
     (written_next (λ p. p) f xs k x [] now new at (subst (λ l. now ≡ flat_map f l) (sym (same k)) so_far) more)
-
-pub new-same : (s t : List ℕ → ℕ) → ((l : List ℕ) → s l ≡ t l) → (p : Option (List ℕ)) → is_new s p ≡ is_new t p
-new-same s t same None = refl
-new-same s t same (Some p) = ap (λ (n : ℕ). n == 0) (same (label_of (codes "page") p))
 
 pub made_indexed : {X Y : Type 0} (f : ℕ × X → List Y) (xs : List X) (k : ℕ) (x : X) (now new : List Y)
     → slice_get xs k ≡ Some x → now ≡ flat_map f (take k (enumerate_from 0 xs)) → new ≡ now ++ f (k, x)

@@ -2,11 +2,14 @@
 -- never a shorter lifetime than is stated.
 use Rattle.std.specs.Prelude.{◌≡◌, ℕ, nat_lt, ◌||◌, Bool, true, false, List, [], Option, Some, None, codes, if◌then◌else◌}
 use Rattle.http_cache_fields.specs.Headers.{Headers, contains_key}
-use Rattle.http_cache_findings.specs.Lint.{says}
+use Rattle.http_cache_fields.specs.Directives.{cache_control, has}
 use Rattle.http_cache_findings.specs.declared.advice.Term.{Term}
 use Rattle.http_cache_findings.specs.declared.advice.Term.TheVariants.{Same, Day, Week, Year}
 use Rattle.http_cache_findings.specs.declared.advice.Advice.{Advice}
 use Rattle.http_cache_findings.specs.declared.advice.Shown.{Shown}
+
+abbrev pub says : Headers → List ℕ → Bool
+says h name = has (cache_control h) name
 
 abbrev pub is_same : Term → Bool
 is_same Same = true

@@ -1,16 +1,12 @@
 -- The output by url, for each url that a store could have answered.
-use Rattle.std.specs.Prelude.{◌≡◌, ℕ, ◌==◌, ◌&&◌, Bool, true, false, List, [], ◌∷◌, ◌++◌, take, slice_get, codes, if◌then◌else◌}
+use Rattle.std.specs.Prelude.{ℕ, ◌==◌, ◌&&◌, Bool, true, false, List, [], ◌∷◌, ◌++◌, take, codes, if◌then◌else◌}
 use Rattle.std.specs.List.{flat_map, enumerate_from}
 use Rattle.std.specs.Option.{option_map_or}
-use Rattle.http_uri.specs.declared.uri.Uri.{Uri}
-use Rattle.http_cache_recording.specs.Entry.{RecordedSeen}
-use Rattle.http_cache_findings.specs.declared.counts.Counts.{Counts}
 use Rattle.http_cache_walk.specs.Row.{RowSeen, AuditVerdictSeen}
 use Rattle.http_cache_walk.specs.Order.{target_of}
-use Rattle.http_cache_walk.specs.Walk.{AreRows}
 use Rattle.http_cache_walk.specs.declared.row.Outcome.{Outcome}
 use Rattle.http_cache_walk.specs.declared.row.Outcome.TheVariants.{Apart, Fresh, Validate, Refetch, Miss, MissVary}
-use Rattle.http_cache_findings.specs.Counts.{Addition, HoldsCounts, label_of, when, total_of, total_in}
+use Rattle.http_cache_findings.specs.Counts.{Addition, label_of, when, total_of}
 use Rattle.http_cache_findings.specs.Cost.{is_asked_reading}
 
 -- ---- sums for each url

@@ -9,7 +9,8 @@ use Rattle.http_cache_findings.specs.declared.picks.Base.{Base}
 use Rattle.http_cache_findings.specs.declared.picks.Base.TheVariants.{Later, Visit}
 use Rattle.http_cache_findings.specs.declared.remedy.Remedy.{Remedy}
 use Rattle.http_cache_findings.specs.declared.changes.Change.{Change}
-use Rattle.http_cache_findings.specs.BySize.{by_key}
+use Rattle.std.specs.Ordering.{nat_cmp, ordering_then}
+use Rattle.std.specs.declared.cmp.Ordering.{Ordering}
 
 -- the cost of the requests for a url, in the later loads or at a visit
 abbrev pub price : Base → Counts → List ℕ → ℕ
@@ -24,6 +25,9 @@ change_by base now after index m = record {
   cost_now = price base now (string_bytes m.url);
   cost_then = price base after (string_bytes m.url);
 }
+
+abbrev pub by_key : ℕ × ℕ → ℕ × ℕ → Ordering
+by_key x y = ordering_then (nat_cmp x.0 y.0) (nat_cmp x.1 y.1)
 
 abbrev pub saves : Change → Bool
 saves c = nat_lt c.cost_then c.cost_now

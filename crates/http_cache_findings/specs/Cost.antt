@@ -126,6 +126,9 @@ response_in failed = None
 response_in (cached r) = Some r
 response_in (received r) = Some r
 
+abbrev pub text_at : List RecordedSeen → ℕ → List ℕ
+text_at rs index = option_map_or target_of (slice_get rs index) []
+
 abbrev pub response_of : ReadingSeen → Option ResponseSeen
 response_of (entry e) = response_in e.answer
 response_of (skipped reason) = None

@@ -2,16 +2,11 @@
 use Rattle.std.specs.Prelude.{◌≡◌, ℕ, ◌+◌, ◌-◌, ◌^◌, min, nat_le, nat_lt, ◌&&◌, ◌||◌, Bool, true, false, List, [], ◌∷◌, ◌++◌}
 use Rattle.std.specs.Prelude.{sum_by, codes, bytes_eq, unwrap_or, Option, Some, None, if◌then◌else◌, String, string_bytes}
 use Rattle.std.specs.declared.alloc.Global.{Global}
-use Rattle.std.specs.List.{flat_map}
-use Rattle.std.specs.Option.{option_map_or}
 use Rattle.std.specs.BTreeMap.{get_by_text}
-use Rattle.http_cache_recording.specs.Entry.{ReadingSeen, entry, skipped}
 use Rattle.http_cache_walk.specs.declared.row.Again.{Again}
 use Rattle.http_cache_walk.specs.declared.row.Again.TheVariants.{Changed, InFull, Unasked, Unknown}
-use Rattle.http_cache_recording.specs.declared.entry.Kind.{Kind}
 use Rattle.http_cache_findings.specs.declared.counts.Counts.{Counts}
-use Rattle.http_cache_walk.specs.Row.{RowSeen, AuditVerdictSeen, UsedSeen}
-use Rattle.http_cache_walk.specs.Sources.{is_asked}
+use Rattle.http_cache_walk.specs.Row.{RowSeen}
 
 -- an amount that is added under a label
 abbrev pub Addition : Type 0

@@ -1,6 +1,5 @@
 -- The facts that a report has about a recording, and what the recording costs with what is advised.
-use Rattle.std.specs.Prelude.{◌≡◌, Vec, ◌+◌, ◌/◌, ◌-ℤ◌, nat_abs, ℕ, ℤ, List, map, Option, option_map, length}
-use Rattle.std.specs.Option.{option_map_or}
+use Rattle.std.specs.Prelude.{◌≡◌, ⊤, Vec, ℕ, List, [], ◌∷◌, map, option_map, length}
 use Rattle.std.specs.declared.alloc.Global.{Global}
 use Rattle.http_uri.specs.declared.uri.Uri.{Uri}
 use Rattle.http_cache_semantics.specs.Options.{Options}
@@ -9,7 +8,7 @@ use Rattle.http_cache_findings.specs.declared.counts.Counts.{Counts}
 use Rattle.http_cache_findings.specs.declared.cost.Known.{Known}
 use Rattle.http_cache_walk.specs.Row.{RowSeen}
 use Rattle.http_cache_walk.specs.Walk.{AreRows}
-use Rattle.http_cache_findings.specs.Cost.{known_of}
+use Rattle.http_cache_findings.specs.Cost.{known_of, text_at}
 use Rattle.http_cache_findings.specs.Counts.{HoldsCounts, total_in}
 use Rattle.http_cache_findings.specs.declared.facts.Facts.{Facts}
 use Rattle.http_cache_findings.specs.declared.facts.After.{After}
@@ -17,18 +16,12 @@ use Rattle.http_cache_findings.specs.declared.urls.Url.{Url}
 use Rattle.http_cache_findings.specs.declared.visit.Repeat.{Repeat}
 use Rattle.http_cache_findings.specs.Visit.{span_seen, span_of, repeats_of, SpanSeen}
 use Rattle.http_cache_findings.specs.Urls.{sums_of, urls_in}
-use Rattle.http_cache_findings.specs.Queries.{text_at, bases_of, changing_of}
+use Rattle.http_cache_findings.specs.Queries.{bases_of, changing_of}
 use Rattle.http_cache_findings.specs.Remedy.{RemedySeen, remedied, is_still_in_full}
 use Rattle.http_cache_findings.specs.Picks.{url_costs, known_after}
 use Rattle.http_cache_findings.specs.Plain.{changing_seen, changing_in, plain_recorded}
 use Rattle.http_cache_findings.specs.Later.{AreVisits}
 use Rattle.http_cache_findings.specs.declared.later.Visits.{Visits}
-
-abbrev pub seconds_between : ℤ → ℤ → ℕ
-seconds_between a b = (nat_abs (a -ℤ b) + 500_000_000) / 1_000_000_000
-
-abbrev pub took : Option SpanSeen → ℕ
-took s = option_map_or (λ (t : SpanSeen). seconds_between t.ended t.begun) s 0
 
 -- the requests that a later visit repeats, by the bases of urls
 pub record AreRepeats (rs : List RecordedSeen) (rows : List RowSeen) (known : List Known) (us : List Url)
@@ -75,12 +68,18 @@ known_repeat rs ms r =
 abbrev pub repeats_after : List RecordedSeen → List RemedySeen → List Repeat → List Repeat
 repeats_after rs ms repeats = map (known_repeat rs ms) repeats
 
+-- the costs without the queries that change, if there are any
+abbrev pub ArePlainCosts : List RecordedSeen → Options → Uri → List Known → List (List ℕ × ℕ) → Counts → Type 0
+ArePlainCosts rs options target known [] costs = ⊤
+ArePlainCosts rs options target known (c ∷ cs) costs =
+    AreUrlCosts (map (plain_recorded (c ∷ cs)) rs) options target known costs
+
 -- the costs of a recording, the costs without the queries that change, and the costs of later
 -- visits
 pub record AreCostsWith (rs : List RecordedSeen) (options : Options) (target : Uri) (known : List Known) (changing : List (List ℕ × ℕ))
     (repeats : List Repeat) (s : SpanSeen) (made : Counts × Counts × Visits) : Type 0 where
   pub costs : AreUrlCosts rs options target known made.0
-  pub plain : AreUrlCosts (map (plain_recorded changing) rs) options target known made.1
+  pub plain : ArePlainCosts rs options target known changing made.1
   pub visits : AreVisits rs repeats s options target made.2
 
 -- the costs of a recording if urls only answer a 304, and if they follow their whole advice

@@ -3,7 +3,6 @@ pub mod Cost
 pub mod ByUrl
 pub mod Change
 pub mod WhatIf
-pub mod Lint
 pub mod Advice
 pub mod Copies
 pub mod Visit
@@ -11,13 +10,9 @@ pub mod Urls
 pub mod Queries
 pub mod Remedy
 pub mod Picks
-pub mod BySize
 pub mod Later
-pub mod Split
 pub mod Plain
-pub mod Loads
 pub mod Facts
 pub mod Changes
 pub mod Outlook
-pub mod Responses
 pub mod Findings

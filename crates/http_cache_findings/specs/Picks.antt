@@ -1,16 +1,47 @@
--- What requests cost, as they are and if urls follow their advice.
-use Rattle.std.specs.Prelude.{ℕ, Bool, List, [], ◌∷◌, slice_get, codes}
+-- What urls are advised, and what requests cost, as they are and if urls follow their advice.
+use Rattle.std.specs.Prelude.{◌≡◌, ℕ, nat_lt, Bool, List, [], ◌∷◌, slice_get, codes, Some}
 use Rattle.std.specs.Prelude.{option_map, if◌then◌else◌}
 use Rattle.std.specs.List.{flat_map, enumerate_from}
 use Rattle.std.specs.Option.{option_map_or, option_to_list}
+use Rattle.http_cache_rules.specs.Messages.{ResponseSeen}
 use Rattle.http_cache_recording.specs.Entry.{RecordedSeen}
+use Rattle.http_cache_findings.specs.declared.advice.Advice.{Advice}
+use Rattle.http_cache_findings.specs.declared.advice.Shown.{Shown}
 use Rattle.http_cache_findings.specs.declared.cost.Known.{Known}
+use Rattle.http_cache_findings.specs.declared.counts.Counts.{Counts}
+use Rattle.http_cache_findings.specs.declared.picks.Pick.{Pick}
+use Rattle.http_cache_findings.specs.declared.remedy.Remedy.{Remedy}
 use Rattle.http_cache_walk.specs.Row.{RowSeen}
 use Rattle.http_cache_walk.specs.Order.{target_of}
-use Rattle.http_cache_findings.specs.Counts.{Addition, label_of}
-use Rattle.http_cache_findings.specs.Cost.{is_asked_reading, cost_of}
+use Rattle.http_cache_findings.specs.Advice.{IsFit}
+use Rattle.http_cache_findings.specs.Counts.{Addition, label_of, total_in}
+use Rattle.http_cache_findings.specs.Cost.{is_asked_reading, cost_of, response_of, text_at}
 use Rattle.http_cache_findings.specs.Queries.{base_of}
 use Rattle.http_cache_findings.specs.Remedy.{RemedySeen, is_still_in_full}
+
+-- a request for the url had Cookie or Authorization
+abbrev pub has_credentials : List RecordedSeen → Counts → ℕ → Bool
+has_credentials rs sums entry = nat_lt 0 (total_in sums (label_of (codes "with_credentials") (text_at rs entry)))
+
+-- the advice fits the response of an entry, for requests with or without credentials
+pub record IsFitWith (r : RecordedSeen) (with_credentials : Bool) (a : Advice) : Type 0 where
+  pub response : ResponseSeen
+  pub shown : Shown
+  pub is_response : response_of r.reading ≡ Some response
+  pub credentials : shown.with_credentials ≡ with_credentials
+  pub is_fit : IsFit response.headers shown a
+
+-- the advice fits the full response of a url, for the requests that are counted for it
+pub record IsFitFor (rs : List RecordedSeen) (sums : Counts) (entry full : ℕ) (a : Advice) : Type 0 where
+  pub recorded : RecordedSeen
+  pub is_recorded : slice_get rs full ≡ Some recorded
+  pub is_fit : IsFitWith recorded (has_credentials rs sums entry) a
+
+abbrev pub IsFitPick : List RecordedSeen → Counts → Pick → Type 0
+IsFitPick rs sums p = IsFitFor rs sums p.entry p.full p.advice
+
+abbrev pub IsFitRemedy : List RecordedSeen → Counts → Remedy → Type 0
+IsFitRemedy rs sums m = IsFitPick rs sums m.pick
 
 -- the facts about a row, if urls follow their advice
 abbrev pub known_with : List RemedySeen → RowSeen → Known → Known

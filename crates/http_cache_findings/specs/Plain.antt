@@ -3,7 +3,7 @@ use Rattle.std.specs.Prelude.{ℕ, ◌==◌, ◌&&◌, nat_lt, nat_eq, Bool, Lis
 use Rattle.std.specs.List.{flat_map, list_any, starts_with, before_first}
 use Rattle.http_cache_recording.specs.Entry.{RecordedSeen}
 use Rattle.http_cache_findings.specs.declared.counts.Counts.{Counts}
-use Rattle.http_cache_findings.specs.Counts.{CountSeen, count_seen, label_of, total_in}
+use Rattle.http_cache_findings.specs.Counts.{Addition, CountSeen, count_seen, label_of, total_in}
 use Rattle.http_cache_findings.specs.declared.plain.Changing.{Changing}
 use Rattle.http_cache_findings.specs.Queries.{base_of}
 
@@ -40,8 +40,20 @@ abbrev pub is_base : List (List ℕ × ℕ) → List ℕ → Bool
 is_base cs base = list_any (has_base base) cs
 
 -- a url without its query, if that changes
-abbrev pub plain : List (List ℕ × ℕ) → List ℕ → List ℕ
-plain cs url = if is_base cs (base_of url) then base_of url else url
+abbrev pub plain_by : (List ℕ → Bool) → List ℕ → List ℕ
+plain_by changes url = if changes (base_of url) then base_of url else url
+
+abbrev pub plain_recorded_by : (List ℕ → Bool) → RecordedSeen → RecordedSeen
+plain_recorded_by changes r =
+    record r { printed = record r.printed { url = option_map (plain_by changes) r.printed.url } }
 
 abbrev pub plain_recorded : List (List ℕ × ℕ) → RecordedSeen → RecordedSeen
-plain_recorded cs r = record r { printed = record r.printed { url = option_map (plain cs) r.printed.url } }
+plain_recorded cs r = plain_recorded_by (is_base cs) r
+
+-- ---- bases are looked up by counts
+
+abbrev pub base_addition : List ℕ × ℕ → List Addition
+base_addition c = (label_of (codes "changing") c.0, 1) ∷ []
+
+abbrev pub is_counted : (List ℕ → ℕ) → List ℕ → Bool
+is_counted sum base = nat_lt 0 (sum (label_of (codes "changing") base))

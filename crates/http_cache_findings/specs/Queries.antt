@@ -2,7 +2,7 @@
 use Rattle.std.specs.Prelude.{ℕ, ◌==◌, ◌&&◌, nat_lt, Bool, true, false, List, [], ◌∷◌, ◌++◌, length, map, slice_get, codes}
 use Rattle.std.specs.Prelude.{Option, Some, None, option_map, option_and_then, if◌then◌else◌}
 use Rattle.std.specs.List.{flat_map}
-use Rattle.std.specs.Option.{option_map_or, option_or}
+use Rattle.std.specs.Option.{option_or}
 use Rattle.http_cache_fields.specs.Headers.{first_text}
 use Rattle.http_cache_rules.specs.Messages.{ResponseSeen}
 use Rattle.http_cache_recording.specs.Entry.{RecordedSeen, BodySeen}
@@ -10,12 +10,9 @@ use Rattle.http_cache_walk.specs.Row.{RowSeen}
 use Rattle.http_cache_walk.specs.Order.{shown_url, target_of}
 use Rattle.http_cache_findings.specs.Counts.{Addition, label_of}
 use Rattle.http_cache_walk.specs.Walk.{body_in}
-use Rattle.http_cache_findings.specs.Cost.{response_of}
+use Rattle.http_cache_findings.specs.Cost.{response_of, text_at}
 use Rattle.http_cache_findings.specs.declared.urls.Url.{Url}
 use Rattle.http_cache_findings.specs.Visit.{full_of}
-
-abbrev pub text_at : List RecordedSeen → ℕ → List ℕ
-text_at rs index = option_map_or target_of (slice_get rs index) []
 
 abbrev pub base_of : List ℕ → List ℕ
 base_of url = shown_url true url

@@ -1,5 +1,5 @@
 -- The costs of a later visit, which repeats the requests of the first load.
-use Rattle.std.specs.Prelude.{ℕ, ℤ, ◌-◌, ◌==◌, ◌&&◌, nat_lt, Bool, true, false, List, [], ◌∷◌, ◌++◌, length, codes}
+use Rattle.std.specs.Prelude.{ℕ, ℤ, ◌-◌, ◌==◌, ◌&&◌, nat_lt, Bool, true, false, List, [], ◌++◌, length, codes}
 use Rattle.std.specs.Prelude.{is_some, unwrap_or, slice_get, Option, Some, None, option_map, option_and_then, if◌then◌else◌}
 use Rattle.std.specs.List.{flat_map, find, enumerate_from, reduce, AllZip}
 use Rattle.std.specs.Int.{int_max}
@@ -13,10 +13,10 @@ use Rattle.http_cache_findings.specs.declared.cost.Known.{Known}
 use Rattle.http_cache_findings.specs.declared.cost.Cost.{Cost}
 use Rattle.http_cache_findings.specs.declared.counts.Counts.{Counts}
 use Rattle.http_cache_walk.specs.Row.{RowSeen, AuditVerdictSeen, UsedSeen}
-use Rattle.http_cache_walk.specs.Order.{entry_in, target_of}
+use Rattle.http_cache_walk.specs.Order.{entry_in}
 use Rattle.http_cache_walk.specs.Walk.{AreRows}
 use Rattle.http_cache_findings.specs.Counts.{Addition, HoldsCounts, label_of, when}
-use Rattle.http_cache_findings.specs.Cost.{FirstSeen, first_load, is_of_first, is_full_reading, is_asked_reading, used_in, sent_at, cost_of}
+use Rattle.http_cache_findings.specs.Cost.{FirstSeen, first_load, is_of_first, is_full_reading, is_asked_reading, used_in, sent_at, cost_of, text_at}
 use Rattle.http_cache_findings.specs.declared.visit.Repeat.{Repeat}
 use Rattle.http_cache_findings.specs.declared.visit.Span.{Span}
 use Rattle.http_cache_findings.specs.Copies.{IsCopy}
@@ -100,7 +100,8 @@ is_again r cost = option_map_or (λ (v : AuditVerdictSeen). is_sent v.outcome &&
 
 -- an amount for a url, and for the whole visit
 abbrev pub amount_additions : List ℕ → List ℕ → ℕ → List Addition
-amount_additions name url n = (label_of name url, n) ∷ (label_of (codes "visit") name, n) ∷ []
+amount_additions name url n =
+    when (nat_lt 0 n) (label_of name url, n) ++ when (nat_lt 0 n) (label_of (codes "visit") name, n)
 
 abbrev pub amounts : List ℕ → Cost → List Addition
 amounts url cost =
@@ -111,11 +112,8 @@ amounts url cost =
 abbrev pub sums : List ℕ → RowSeen → Cost → List Addition
 sums url r cost = amounts url cost ++ when (is_again r cost) (label_of (codes "again") url, 1)
 
-abbrev pub url_at : List RecordedSeen → ℕ → List ℕ
-url_at rs index = option_map_or target_of (slice_get rs index) []
-
 abbrev pub repeat_additions : List RecordedSeen → RowSeen → Repeat → List Addition
-repeat_additions rs r repeat = sums (url_at rs repeat.entry) r (cost_of rs repeat.known r)
+repeat_additions rs r repeat = sums (text_at rs repeat.entry) r (cost_of rs repeat.known r)
 
 -- the repeated request whose copy is at an index; the copies start at `begin`
 abbrev pub repeat_in : List Repeat → ℕ → ℕ → Option Repeat

@@ -14,7 +14,7 @@ ghost use Rattle.http_cache_findings.specs.Cost.{first_load, is_before, is_of_fi
 ghost use Rattle.http_cache_findings.specs.Cost.{used_in, ends_in_full, full_additions, known_by, known_of, response_of};
 ghost use Rattle.http_cache_findings.specs.Cost.{is_same_response, is_304, is_used_again, is_confirmed, head_sent, all_sent};
 ghost use Rattle.http_cache_findings.specs.Cost.{cost_by, cost_of, load_name, sum_additions, is_asked_reading};
-ghost use Rattle.http_cache_findings.specs.Cost.{cost_additions, all_costs};
+ghost use Rattle.http_cache_findings.specs.Cost.{cost_additions, all_costs, text_at};
 
 use crate::counts::{Counts, is_asked, is_in_full};
 use http::response;
@@ -264,6 +264,16 @@ pub fn known_of(
     Ok(all)
 }
 
+/// Returns the url of an entry, or an empty text if there is no such entry.
+pub fn text_at(recorded: &[Recorded], index: usize) -> &str
+    ensures { result.now ≡ text_at (map recorded_seen recorded.now) index }
+{
+    match recorded.get(index) {
+        Some(one) => target_of(one),
+        None => "",
+    }
+}
+
 /// Returns the response of an entry, if it has one.
 pub fn response_of(recorded: &Recorded) -> Option<&response::Parts>
     ensures { option_map (λ r. response_seen r.now) result
@@ -276,6 +286,19 @@ pub fn response_of(recorded: &Recorded) -> Option<&response::Parts>
         Answer::Failed => None,
         Answer::Cached(response) | Answer::Received(response) => Some(response),
     }
+}
+
+/// Returns the entry at an index.
+pub fn recorded_at(recorded: &[Recorded], index: usize) -> Option<&Recorded>
+    ensures { option_map (λ r. recorded_seen r.now) result
+        ≡ slice_get (map recorded_seen recorded.now) index }
+{
+    recorded.get(index)
+}
+
+/// Returns the response of the entry at an index.
+pub fn response_at(recorded: &[Recorded], index: usize) -> Option<&response::Parts> {
+    response_of(recorded.get(index)?)
 }
 
 fn body_of(recorded: &Recorded) -> Option<&Body>

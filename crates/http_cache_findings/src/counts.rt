@@ -77,7 +77,7 @@ impl Counts {
     {
         let label = label_of(self.alloc, group, name)?;
         let count = self.with_more(label.as_str(), amount);
-        put(self.alloc, &mut self.by_label, label.as_str(), count)?;
+        put(&mut self.by_label, label, count)?;
         Ok(())
     }
 

@@ -1,23 +1,23 @@
 //! The facts that a report has about a recording, and what the recording costs with what is
 //! advised.
-ghost use Rattle.std.specs.Prelude.{◌≡◌, ◌+◌, ◌/◌, nat_abs, ◌-ℤ◌, map, IfOk, option_map, length};
+ghost use Rattle.std.specs.Prelude.{◌≡◌, map, IfOk, option_map, length};
 ghost use Rattle.http_cache_semantics.specs.Options.{options_of};
 ghost use Rattle.http_cache_recording.specs.Entry.{recorded_seen};
 ghost use Rattle.http_cache_walk.specs.Row.{row_seen};
-ghost use Rattle.http_cache_findings.specs.Plain.{changing_seen, plain_recorded};
+ghost use Rattle.http_cache_findings.specs.Plain.{changing_seen};
 ghost use Rattle.http_cache_findings.specs.Remedy.{remedy_seen, remedied};
 ghost use Rattle.http_cache_findings.specs.Visit.{span_seen};
-ghost use Rattle.http_cache_findings.specs.Facts.{seconds_between, took, AreFacts, AreAlone, AreUrlCosts, known_repeat, repeats_after};
-ghost use Rattle.http_cache_findings.specs.Facts.{AreCostsWith, IsAfter, AreRepeats, AreFactsBy};
+ghost use Rattle.http_cache_findings.specs.Facts.{AreFacts, AreAlone, AreUrlCosts, known_repeat, repeats_after};
+ghost use Rattle.http_cache_findings.specs.Facts.{AreCostsWith, ArePlainCosts, IsAfter, AreRepeats, AreFactsBy};
 
-use crate::cost::{Known, known_of};
+use crate::cost::{Known, known_of, text_at};
 use crate::counts::Counts;
 use crate::findings::Loads;
 use crate::later::{Visits, visits_of};
-use crate::loads::{all_loads, loads_of};
+use crate::loads::all_loads;
 use crate::picks::{known_after, url_costs};
 use crate::plain::{Changing, changing_in, plain_all, with_queries};
-use crate::queries::{bases_of, changing_of, text_at};
+use crate::queries::{bases_of, changing_of};
 use crate::remedy::{Remedy, is_still_in_full, remedied_all, restored_all};
 use crate::urls::{Url, sums_of, urls_in};
 use crate::visit::{Repeat, Span, repeats_of, span_of};
@@ -26,7 +26,6 @@ use http_cache_recording::Recorded;
 use http_cache_semantics::CacheOptions;
 use http_cache_walk::row::Row;
 use http_cache_walk::walk::rows_of;
-use jiff::Timestamp;
 use std::alloc::{AllocError, Global};
 
 /// The facts about a recording.
@@ -59,25 +58,19 @@ pub struct After {
     pub alone: Counts,
     /// The costs of each url's requests if urls follow their whole advice.
     pub costs: Counts,
-    /// These costs without the queries that change.
+    /// These costs without the queries that change, if there are any.
     pub plain: Counts,
     /// The costs of later visits then.
     pub visits: Visits,
 }
 
-fn seconds_between(a: Timestamp, b: Timestamp) -> u128
-    ensures { result ≡ seconds_between a.nanosecond b.nanosecond }
-{
-    ((a.as_nanosecond() - b.as_nanosecond()).unsigned_abs() + 500_000_000) / 1_000_000_000
-}
-
-fn took(span: &Option<Span>) -> u128
-    ensures { result ≡ took (option_map span_seen span.now) }
-{
-    match span {
-        Some(span) => seconds_between(span.ended, span.begun),
-        None => 0,
-    }
+// Returns the seconds that a recording took, rounded.
+fn took(span: &Option<Span>) -> u128 {
+    let Some(span) = span else {
+        return 0;
+    };
+    let took = span.ended.as_nanosecond() - span.begun.as_nanosecond();
+    (took.unsigned_abs() + 500_000_000) / 1_000_000_000
 }
 
 // Returns the requests that a later visit repeats, and the number of urls with each base.
@@ -112,8 +105,7 @@ fn facts_by(
     let (repeats, bases) = repeats_by(alloc, recorded, rows, known.as_slice(), urls.as_slice())?;
     let changing = changing_in(alloc, &bases)?;
     let span = span_of(recorded, rows);
-    let firsts = loads_of(alloc, rows)?;
-    let loads = all_loads(alloc, rows, firsts.as_slice(), took(&span))?;
+    let loads = all_loads(alloc, rows, took(&span))?;
     Ok(Facts {
         is_shared,
         loads,
@@ -207,7 +199,8 @@ fn repeats_after(
     Ok(all)
 }
 
-// Returns the costs of a recording without the queries that change, and the recording.
+// Returns the costs of a recording without the queries that change, if there are any, and the
+// recording.
 fn plain_costs(
     alloc: Global,
     recorded: Vec<Recorded>,
@@ -216,9 +209,12 @@ fn plain_costs(
     known: &[Known],
     changing: &[Changing],
 ) -> Result<(Counts, Vec<Recorded>), AllocError>
-    ensures { IfOk result (λ made. AreUrlCosts (map (plain_recorded (map changing_seen changing.now))
-        (map recorded_seen recorded.items)) (options_of options.now) target.now known.now made.0) }
+    ensures { IfOk result (λ made. ArePlainCosts (map recorded_seen recorded.items)
+        (options_of options.now) target.now known.now (map changing_seen changing.now) made.0) }
 {
+    if changing.is_empty() {
+        return Ok((Counts::new(alloc), recorded));
+    }
     let (recorded, own) = plain_all(alloc, recorded, changing)?;
     let costs = costs_of(alloc, recorded.as_slice(), target, options, known)?;
     let recorded = with_queries(alloc, recorded, own)?;

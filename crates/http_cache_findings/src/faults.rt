@@ -2,13 +2,12 @@
 //! server answers a condition.
 use crate::advice::{is_page, is_part};
 use crate::by_size::order_of;
-use crate::cost::response_of;
+use crate::cost::response_at;
 use crate::findings::{Fault, FaultyUrl};
 use crate::lint::{Flaw, flaws_of};
 use crate::queries::url_at;
 use crate::says::said_at;
 use crate::urls::{Life, Url};
-use http::HeaderMap;
 use http_cache_fields::reading::says;
 use http_cache_recording::{Reading, Recorded};
 use std::alloc::{AllocError, Global};
@@ -23,20 +22,16 @@ fn flaws_at(alloc: Global, recorded: &[Recorded], index: usize) -> Result<Vec<Fl
     }
 }
 
-fn headers_at(recorded: &[Recorded], index: usize) -> Option<&HeaderMap> {
-    Some(&response_of(recorded.get(index)?)?.headers)
-}
-
 fn is_unstored_part(recorded: &[Recorded], url: &Url) -> bool {
-    match headers_at(recorded, url.full) {
-        Some(headers) => is_part(headers) && says(headers, "no-store"),
+    match response_at(recorded, url.full) {
+        Some(response) => is_part(&response.headers) && says(&response.headers, "no-store"),
         None => false,
     }
 }
 
 fn is_guessed_page(recorded: &[Recorded], url: &Url) -> bool {
-    match headers_at(recorded, url.full) {
-        Some(headers) => is_page(headers) && matches!(url.life, Life::Guessed(1..)),
+    match response_at(recorded, url.full) {
+        Some(response) => is_page(&response.headers) && matches!(url.life, Life::Guessed(1..)),
         None => false,
     }
 }

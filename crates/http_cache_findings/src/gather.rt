@@ -12,6 +12,7 @@ ghost use Rattle.http_cache_findings.specs.Plain.{changing_seen};
 
 use crate::by_size::order_of;
 use crate::changes::Change;
+use crate::cost::text_at;
 use crate::counts::Counts;
 use crate::facts::{Facts, facts_of};
 use crate::faults::faulty_of;
@@ -26,7 +27,7 @@ use crate::later::{
 };
 use crate::outlook::{Outlook, outlook_of};
 use crate::picks::base_of;
-use crate::queries::{text_at, url_at};
+use crate::queries::url_at;
 use crate::remedy::Remedy;
 use crate::says::said_at;
 use crate::split::split_of;

@@ -1,26 +1,15 @@
 //! The urls of the first load that need no change.
-ghost use Rattle.std.specs.Prelude.{◌≡◌, map, IfOk, IsTrue, true, false};
-ghost use Rattle.http_cache_recording.specs.Entry.{recorded_seen};
-ghost use Rattle.http_cache_findings.specs.Later.{any_asks, is_only_confirmed};
-ghost use Rattle.http_cache_findings.specs.Queries.{text_at};
-
 use crate::by_size::order_of;
+use crate::cost::text_at;
 use crate::counts::Counts;
 use crate::faults::faults_of;
 use crate::findings::GoodUrl;
-use crate::later::{any_asks, is_again, is_changed, is_confirmed, is_given};
+use crate::later::{any_asks, is_changed, is_given, is_only_confirmed};
 use crate::outlook::Outlook;
-use crate::queries::{text_at, url_at};
+use crate::queries::url_at;
 use crate::urls::{Life, Url};
 use http_cache_recording::Recorded;
 use std::alloc::{AllocError, Global};
-
-// Returns whether a 304 confirms the stored response of a url, for each of its requests.
-fn is_only_confirmed(visit: &Counts, url: &str) -> Result<bool, AllocError>
-    ensures { IfOk result (λ holds. holds ≡ is_only_confirmed visit.now url.now) }
-{
-    Ok(is_confirmed(visit, url)? && !is_again(visit, url)?)
-}
 
 // Returns whether a url of the first load isn't to be changed first and has no faults.
 fn needs_nothing(
@@ -29,39 +18,39 @@ fn needs_nothing(
     outlook: &Outlook,
     url: &Url,
 ) -> Result<bool, AllocError> {
-    let faults = faults_of(alloc, recorded, url)?;
-    let changes = outlook.changes.as_slice();
-    Ok(url.known.is_first && !is_changed(changes, url) && faults.is_empty())
+    Ok(
+        url.known.is_first
+            && !is_changed(outlook.changes.as_slice(), url)
+            && faults_of(alloc, recorded, url)?.is_empty(),
+    )
 }
 
-// Returns whether a url states a lifetime, and no visit requests it.
+// Returns whether a url states a lifetime, no visit requests it, and it needs nothing.
 fn is_kept(
     alloc: Global,
     recorded: &[Recorded],
     outlook: &Outlook,
     url: &Url,
-) -> Result<bool, AllocError>
-    ensures { IfOk result (λ holds. IsTrue holds → any_asks outlook.now.visits
-        (text_at (map recorded_seen recorded.now) url.now.entry) ≡ false) }
-{
-    let needs_nothing = needs_nothing(alloc, recorded, outlook, url)?;
-    let asked = any_asks(&outlook.visits, text_at(recorded, url.entry))?;
-    Ok(needs_nothing && is_given(url.life) && !asked)
+) -> Result<bool, AllocError> {
+    Ok(
+        is_given(url.life)
+            && !any_asks(&outlook.visits, text_at(recorded, url.entry))?
+            && needs_nothing(alloc, recorded, outlook, url)?,
+    )
 }
 
-// Returns whether a url says `no-cache`, and a 304 confirms it a day later.
+// Returns whether a url says `no-cache`, a 304 confirms it a day later, and it needs nothing.
 fn is_checked(
     alloc: Global,
     recorded: &[Recorded],
     outlook: &Outlook,
     url: &Url,
-) -> Result<bool, AllocError>
-    ensures { IfOk result (λ holds. IsTrue holds → is_only_confirmed outlook.now.visits.day
-        (text_at (map recorded_seen recorded.now) url.now.entry) ≡ true) }
-{
-    let needs_nothing = needs_nothing(alloc, recorded, outlook, url)?;
-    let confirmed = is_only_confirmed(&outlook.visits.day, text_at(recorded, url.entry))?;
-    Ok(needs_nothing && matches!(url.life, Life::NoCache) && confirmed)
+) -> Result<bool, AllocError> {
+    Ok(
+        matches!(url.life, Life::NoCache)
+            && is_only_confirmed(&outlook.visits.day, text_at(recorded, url.entry))?
+            && needs_nothing(alloc, recorded, outlook, url)?,
+    )
 }
 
 // Returns the mean bytes of a url's requests in a later load, rounded down.

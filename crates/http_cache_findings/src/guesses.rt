@@ -1,33 +1,20 @@
 //! The urls of the first load that state no lifetime, so that each cache guesses one.
-ghost use Rattle.std.specs.Prelude.{◌≡◌, map};
-ghost use Rattle.http_cache_recording.specs.Entry.{recorded_seen};
-ghost use Rattle.http_cache_findings.specs.Later.{guess_in, guess_of};
 
+use crate::cost::text_at;
 use crate::counts::Counts;
 use crate::findings::Guesses;
-use crate::later::{Visits, is_again, is_confirmed, size_at, status_at};
-use crate::queries::text_at;
+use crate::later::{Visits, is_only_confirmed, size_at, status_at};
 use crate::urls::{Life, Url};
 use http_cache_recording::Recorded;
 use std::alloc::{AllocError, Global};
 
-fn guess_in(life: Life) -> Option<u64>
-    ensures { result ≡ guess_in life }
-{
-    match life {
-        Life::Guessed(seconds) => Some(seconds),
-        _ => None,
-    }
-}
-
 /// Returns the guessed lifetime of a url of the first load that is no failure.
-pub fn guess_of(recorded: &[Recorded], url: &Url) -> Option<u64>
-    ensures { result ≡ guess_of (map recorded_seen recorded.now) url.now }
-{
-    if url.known.is_first && status_at(recorded, url.full) < 400 {
-        guess_in(url.life)
-    } else {
-        None
+pub fn guess_of(recorded: &[Recorded], url: &Url) -> Option<u64> {
+    match url.life {
+        Life::Guessed(seconds) if url.known.is_first && status_at(recorded, url.full) < 400 => {
+            Some(seconds)
+        }
+        _ => None,
     }
 }
 
@@ -35,9 +22,8 @@ pub fn guess_of(recorded: &[Recorded], url: &Url) -> Option<u64>
 fn confirmed_of(recorded: &[Recorded], visit: &Counts, urls: &[Url]) -> Result<u64, AllocError> {
     let mut count = 0u64;
     for url in urls {
-        let text = text_at(recorded, url.entry);
-        let is_sent = is_again(visit, text)?;
-        if guess_of(recorded, url).is_some() && !is_sent && is_confirmed(visit, text)? {
+        let is_confirmed = is_only_confirmed(visit, text_at(recorded, url.entry))?;
+        if guess_of(recorded, url).is_some() && is_confirmed {
             count = count.saturating_add(1);
         }
     }

@@ -3,16 +3,14 @@ ghost use Rattle.std.specs.Prelude.{◌≡◌, map, IfOk};
 ghost use Rattle.http_cache_semantics.specs.Options.{options_of};
 ghost use Rattle.http_cache_recording.specs.Entry.{recorded_seen};
 ghost use Rattle.http_cache_findings.specs.Visit.{span_seen};
-ghost use Rattle.http_cache_findings.specs.Later.{AreVisits, IsLater, is_again, is_confirmed, asks, any_asks};
-ghost use Rattle.http_cache_findings.specs.Later.{sum_in, status_at, size_at, is_given, status_in};
+ghost use Rattle.http_cache_findings.specs.Later.{AreVisits, IsLater, sum_in};
 
 use crate::advice::Advice;
 use crate::changes::Change;
-use crate::cost::response_of;
+use crate::cost::{response_at, text_at};
 use crate::counts::Counts;
 use crate::facts::Facts;
 use crate::picks::advice_for;
-use crate::queries::text_at;
 use crate::urls::{Life, Url};
 use crate::visit::{Repeat, Span, visit};
 use http::Uri;
@@ -78,29 +76,26 @@ pub fn visits_of(
 }
 
 /// Returns whether the full response of a url is sent again.
-pub fn is_again(visit: &Counts, url: &str) -> Result<bool, AllocError>
-    ensures { IfOk result (λ holds. holds ≡ is_again visit.now url.now) }
-{
+pub fn is_again(visit: &Counts, url: &str) -> Result<bool, AllocError> {
     Ok(visit.total_of("again", url)? > 0)
 }
 
 /// Returns whether a 304 confirms what is stored for a url.
-pub fn is_confirmed(visit: &Counts, url: &str) -> Result<bool, AllocError>
-    ensures { IfOk result (λ holds. holds ≡ is_confirmed visit.now url.now) }
-{
+pub fn is_confirmed(visit: &Counts, url: &str) -> Result<bool, AllocError> {
     Ok(visit.total_of("confirmed", url)? > 0)
 }
 
-fn asks(visit: &Counts, url: &str) -> Result<bool, AllocError>
-    ensures { IfOk result (λ holds. holds ≡ asks visit.now url.now) }
-{
+/// Returns whether a 304 confirms what is stored for a url, at each of its requests.
+pub fn is_only_confirmed(visit: &Counts, url: &str) -> Result<bool, AllocError> {
+    Ok(is_confirmed(visit, url)? && !is_again(visit, url)?)
+}
+
+fn asks(visit: &Counts, url: &str) -> Result<bool, AllocError> {
     Ok(is_again(visit, url)? || is_confirmed(visit, url)?)
 }
 
 /// Returns whether one of the visits requests a url.
-pub fn any_asks(visits: &Visits, url: &str) -> Result<bool, AllocError>
-    ensures { IfOk result (λ holds. holds ≡ any_asks visits.now url.now) }
-{
+pub fn any_asks(visits: &Visits, url: &str) -> Result<bool, AllocError> {
     Ok(
         asks(&visits.hour, url)?
             || asks(&visits.day, url)?
@@ -116,29 +111,16 @@ pub fn sum_in(visit: &Counts, name: &str) -> Result<u64, AllocError>
     visit.total_of("visit", name)
 }
 
-fn status_in(recorded: &Recorded) -> u16
-    ensures { result ≡ status_in (recorded_seen recorded.now) }
-{
-    match response_of(recorded) {
+/// Returns the status of an entry, or 0.
+pub fn status_at(recorded: &[Recorded], index: usize) -> u16 {
+    match response_at(recorded, index) {
         Some(response) => response.status.as_u16(),
         None => 0,
     }
 }
 
-/// Returns the status of an entry, or 0.
-pub fn status_at(recorded: &[Recorded], index: usize) -> u16
-    ensures { result ≡ status_at (map recorded_seen recorded.now) index }
-{
-    match recorded.get(index) {
-        Some(one) => status_in(one),
-        None => 0,
-    }
-}
-
 /// Returns how many bytes were sent for an entry.
-pub fn size_at(recorded: &[Recorded], index: usize) -> u64
-    ensures { result ≡ size_at (map recorded_seen recorded.now) index }
-{
+pub fn size_at(recorded: &[Recorded], index: usize) -> u64 {
     match recorded.get(index) {
         Some(one) => one.printed.sent,
         None => 0,
@@ -146,9 +128,7 @@ pub fn size_at(recorded: &[Recorded], index: usize) -> u64
 }
 
 /// Returns whether headers state the lifetime.
-pub fn is_given(life: Life) -> bool
-    ensures { result ≡ is_given life }
-{
+pub fn is_given(life: Life) -> bool {
     matches!(life, Life::Given(_))
 }
 
@@ -170,10 +150,12 @@ pub fn is_asked_later(
     sums: &Counts,
     url: &Url,
 ) -> Result<bool, AllocError> {
-    let asked = any_asks(visits, text_at(recorded, url.entry))?;
+    if !url.known.is_first || !is_given(url.life) {
+        return Ok(false);
+    }
     let is_large = size_at(recorded, url.full) >= least_of_listed(sums)?;
     let fails = status_at(recorded, url.full) >= 400;
-    Ok(url.known.is_first && is_given(url.life) && asked && (is_large || fails))
+    Ok((is_large || fails) && any_asks(visits, text_at(recorded, url.entry))?)
 }
 
 // Returns whether a visit asks for less with what is advised.
@@ -203,9 +185,11 @@ fn is_listed(
     sums: &Counts,
     url: &Url,
 ) -> Result<bool, AllocError> {
-    let is_asked = is_asked_later(recorded, now, sums, url)?;
-    let saves = any_asks_less(now, then, text_at(recorded, url.entry))?;
-    Ok((is_asked || saves) && !is_changed(changes, url))
+    Ok(
+        !is_changed(changes, url)
+            && (is_asked_later(recorded, now, sums, url)?
+                || any_asks_less(now, then, text_at(recorded, url.entry))?),
+    )
 }
 
 /// Returns for each url whether the section on later visits lists it.

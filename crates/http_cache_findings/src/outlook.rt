@@ -7,7 +7,7 @@ ghost use Rattle.http_cache_findings.specs.Outlook.{AreOutlook, present_of, advi
 use crate::changes::{Change, Prices, changes_of};
 use crate::facts::{After, Facts, after_of};
 use crate::later::{Visits, visits_of};
-use crate::picks::{Base, all_by, base_of, picks_of, remedies_of};
+use crate::picks::{Base, all_by, base_of, remedies_of};
 use crate::remedy::Remedy;
 use crate::visit::Span;
 use http::Uri;
@@ -51,18 +51,6 @@ fn prices_of<'a>(base: Base, facts: &'a Facts, visits: &'a Visits, after: &'a Af
     }
 }
 
-// Returns what is advised, for the urls for which that may save bytes.
-fn candidates_of(
-    alloc: Global,
-    recorded: &[Recorded],
-    facts: &Facts,
-    base: Base,
-    visits: &Visits,
-) -> Result<Vec<Remedy>, AllocError> {
-    let picks = picks_of(alloc, recorded, facts, base, visits)?;
-    remedies_of(alloc, recorded, picks.as_slice())
-}
-
 /// Returns the costs of a recording and what to change first, and the recording as it was.
 pub fn outlook_of(
     alloc: Global,
@@ -80,7 +68,7 @@ pub fn outlook_of(
     let visits = visits_of(alloc, &mut recorded, repeats, span, target, *options)?;
     let base = base_of(&facts.sums)?;
     let all = all_by(base, &facts.sums, &visits)?;
-    let remedies = candidates_of(alloc, recorded.as_slice(), facts, base, &visits)?;
+    let remedies = remedies_of(alloc, recorded.as_slice(), facts, base, &visits)?;
     let advised = remedies.as_slice();
     let (after, recorded) = after_of(alloc, recorded, target, options, advised, facts, &span)?;
     let prices = prices_of(base, facts, &visits, &after);

@@ -1,5 +1,6 @@
 //! The urls that have an advice, the sums by which they are ordered, and the costs of all requests.
-ghost use Rattle.std.specs.Prelude.{◌≡◌, ◌++◌, [], ◌∷◌, map, IfOk, OnOk, option_map};
+ghost use Rattle.std.specs.Prelude.{◌≡◌, ◌++◌, [], ◌∷◌, map, IfOk, IfSome, OnOk, option_map};
+ghost use Rattle.std.specs.List.{All};
 ghost use Rattle.std.specs.Option.{option_map_or, option_to_list};
 ghost use Rattle.http_cache_recording.specs.Entry.{recorded_seen};
 ghost use Rattle.http_cache_walk.specs.Row.{row_seen};
@@ -7,24 +8,22 @@ ghost use Rattle.http_cache_findings.specs.Counts.{CountsAlso, HoldsCounts, labe
 ghost use Rattle.http_cache_findings.specs.Queries.{base_of as url_base_of};
 ghost use Rattle.http_cache_findings.specs.Remedy.{remedy_seen};
 ghost use Rattle.http_cache_findings.specs.Picks.{known_with, known_at};
+ghost use Rattle.http_cache_findings.specs.Picks.{IsFitWith, IsFitFor, IsFitPick, IsFitRemedy, has_credentials};
 ghost use Rattle.http_cache_findings.specs.Picks.{known_after, cost_name, base_name, byte_additions, url_cost, url_costs_at, url_costs};
 
 use crate::advice::{Advice, Shown, advice_of};
-use crate::cost::{Known, cost_of, is_asked_reading, known_at, response_of};
+use crate::cost::{Known, cost_of, is_asked_reading, known_at, recorded_at, response_of, text_at};
 use crate::counts::Counts;
 use crate::facts::Facts;
 use crate::later::{Visits, is_asked_later};
-use crate::queries::{base_of as url_base, text_at};
+use crate::lint::seconds_in;
+use crate::queries::base_of as url_base;
 use crate::remedy::{Remedy, is_still_in_full};
 use crate::urls::{Life, Url};
 use http::HeaderMap;
-use http::header::CACHE_CONTROL;
-use http_cache_fields::directives::split_piece;
 use http_cache_fields::headers::contains_key;
-use http_cache_fields::names::is_same_name;
-use http_cache_fields::pieces::pieces_under;
-use http_cache_fields::text::{number, unquote};
 use http_cache_recording::{Reading, Recorded};
+use http_cache_walk::lifetime::first_named;
 use http_cache_walk::order::target_of;
 use http_cache_walk::row::Row;
 use std::alloc::{AllocError, Global};
@@ -79,11 +78,7 @@ fn max_of(a: Option<u64>, b: Option<u64>) -> Option<u64> {
 
 // Returns the seconds of the first directive with a name, if they can be read.
 fn seconds_under(headers: &HeaderMap, name: &str) -> Option<u64> {
-    let piece = pieces_under(headers, CACHE_CONTROL).find(|piece| is_same_name(
-        split_piece(piece).0,
-        name,
-    ))?;
-    number(unquote(split_piece(piece).1?))
+    seconds_in(first_named(headers, name)?)
 }
 
 fn given_by(life: Life) -> Option<u64> {
@@ -109,12 +104,9 @@ fn is_by_worker(full: &Recorded) -> bool {
 }
 
 // Returns the advice for a full response, if that is a 200.
-fn advice_by(
-    full: &Recorded,
-    url: &Url,
-    is_shared: bool,
-    with_credentials: bool,
-) -> Option<Advice> {
+fn advice_by(full: &Recorded, url: &Url, is_shared: bool, with_credentials: bool) -> Option<Advice>
+    ensures { IfSome result (IsFitWith (recorded_seen full.now) with_credentials) }
+{
     let response = response_of(full)?;
     if response.status.as_u16() != 200 {
         return None;
@@ -129,17 +121,24 @@ fn advice_by(
     advice_of(&response.headers, target_of(full), shown)
 }
 
+fn has_credentials(recorded: &[Recorded], sums: &Counts, entry: usize) -> Result<bool, AllocError>
+    ensures { IfOk result (λ has. has
+        ≡ has_credentials (map recorded_seen recorded.now) sums.now entry) }
+{
+    Ok(sums.total_of("with_credentials", text_at(recorded, entry))? > 0)
+}
+
 /// Returns what a url is advised to send, if anything.
 pub fn advice_for(
     recorded: &[Recorded],
     url: &Url,
     facts: &Facts,
-) -> Result<Option<Advice>, AllocError> {
-    let with_credentials = facts
-        .sums
-        .total_of("with_credentials", text_at(recorded, url.entry))?
-        > 0;
-    Ok(match recorded.get(url.full) {
+) -> Result<Option<Advice>, AllocError>
+    ensures { IfOk result (λ found. IfSome found (IsFitFor (map recorded_seen recorded.now)
+        facts.now.sums url.now.entry url.now.full)) }
+{
+    let with_credentials = has_credentials(recorded, &facts.sums, url.entry)?;
+    Ok(match recorded_at(recorded, url.full) {
         Some(full) => advice_by(full, url, facts.is_shared, with_credentials),
         None => None,
     })
@@ -195,7 +194,10 @@ fn pick_by(
     base: Base,
     sums: &Counts,
     visits: &Visits,
-) -> Result<Pick, AllocError> {
+) -> Result<Pick, AllocError>
+    ensures { IfOk result (λ p. p.entry ≡ url.now.entry × p.full ≡ url.now.full
+        × p.advice ≡ advice) }
+{
     let text = text_at(recorded, url.entry);
     let bytes = base.bytes_in(sums, visits, text)?;
     let all = all_by(base, sums, visits)?;
@@ -217,55 +219,57 @@ fn is_sent(url: &Url) -> bool {
     }
 }
 
-fn push_pick(
-    picks: &mut Vec<Pick>,
+// Returns the pick of a url, if it has an advice, and many bytes are sent for it when the page is
+// loaded again, or the section on later visits lists it.
+fn pick_of(
     recorded: &[Recorded],
     url: &Url,
     facts: &Facts,
     base: Base,
     visits: &Visits,
-) -> Result<(), AllocError> {
+) -> Result<Option<Pick>, AllocError>
+    ensures { IfOk result (λ found. IfSome found (IsFitPick (map recorded_seen recorded.now)
+        facts.now.sums)) }
+{
     let Some(advice) = advice_for(recorded, url, facts)? else {
-        return Ok(());
+        return Ok(None);
     };
-    if !is_sent(url) {
-        return Ok(());
-    }
     let pick = pick_by(recorded, url, advice, base, &facts.sums, visits)?;
-    if pick.is_much || is_asked_later(recorded, visits, &facts.sums, url)? {
-        picks.push(pick)?;
+    let is_asked = is_asked_later(recorded, visits, &facts.sums, url)?;
+    if is_sent(url) && (pick.is_much || is_asked) {
+        Ok(Some(pick))
+    } else {
+        Ok(None)
     }
-    Ok(())
 }
 
-/// Returns the urls that have an advice, in the order of their first requests: those for which many
+/// Returns what the url of a pick is advised to send.
+pub fn remedy_of(alloc: Global, recorded: &[Recorded], pick: Pick) -> Result<Remedy, AllocError>
+    ensures { IfOk result (λ m. m.pick ≡ pick) }
+{
+    Ok(Remedy {
+        url: String::from_str(alloc, text_at(recorded, pick.entry))?,
+        pick,
+    })
+}
+
+/// Returns what urls are advised to send, in the order of their first requests: those for which many
 /// bytes are sent when the page is loaded again, and those that the section on later visits lists.
-pub fn picks_of(
+pub fn remedies_of(
     alloc: Global,
     recorded: &[Recorded],
     facts: &Facts,
     base: Base,
     visits: &Visits,
-) -> Result<Vec<Pick>, AllocError> {
-    let mut picks = Vec::new(alloc);
+) -> Result<Vec<Remedy>, AllocError>
+    ensures { IfOk result (λ all. All (IsFitRemedy (map recorded_seen recorded.now) facts.now.sums)
+        all.items) }
+{
+    let mut all = Vec::new(alloc);
     for url in facts.urls.as_slice() {
-        push_pick(&mut picks, recorded, url, facts, base, visits)?;
-    }
-    Ok(picks)
-}
-
-/// Returns what the urls are advised to send.
-pub fn remedies_of(
-    alloc: Global,
-    recorded: &[Recorded],
-    picks: &[Pick],
-) -> Result<Vec<Remedy>, AllocError> {
-    let mut all = Vec::with_capacity(alloc, picks.len())?;
-    for pick in picks {
-        all.push(Remedy {
-            url: String::from_str(alloc, text_at(recorded, pick.entry))?,
-            pick: *pick,
-        })?;
+        if let Some(pick) = pick_of(recorded, url, facts, base, visits)? {
+            all.push(remedy_of(alloc, recorded, pick)?)?;
+        }
     }
     Ok(all)
 }

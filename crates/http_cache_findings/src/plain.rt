@@ -1,8 +1,10 @@
 //! Queries that change while the response doesn't: finds them, and removes them from a recording.
 ghost use Rattle.std.specs.Prelude.{◌≡◌, ◌++◌, map, IfOk, OnOk, option_map, string_bytes};
 ghost use Rattle.http_cache_recording.specs.Entry.{recorded_seen, text_seen};
-ghost use Rattle.http_cache_findings.specs.Counts.{total_in};
-ghost use Rattle.http_cache_findings.specs.Plain.{changing_seen, front_of, changing_if, changing_at, changing_in, is_base, plain, plain_recorded};
+ghost use Rattle.std.specs.List.{flat_map};
+ghost use Rattle.http_cache_findings.specs.Counts.{CountsAlso, HoldsCounts, total_in};
+ghost use Rattle.http_cache_findings.specs.Plain.{changing_seen, front_of, changing_if, changing_at, changing_in};
+ghost use Rattle.http_cache_findings.specs.Plain.{base_addition, is_counted, plain_by, plain_recorded_by, plain_recorded};
 
 use crate::counts::Counts;
 use crate::queries::base_of;
@@ -76,23 +78,36 @@ pub fn changing_in(alloc: Global, bases: &Counts) -> Result<Vec<Changing>, Alloc
     Ok(all)
 }
 
-fn is_base(changing: &[Changing], base: &str) -> bool
-    ensures { result ≡ is_base (map changing_seen changing.now) base.now }
+fn add_base(bases: &mut Counts, one: &Changing) -> Result<(), AllocError>
+    ensures { OnOk result (CountsAlso (base_addition (changing_seen one.now)) bases.old bases.new) }
 {
-    changing.iter().any(|one| one.base.as_str() == base)
+    bases.add("changing", one.base.as_str(), 1)
+}
+
+// Counts the bases, to look them up.
+fn counted(alloc: Global, changing: &[Changing]) -> Result<Counts, AllocError>
+    ensures { IfOk result (HoldsCounts (flat_map base_addition (map changing_seen changing.now))) }
+{
+    let mut bases = Counts::new(alloc);
+    for one in changing {
+        add_base(&mut bases, one)?;
+    }
+    Ok(bases)
+}
+
+fn is_counted(bases: &Counts, base: &str) -> Result<bool, AllocError>
+    ensures { IfOk result (λ holds. holds ≡ is_counted (total_in bases.now) base.now) }
+{
+    Ok(bases.total_of("changing", base)? > 0)
 }
 
 // Returns a url without its query if that changes, and then also as it was.
-fn plain(
-    alloc: Global,
-    changing: &[Changing],
-    url: String,
-) -> Result<(String, Option<String>), AllocError>
+fn plain(alloc: Global, bases: &Counts, url: String) -> Result<(String, Option<String>), AllocError>
     ensures { IfOk result (λ made. string_bytes made.0
-        ≡ plain (map changing_seen changing.now) (string_bytes url)) }
+        ≡ plain_by (is_counted (total_in bases.now)) (string_bytes url)) }
 {
     let base = base_of(url.as_str());
-    if is_base(changing, base) {
+    if is_counted(bases, base)? {
         Ok((String::from_str(alloc, base)?, Some(url)))
     } else {
         Ok((url, None))
@@ -101,15 +116,15 @@ fn plain(
 
 fn plain_url(
     alloc: Global,
-    changing: &[Changing],
+    bases: &Counts,
     url: Option<String>,
 ) -> Result<(Option<String>, Option<String>), AllocError>
     ensures { IfOk result (λ made. text_seen made.0
-        ≡ option_map (plain (map changing_seen changing.now)) (text_seen url)) }
+        ≡ option_map (plain_by (is_counted (total_in bases.now))) (text_seen url)) }
 {
     match url {
         Some(url) => {
-            let (url, own) = plain(alloc, changing, url)?;
+            let (url, own) = plain(alloc, bases, url)?;
             Ok((Some(url), own))
         }
         None => Ok((None, None)),
@@ -119,18 +134,36 @@ fn plain_url(
 fn plain_recorded(
     alloc: Global,
     recorded: Recorded,
-    changing: &[Changing],
+    bases: &Counts,
 ) -> Result<(Recorded, Option<String>), AllocError>
     ensures { IfOk result (λ made. recorded_seen made.0
-        ≡ plain_recorded (map changing_seen changing.now) (recorded_seen recorded)) }
+        ≡ plain_recorded_by (is_counted (total_in bases.now)) (recorded_seen recorded)) }
 {
     let printed = recorded.printed;
-    let (url, own) = plain_url(alloc, changing, printed.url)?;
+    let (url, own) = plain_url(alloc, bases, printed.url)?;
     let recorded = Recorded {
         printed: Printed { url, ..printed },
         reading: recorded.reading,
     };
     Ok((recorded, own))
+}
+
+fn plain_by(
+    alloc: Global,
+    recorded: Vec<Recorded>,
+    bases: &Counts,
+) -> Result<(Vec<Recorded>, Vec<Option<String>>), AllocError>
+    ensures { IfOk result (λ made. map recorded_seen made.0.items
+        ≡ map (plain_recorded_by (is_counted (total_in bases.now))) (map recorded_seen recorded.items)) }
+{
+    let mut all = Vec::with_capacity(alloc, recorded.len())?;
+    let mut own = Vec::with_capacity(alloc, recorded.len())?;
+    for one in recorded {
+        let (one, url) = plain_recorded(alloc, one, bases)?;
+        all.push(one)?;
+        own.push(url)?;
+    }
+    Ok((all, own))
 }
 
 /// Returns a recording without the queries that change, and for each entry the url that it had, if
@@ -143,14 +176,9 @@ pub fn plain_all(
     ensures { IfOk result (λ made. map recorded_seen made.0.items
         ≡ map (plain_recorded (map changing_seen changing.now)) (map recorded_seen recorded.items)) }
 {
-    let mut all = Vec::with_capacity(alloc, recorded.len())?;
-    let mut own = Vec::with_capacity(alloc, recorded.len())?;
-    for one in recorded {
-        let (one, url) = plain_recorded(alloc, one, changing)?;
-        all.push(one)?;
-        own.push(url)?;
-    }
-    Ok((all, own))
+    let bases = counted(alloc, changing)?;
+    let made = plain_by(alloc, recorded, &bases)?;
+    Ok(made)
 }
 
 fn with_query(recorded: Recorded, own: Option<String>) -> Recorded {

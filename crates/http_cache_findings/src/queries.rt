@@ -5,11 +5,12 @@ ghost use Rattle.http_cache_recording.specs.Entry.{recorded_seen, reading_seen, 
 ghost use Rattle.http_cache_walk.specs.Row.{row_seen};
 ghost use Rattle.http_cache_walk.specs.Walk.{body_in};
 ghost use Rattle.http_cache_findings.specs.Counts.{CountsAlso, HoldsCounts, total_in};
-ghost use Rattle.http_cache_findings.specs.Queries.{text_at, base_of, has_query, tag_of, tag_in, mark_of, mark_at, marked};
+ghost use Rattle.http_cache_findings.specs.Cost.{text_at};
+ghost use Rattle.http_cache_findings.specs.Queries.{base_of, has_query, tag_of, tag_in, mark_of, mark_at, marked};
 ghost use Rattle.http_cache_findings.specs.Queries.{mark_additions, base_additions, query_additions, bases_at, bases_of};
 ghost use Rattle.http_cache_findings.specs.Queries.{is_one_body, is_changing, changing_by, changing_of};
 
-use crate::cost::response_of;
+use crate::cost::{response_of, text_at};
 use crate::counts::Counts;
 use crate::urls::Url;
 use crate::visit::full_of;
@@ -20,16 +21,6 @@ use http_cache_recording::{Body, Reading, Recorded};
 use http_cache_walk::order::{shown_url, target_of};
 use http_cache_walk::row::Row;
 use std::alloc::{AllocError, Global};
-
-/// Returns the url of an entry, or an empty text if there is no such entry.
-pub fn text_at(recorded: &[Recorded], index: usize) -> &str
-    ensures { result.now ≡ text_at (map recorded_seen recorded.now) index }
-{
-    match recorded.get(index) {
-        Some(one) => target_of(one),
-        None => "",
-    }
-}
 
 /// Returns a url up to its query.
 pub fn base_of(url: &str) -> &str

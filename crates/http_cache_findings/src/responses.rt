@@ -2,18 +2,16 @@
 //! request, and what to send instead.
 //!
 //! Each response is a recording of its own, so that its visits count from its own time.
-ghost use Rattle.std.specs.Prelude.{◌≡◌, IfOk};
-ghost use Rattle.http_cache_findings.specs.Responses.{weight, weights, asks_less};
 
 use crate::advice::Advice;
+use crate::cost::text_at;
 use crate::counts::Counts;
 use crate::facts::{Facts, after_of, facts_of};
 use crate::faults::faults_of;
 use crate::findings::{Act, Fault, HeadFindings, Storing};
 use crate::gather::acts_of;
 use crate::later::{Visits, is_again, is_confirmed, visits_of};
-use crate::picks::{Pick, advice_for, remedies_of};
-use crate::queries::text_at;
+use crate::picks::{Pick, advice_for, remedy_of};
 use crate::split::{cache_of, storing_at};
 use crate::urls::Url;
 use crate::visit::Span;
@@ -37,9 +35,7 @@ fn storing_by(
 }
 
 // Returns the weight of a visit's requests. A full response weighs more than three 304s.
-fn weight(visit: &Counts, url: &str) -> Result<u64, AllocError>
-    ensures { IfOk result (λ n. n ≡ weight visit.now url.now) }
-{
+fn weight(visit: &Counts, url: &str) -> Result<u64, AllocError> {
     let (again, confirmed) = (is_again(visit, url)?, is_confirmed(visit, url)?);
     Ok(if again {
         4
@@ -51,18 +47,14 @@ fn weight(visit: &Counts, url: &str) -> Result<u64, AllocError>
 }
 
 // Returns the weight of three visits.
-fn weights(visits: &Visits, url: &str) -> Result<u64, AllocError>
-    ensures { IfOk result (λ n. n ≡ weights visits.now url.now) }
-{
+fn weights(visits: &Visits, url: &str) -> Result<u64, AllocError> {
     let hour = weight(&visits.hour, url)?;
     let day = weight(&visits.day, url)?;
     let week = weight(&visits.week, url)?;
-    Ok(hour + day + week)
+    Ok(hour.saturating_add(day).saturating_add(week))
 }
 
-fn asks_less(after: &Visits, visits: &Visits, url: &str) -> Result<bool, AllocError>
-    ensures { IfOk result (λ holds. holds ≡ asks_less after.now visits.now url.now) }
-{
+fn asks_less(after: &Visits, visits: &Visits, url: &str) -> Result<bool, AllocError> {
     let (after, before) = (weights(after, url)?, weights(visits, url)?);
     Ok(after < before)
 }
@@ -78,7 +70,8 @@ fn visits_with(
     url: &Url,
     advice: Advice,
 ) -> Result<Visits, AllocError> {
-    let remedies = remedies_of(alloc, recorded.as_slice(), &[Pick::only(url, advice)])?;
+    let mut remedies = Vec::with_capacity(alloc, 1)?;
+    remedies.push(remedy_of(alloc, recorded.as_slice(), Pick::only(url, advice))?)?;
     let remedies = remedies.as_slice();
     let (after, _) = after_of(alloc, recorded, target, options, remedies, facts, span)?;
     Ok(after.visits)

@@ -1,7 +1,4 @@
 //! The urls that a browser's cache and a CDN's treat differently.
-ghost use Rattle.std.specs.Prelude.{◌≡◌};
-ghost use Rattle.http_cache_semantics.specs.Options.{options_of};
-ghost use Rattle.http_cache_findings.specs.Split.{cache_of};
 
 use crate::by_size::order_of;
 use crate::cost::response_of;
@@ -108,9 +105,7 @@ fn differing(
 }
 
 /// Returns the options of a private or a shared cache.
-pub fn cache_of(options: &CacheOptions, is_shared: bool) -> CacheOptions
-    ensures { options_of result ≡ cache_of (options_of options.now) is_shared }
-{
+pub fn cache_of(options: &CacheOptions, is_shared: bool) -> CacheOptions {
     let mut cache = *options;
     cache.shared = is_shared;
     cache

@@ -10,13 +10,13 @@ ghost use Rattle.http_cache_findings.specs.Counts.{HoldsCounts, CountsAlso};
 ghost use Rattle.http_cache_findings.specs.Cost.{first_seen, sent_at};
 ghost use Rattle.http_cache_findings.specs.Visit.{full_of, is_repeated, other_query_at, repeat_by, repeat_of, repeats_of};
 ghost use Rattle.http_cache_findings.specs.Visit.{is_first_entry, first_sent, received_in, later, last_received, span_seen, span_of};
-ghost use Rattle.http_cache_findings.specs.Visit.{is_sent, is_again, amount_additions, amounts, sums, url_at};
+ghost use Rattle.http_cache_findings.specs.Visit.{is_sent, is_again, amount_additions, amounts, sums};
 ghost use Rattle.http_cache_findings.specs.Visit.{repeat_additions, repeat_in, row_additions, AreVisitCounts, IsVisit};
 
 use crate::copies::{copies_of, entry_of};
 use crate::cost::{
     Cost, FirstLoad, Known, cost_of, first_load, is_asked_reading, is_full, is_of_first, known_at,
-    used_in,
+    text_at, used_in,
 };
 use crate::counts::Counts;
 use http::Uri;
@@ -242,8 +242,8 @@ fn add_amount(counts: &mut Counts, name: &str, url: &str, amount: u64) -> Result
     ensures { OnOk result (CountsAlso (amount_additions name.now url.now amount)
         counts.old counts.new) }
 {
-    counts.add(name, url, amount)?;
-    counts.add("visit", name, amount)?;
+    counts.add_if(amount > 0, name, url, amount)?;
+    counts.add_if(amount > 0, "visit", name, amount)?;
     Ok(())
 }
 
@@ -265,15 +265,6 @@ fn add_sums(counts: &mut Counts, url: &str, row: &Row<'_>, cost: Cost) -> Result
     Ok(())
 }
 
-fn url_at(recorded: &[Recorded], index: usize) -> &str
-    ensures { result.now ≡ url_at (map recorded_seen recorded.now) index }
-{
-    match recorded.get(index) {
-        Some(one) => target_of(one),
-        None => "",
-    }
-}
-
 fn add_repeat(
     counts: &mut Counts,
     recorded: &[Recorded],
@@ -284,7 +275,7 @@ fn add_repeat(
         (row_seen row.now) repeat.now) counts.old counts.new) }
 {
     let cost = cost_of(recorded, &repeat.known, row);
-    add_sums(counts, url_at(recorded, repeat.entry), row, cost)
+    add_sums(counts, text_at(recorded, repeat.entry), row, cost)
 }
 
 // Returns the repeated request whose copy is at an index. `begin` is the index of the first copy.

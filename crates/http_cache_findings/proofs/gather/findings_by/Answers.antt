@@ -1,5 +1,5 @@
 -- The facts are of the walk, and what is found is with visits if there is a first load.
-use Rattle.std.proofs.Common.{◌≡◌, sym, subst, map, Option}
+use Rattle.std.proofs.Common.{sym, subst, map, Option}
 use Rattle.std.proofs.lemmas.Result.{IfOk-weaker}
 use Rattle.http_cache_recording.specs.Entry.{recorded_seen}
 use Rattle.http_cache_walk.specs.Settings.{settings_seen}
