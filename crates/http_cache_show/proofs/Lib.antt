@@ -1,5 +1,4 @@
 -- Lemmas about what is written.
-pub mod EscapeLemmas
 pub mod PrintableLemmas
 pub mod ReadLemmas
 pub mod TagLemmas

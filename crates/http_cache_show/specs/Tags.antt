@@ -1,7 +1,8 @@
 -- Where a reader of HTML is after some bytes. It knows tags, their quoted values, and the elements
 -- whose content is no text.
-use Rattle.std.specs.Prelude.{◌≡◌, ℕ, ◌==◌, ◌||◌, Bool, List, [], ◌∷◌, ◌++◌, fold, codes, bytes_eq, not, if◌then◌else◌}
-use Rattle.std.specs.List.{list_all}
+use Rattle.std.specs.Prelude.{◌≡◌, ℕ, ◌==◌, ◌||◌, ◌&&◌, Bool, true, false, List, [], ◌∷◌, fold, codes, bytes_eq, not, if◌then◌else◌}
+use Rattle.http_cache_show.specs.declared.item.Item.{Item}
+use Rattle.http_cache_show.specs.declared.item.Item.TheVariants.{Text, Left, Right, Number, Size, Time, Value, Word}
 
 -- the last byte of a tag's name comes first
 pub data TagState : Type 0 where
@@ -48,18 +49,49 @@ state_after r text = fold step r text
 abbrev pub is_between_tags : List ℕ → Type 0
 is_between_tags text = state_after between text ≡ between
 
-abbrev pub lacks : ℕ → List ℕ → Bool
-lacks x text = list_all (λ (b : ℕ). not (b == x)) text
+abbrev pub is_between : TagState → Bool
+is_between between = true
+is_between (named name) = false
+is_between (inside name) = false
+is_between (quoted quote name) = false
+is_between (raw end rest) = false
 
-abbrev pub name_in : TagState → List ℕ
-name_in between = []
-name_in (named name) = name
-name_in (inside name) = name
-name_in (quoted quote name) = name
-name_in (raw end rest) = end
+-- between tags, or in a value in double quotes
+abbrev pub is_open : TagState → Bool
+is_open between = true
+is_open (named name) = false
+is_open (inside name) = false
+is_open (quoted quote name) = quote == 34
+is_open (raw end rest) = false
 
--- a text up to the quote of a value, and a text from its other quote on
-abbrev pub is_around_value : List ℕ → List ℕ → Type 0
-is_around_value before after =
-    (state_after between before ≡ quoted 34 (name_in (state_after between before)))
-    × (state_after (state_after between before) after ≡ between)
+-- whether an item may be in the value of an attribute: a number or a word of the program
+abbrev pub is_value : Item → Bool
+is_value (Text text) = false
+is_value (Left text width) = false
+is_value (Right text width) = false
+is_value (Number number) = false
+is_value (Size bytes) = false
+is_value (Time seconds) = false
+is_value (Value number) = true
+is_value (Word word) = true
+
+-- the mark of its hole
+abbrev pub mark_of : Item → ℕ
+mark_of item = if is_value item then 64 else 36
+
+-- `$` is between tags, and `@` there or in a value in double quotes
+abbrev pub fits : ℕ → TagState → Bool
+fits b s = if b == 36 then is_between s else (if b == 64 then is_open s else true)
+
+-- each hole is where it may be, and the template ends between tags
+abbrev pub is_template : TagState → List ℕ → Bool
+is_template s [] = is_between s
+is_template s (b ∷ bs) = fits b s && is_template (step s b) bs
+
+-- what was added is text in a place for text
+abbrev pub IsTextAfter : List ℕ → List ℕ → Type 0
+IsTextAfter old new = is_open (state_after between old) ≡ true → state_after between new ≡ state_after between old
+
+-- neither `<` nor `"`
+abbrev pub is_safe : ℕ → Bool
+is_safe b = not (b == 60) && not (b == 34)

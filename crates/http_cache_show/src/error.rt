@@ -1,10 +1,11 @@
 //! The reasons why a recording isn't audited.
-ghost use Rattle.std.specs.Prelude.{◌≡◌};
-ghost use Rattle.http_cache_show.specs.Status.{exit_status_of};
-
 use http_cache_recording::ReadingError;
 use http_cache_recording::heads::HeadsError;
+use std::alloc::AllocError;
 use thiserror::Error;
+
+/// A value, unless there is not enough memory for it.
+pub type Fallible<T> = Result<T, AllocError>;
 
 /// The reason why a recording isn't audited.
 #[derive(Debug, Drop, Error)]
@@ -31,9 +32,7 @@ pub enum AuditError {
 
 impl AuditError {
     /// Returns the exit status: 2 if the input is at fault, 3 if memory or the output is.
-    pub fn exit_status(&self) -> u8
-        ensures { result ≡ exit_status_of self.now }
-    {
+    pub fn exit_status(&self) -> u8 {
         match self {
             AuditError::Recording(ReadingError::Memory)
             | AuditError::Heads(HeadsError::Memory)

@@ -1,12 +1,12 @@
 //! A page of HTML that a reader of tags leaves between tags, whatever is added to it. A text is
 //! escaped and only between tags, so no recording can add a tag, a style or a script.
-ghost use Rattle.std.specs.Prelude.{◌≡◌, true, ◌++◌, ℕ, List, [], OnOk, is_ok, if◌then◌else◌, decimal, string_bytes};
-ghost use Rattle.http_cache_show.specs.Escape.{escaped};
-ghost use Rattle.http_cache_show.specs.Tags.{is_between_tags, is_around_value, lacks};
+ghost use Rattle.std.specs.Prelude.{◌≡◌, true, List, ℕ, [], OnOk, IfOk, string_bytes};
+ghost use Rattle.http_cache_show.specs.Tags.{is_between_tags, state_after, between, mark_of, is_template};
 
-use crate::escape::push_escaped;
-use std::alloc::{AllocError, Global};
-use std::fmt::Write;
+use crate::error::Fallible;
+use crate::escape::{push_escaped, push_seen};
+use crate::item::{Item, push_item};
+use std::alloc::Global;
 use std::marker::Model;
 
 /// A page of HTML. After an error it may be empty.
@@ -24,39 +24,60 @@ impl Model for Page {
     ghost invariant = { λ p. is_between_tags (string_bytes p.html) };
 }
 
-// Clears a page to which a part of something may have been added.
-fn whole(html: &mut String, added: Result<(), AllocError>) -> Result<(), AllocError>
-    ensures bytes { string_bytes html.new ≡ (if is_ok added then string_bytes html.old else []) }
-    ensures same { result ≡ added }
-{
-    if added.is_err() {
-        html.clear();
+// Returns an item as a text that isn't escaped yet.
+fn text_of(alloc: Global, item: Item<'_>) -> Fallible<String> {
+    let mut out = String::new(alloc);
+    match item {
+        Item::Text(text) => push_seen(&mut out, text)?,
+        item => push_item(alloc, &mut out, item)?,
     }
-    added
+    Ok(out)
 }
 
-fn push_number(html: &mut String, number: u64) -> Result<(), AllocError>
-    ensures { OnOk result (string_bytes html.new ≡ string_bytes html.old ++ decimal number) }
+// Returns the mark of the hole for an item.
+fn mark_of(item: Item<'_>) -> char
+    ensures { result ≡ mark_of item.entry }
 {
-    write!(html, "{number}")
+    match item {
+        Item::Value(_) | Item::Word(_) => '@',
+        Item::Text(_)
+        | Item::Left(..)
+        | Item::Right(..)
+        | Item::Number(_)
+        | Item::Size(_)
+        | Item::Time(_) => '$',
+    }
 }
 
-fn push_value(html: &mut String, before: &str, number: u64, after: &str) -> Result<(), AllocError>
-    ensures { OnOk result (string_bytes html.new ≡ string_bytes html.old
-        ++ (before.now ++ (decimal number ++ after.now))) }
+// Adds a template up to the next hole for an item, and the item. Returns what is after the hole.
+fn push_next<'a>(
+    alloc: Global,
+    html: &mut String,
+    template: &'a str,
+    item: Item<'_>,
+) -> Fallible<&'a str>
+    ensures { IfOk result (λ rest.
+        is_template (state_after between (string_bytes html.old)) template.now ≡ true
+        → is_template (state_after between (string_bytes html.new)) rest.now ≡ true) }
 {
-    html.push_str(before)?;
-    push_number(html, number)?;
-    html.push_str(after)
+    let Some((piece, rest)) = template.split_once(mark_of(item)) else {
+        return Ok(template);
+    };
+    html.push_str(piece)?;
+    let text = text_of(alloc, item)?;
+    push_escaped(html, text.as_str())?;
+    Ok(rest)
 }
 
-fn push_letter(html: &mut String, before: &str, letter: &str, after: &str) -> Result<(), AllocError>
-    ensures { OnOk result (string_bytes html.new ≡ string_bytes html.old
-        ++ (before.now ++ (letter.now ++ after.now))) }
+fn push_filled(alloc: Global, html: &mut String, template: &str, items: &[Item<'_>]) -> Fallible<()>
+    requires { is_template (state_after between (string_bytes html.old)) template.now ≡ true }
+    ensures { OnOk result (is_between_tags (string_bytes html.new)) }
 {
-    html.push_str(before)?;
-    html.push_str(letter)?;
-    html.push_str(after)
+    let mut rest = template;
+    for item in items {
+        rest = push_next(alloc, html, rest, *item)?;
+    }
+    html.push_str(rest)
 }
 
 impl Page {
@@ -76,83 +97,36 @@ impl Page {
     }
 
     /// Adds tags.
-    pub fn tag(&mut self, tags: &'static str) -> Result<(), AllocError>
+    pub fn tag(&mut self, tags: &'static str) -> Fallible<()>
         requires { is_between_tags tags.now }
-        ensures { OnOk result (self.new ≡ self.old ++ tags.now) }
     {
         self.html.push_str(tags)
     }
 
-    /// Adds a text, escaped.
-    pub fn text(&mut self, text: &str) -> Result<(), AllocError>
-        ensures { OnOk result (self.new ≡ self.old ++ escaped text.now) }
+    /// Adds a template with items in its holes.
+    pub fn fill(&mut self, template: &'static str, items: &[Item<'_>]) -> Fallible<()>
+        requires { is_template between template.now ≡ true }
     {
-        let added = push_escaped(&mut self.html, text);
-        whole(&mut self.html, added)
+        let added = push_filled(self.alloc, &mut self.html, template, items);
+        if added.is_err() {
+            self.html.clear();
+        }
+        added
     }
 
-    /// Adds a number.
-    pub fn number(&mut self, number: u64) -> Result<(), AllocError>
-        ensures { OnOk result (self.new ≡ self.old ++ decimal number) }
+    /// Adds a template with an amount of bytes in its hole, unless that is 0.
+    pub fn fill_size(&mut self, template: &'static str, bytes: u64) -> Fallible<()>
+        requires { is_template between template.now ≡ true }
     {
-        let added = push_number(&mut self.html, number);
-        whole(&mut self.html, added)
-    }
-
-    /// Adds tags with a number in the value of an attribute: the tags up to that, the number, and the
-    /// rest from the quote or the unit after it on.
-    pub fn value(
-        &mut self,
-        before: &'static str,
-        number: u64,
-        after: &'static str,
-    ) -> Result<(), AllocError>
-        requires { is_around_value before.now after.now }
-        ensures { OnOk result (self.new ≡ self.old
-            ++ (before.now ++ (decimal number ++ after.now))) }
-    {
-        let added = push_value(&mut self.html, before, number, after);
-        whole(&mut self.html, added)
-    }
-
-    /// Adds tags with a letter, or other text without quotes, as the value of an attribute.
-    pub fn letter(
-        &mut self,
-        before: &'static str,
-        letter: &'static str,
-        after: &'static str,
-    ) -> Result<(), AllocError>
-        requires around { is_around_value before.now after.now }
-        requires unquoted { lacks 34 letter.now ≡ true }
-        ensures { OnOk result (self.new ≡ self.old
-            ++ (before.now ++ (letter.now ++ after.now))) }
-    {
-        let added = push_letter(&mut self.html, before, letter, after);
-        whole(&mut self.html, added)
-    }
-
-    /// Adds tags, and a text after them.
-    pub fn put(&mut self, tags: &'static str, text: &str) -> Result<(), AllocError>
-        requires { is_between_tags tags.now }
-        ensures { OnOk result (self.new ≡ self.old ++ (tags.now ++ escaped text.now)) }
-    {
-        self.tag(tags)?;
-        self.text(text)
-    }
-
-    /// Adds tags, and a number after them.
-    pub fn put_number(&mut self, tags: &'static str, number: u64) -> Result<(), AllocError>
-        requires { is_between_tags tags.now }
-        ensures { OnOk result (self.new ≡ self.old ++ (tags.now ++ decimal number)) }
-    {
-        self.tag(tags)?;
-        self.number(number)
+        if bytes == 0 {
+            return Ok(());
+        }
+        self.fill(template, &[Item::Size(bytes)])
     }
 
     /// Returns the text of the page.
     pub fn into_text(self) -> String
-        ensures text { string_bytes result ≡ self }
-        ensures between { is_between_tags (string_bytes result) }
+        ensures { is_between_tags (string_bytes result) }
     {
         self.html
     }

@@ -4,20 +4,35 @@
 //! only between tags, and each byte of a text is printable.
 #![tactic(auto)]
 
+// Adds a template with items in its holes, to a page or a report, or to a text.
+macro_rules! fill {
+    ($alloc:expr, $out:expr; $template:expr; $($item:expr),+) => {
+        $crate::item::fill($alloc, $out, $template, &[$($item),+])
+    };
+    ($to:expr; $template:expr; $($item:expr),+) => {
+        $to.fill($template, &[$($item),+])
+    };
+}
+
+// Returns a template with items in its holes.
+macro_rules! filled {
+    ($alloc:expr; $template:expr; $($item:expr),+) => {
+        $crate::item::filled($alloc, $template, &[$($item),+])
+    };
+}
+
 pub mod error;
 pub mod escape;
 mod heads_report;
 pub mod html;
+pub mod item;
 mod lines;
 mod members;
 mod numbers;
 mod object;
 mod page;
-mod page_changes;
+mod page_findings;
 mod page_requests;
-mod page_timeline;
-mod page_visits;
-mod page_wrong;
 pub mod printable;
 mod report;
 pub mod run;

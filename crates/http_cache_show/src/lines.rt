@@ -1,6 +1,8 @@
 //! Writes lines or JSON objects: one for each request and then the counts, one for each url, or one
 //! for each load with what changes of headers save.
-use crate::members::{Members, Shown, add_reading, add_received, kind_word, members_of};
+use crate::error::Fallible;
+use crate::item::Item;
+use crate::members::{Members, add_reading, add_received, kind_word, members_of};
 use crate::printable::push_printed;
 use crate::words::push_notes;
 use http_cache_findings::by_url::{is_asked_row, is_hit, urls_of};
@@ -12,75 +14,51 @@ use http_cache_walk::order::{shown_url, target_of};
 use http_cache_walk::row::{Again, AuditVerdict, Row};
 use http_cache_walk::settings::{Settings, any_credentials, no_target};
 use http_cache_walk::walk::rows_of;
-use serde_json::{Map, Value, json, put};
-use std::alloc::{AllocError, Global};
-use std::fmt::Write;
+use serde_json::{Map, Value, put};
+use std::alloc::Global;
 
-fn push_member(out: &mut String, name: &str, shown: &Shown) -> Result<(), AllocError> {
-    match shown {
-        Shown::Text(text) => match name {
-            "verdict" | "load" => out.push_str(text.as_str()),
-            "method" | "url" => write!(out, " {text}"),
-            _ => write!(out, ", {name} {text}"),
-        },
-        Shown::Count(count) => write!(out, ", {name} {count}"),
-        Shown::Texts(texts) => {
+fn push_member(alloc: Global, out: &mut String, name: &str, value: &Value) -> Fallible<()> {
+    let name = Item::Text(name);
+    match value {
+        Value::Bool(_) => fill!(alloc, out; ", $"; name),
+        Value::Array(texts) => {
             for text in texts.as_slice() {
-                write!(out, ", {name} {text}")?;
+                let text = Item::Text(text.as_str().unwrap_or(""));
+                fill!(alloc, out; ", $ $"; name, text)?;
             }
             Ok(())
         }
-        Shown::Yes => write!(out, ", {name}"),
+        _ => match value.as_str() {
+            Some(text) => fill!(alloc, out; ", $ $"; name, Item::Text(text)),
+            None => fill!(alloc, out; ", $ $"; name, Item::Number(value.as_u64().unwrap_or(0))),
+        },
     }
 }
 
-fn push_line(alloc: Global, out: &mut String, members: &Members) -> Result<(), AllocError> {
+fn push_line(alloc: Global, out: &mut String, members: &Members) -> Fallible<()> {
     let mut line = String::new(alloc);
-    for (name, shown) in members.all.as_slice() {
-        push_member(&mut line, name, shown)?;
+    for (name, value) in members.all.as_slice() {
+        let text = Item::Text(value.as_str().unwrap_or(""));
+        match *name {
+            "verdict" | "load" => fill!(alloc, &mut line; "$"; text)?,
+            "method" | "url" => fill!(alloc, &mut line; " $"; text)?,
+            _ => push_member(alloc, &mut line, *name, value)?,
+        }
     }
     push_printed(out, line.as_str())
 }
 
-fn value_of(alloc: Global, shown: &Shown) -> Result<Value, AllocError> {
-    Ok(match shown {
-        Shown::Text(text) => Value::try_from_str(alloc, text.as_str())?,
-        Shown::Count(count) => Value::from(*count),
-        Shown::Yes => Value::Bool(true),
-        Shown::Texts(texts) => {
-            let mut all = Vec::with_capacity(alloc, texts.len())?;
-            for text in texts.as_slice() {
-                all.push(Value::try_from_str(alloc, text.as_str())?)?;
-            }
-            Value::Array(all)
-        }
-    })
-}
-
 /// Adds a value as a line of JSON.
-pub(crate) fn push_value(alloc: Global, out: &mut String, value: &Value) -> Result<(), AllocError> {
+pub(crate) fn push_value(alloc: Global, out: &mut String, value: &Value) -> Fallible<()> {
     out.push_str(value.to_string(alloc)?.as_str())?;
     out.push_str("\n")
 }
 
-fn push_object(alloc: Global, out: &mut String, members: &Members) -> Result<(), AllocError> {
-    let mut object = Map::new(alloc);
-    for (name, shown) in members.all.as_slice() {
-        put(&mut object, alloc, name, value_of(alloc, shown)?)?;
-    }
-    push_value(alloc, out, &Value::Object(object))
-}
-
-fn push_members(
-    alloc: Global,
-    out: &mut String,
-    members: &Members,
-    as_json: bool,
-) -> Result<(), AllocError> {
+fn push_members(alloc: Global, out: &mut String, members: Members, as_json: bool) -> Fallible<()> {
     if as_json {
-        push_object(alloc, out, members)
+        push_value(alloc, out, &members.into_object()?)
     } else {
-        push_line(alloc, out, members)
+        push_line(alloc, out, &members)
     }
 }
 
@@ -97,25 +75,21 @@ fn group_of(name: &str) -> Option<&'static str> {
     }
 }
 
-fn count_member(counts: &mut Counts, name: &str, shown: &Shown) -> Result<(), AllocError> {
-    match (shown, group_of(name)) {
-        (Shown::Yes | Shown::Texts(_), None) => counts.add("counts", name, 1),
-        (Shown::Text(text), Some(group)) => counts.add(group, text.as_str(), 1),
-        (Shown::Texts(texts), Some(group)) => {
+fn count_member(counts: &mut Counts, name: &str, value: &Value) -> Fallible<()> {
+    match (value, group_of(name)) {
+        (Value::Bool(_) | Value::Array(_), None) => counts.add("counts", name, 1),
+        (Value::Array(texts), Some(group)) => {
             for text in texts.as_slice() {
-                counts.add(group, text.as_str(), 1)?;
+                counts.add(group, text.as_str().unwrap_or(""), 1)?;
             }
             Ok(())
         }
+        (value, Some(group)) => counts.add(group, value.as_str().unwrap_or(""), 1),
         _ => Ok(()),
     }
 }
 
-fn count_bytes(
-    counts: &mut Counts,
-    row: &Row<'_>,
-    verdict: &AuditVerdict,
-) -> Result<(), AllocError> {
+fn count_bytes(counts: &mut Counts, row: &Row<'_>, verdict: &AuditVerdict) -> Fallible<()> {
     let (sent, is_fresh) = (row.recorded.printed.sent, is_hit(row));
     let in_full = matches!(verdict.again, Some(Again::InFull));
     let unasked = matches!(verdict.again, Some(Again::Unasked));
@@ -133,7 +107,7 @@ fn count_bytes(
     }
 }
 
-fn count_row(counts: &mut Counts, row: &Row<'_>, members: &Members) -> Result<(), AllocError> {
+fn count_row(counts: &mut Counts, row: &Row<'_>, members: &Members) -> Fallible<()> {
     counts.add("kinds", kind_word(&row.recorded.reading), 1)?;
     let Some(verdict) = &row.verdict else {
         return Ok(());
@@ -144,41 +118,45 @@ fn count_row(counts: &mut Counts, row: &Row<'_>, members: &Members) -> Result<()
     if !is_asked_row(row) {
         return counts.add("bytes", "sent_apart", sent);
     }
-    for (name, shown) in members.all.as_slice() {
-        count_member(counts, name, shown)?;
+    for (name, value) in members.all.as_slice() {
+        count_member(counts, *name, value)?;
     }
     let is_forced = row.no_cache && row.repeated;
     counts.add_if(is_forced, "counts", "no_cache_repeated", 1)?;
     count_bytes(counts, row, verdict)
 }
 
-fn push_counts(out: &mut String, counts: &Counts) -> Result<(), AllocError> {
+fn push_counts(alloc: Global, out: &mut String, counts: &Counts) -> Fallible<()> {
     for (label, count) in counts.by_label.iter() {
         if *count > 0 {
-            write!(out, "{label} {count}\n")?;
+            fill!(alloc, out; "$ $\n"; Item::Text(label.as_str()), Item::Number(*count))?;
         }
     }
     Ok(())
 }
 
-fn push_summary(
-    alloc: Global,
-    out: &mut String,
-    counts: &Counts,
-    no_credentials: bool,
-) -> Result<(), AllocError> {
+fn summary_of(alloc: Global, counts: &Counts, no_credentials: bool) -> Fallible<Value> {
     let mut all = Map::new(alloc);
     for (label, count) in counts.by_label.iter() {
         if *count > 0 {
             put(&mut all, alloc, label.as_str(), Value::from(*count))?;
         }
     }
-    let cache_off = Value::Bool(counts.is_noticed());
-    put(&mut all, alloc, "cache_off", cache_off)?;
-    let no_credentials = Value::Bool(no_credentials);
-    put(&mut all, alloc, "no_credentials", no_credentials)?;
-    let summary = json!(in alloc; {"summary": Value::Object(all)})?;
-    push_value(alloc, out, &summary)
+    put(
+        &mut all,
+        alloc,
+        "cache_off",
+        Value::Bool(counts.is_noticed()),
+    )?;
+    put(
+        &mut all,
+        alloc,
+        "no_credentials",
+        Value::Bool(no_credentials),
+    )?;
+    let mut to = Members::new(alloc);
+    to.add("summary", Value::Object(all))?;
+    to.into_object()
 }
 
 /// Returns a line or an object for each entry in the order of the walk, then for the entries that
@@ -189,21 +167,25 @@ pub fn lines(
     recorded: &[Recorded],
     as_json: bool,
     settings: &Settings,
-) -> Result<(String, Counts), AllocError> {
+) -> Fallible<(String, Counts)> {
     let target = no_target(alloc)?;
     let rows = rows_of(alloc, recorded, &target, settings.options)?;
     let (mut counts, mut out) = (Counts::new(alloc), String::new(alloc));
     for row in rows.as_slice() {
         let members = members_of(alloc, row, settings.hides_queries)?;
         count_row(&mut counts, row, &members)?;
-        push_members(alloc, &mut out, &members, as_json)?;
+        push_members(alloc, &mut out, members, as_json)?;
     }
     let no_credentials = !any_credentials(recorded);
     if as_json {
-        push_summary(alloc, &mut out, &counts, no_credentials)?;
+        push_value(
+            alloc,
+            &mut out,
+            &summary_of(alloc, &counts, no_credentials)?,
+        )?;
     } else {
-        push_counts(&mut out, &counts)?;
-        push_notes(&mut out, counts.is_noticed(), no_credentials)?;
+        push_counts(alloc, &mut out, &counts)?;
+        push_notes(&mut out, counts.is_noticed(), no_credentials, '\n')?;
     }
     Ok((out, counts))
 }
@@ -214,15 +196,17 @@ fn url_members(
     sums: &Counts,
     first: &Row<'_>,
     hides_query: bool,
-) -> Result<Members, AllocError> {
+) -> Fallible<Members> {
     let mut to = Members::new(alloc);
     let (url, printed) = (target_of(first.recorded), &first.recorded.printed);
     to.text("url", shown_url(url, hides_query))?;
     to.count("status", printed.status)?;
-    to.some_count("requests", sums.total_of("requests", url)?)?;
-    to.some_count("repeated", sums.total_of("repeated", url)?)?;
-    to.some_count("fresh", sums.total_of("fresh", url)?)?;
-    to.some_count("sent", sums.total_of("sent", url)?)?;
+    to.some_counts(&[
+        ("requests", sums.total_of("requests", url)?),
+        ("repeated", sums.total_of("repeated", url)?),
+        ("fresh", sums.total_of("fresh", url)?),
+        ("sent", sums.total_of("sent", url)?),
+    ])?;
     if let Some(verdict) = &first.verdict {
         add_received(&mut to, printed, &verdict.received)?;
     }
@@ -232,11 +216,7 @@ fn url_members(
 
 /// Returns an object for each url, in the order of the first requests, with how often it was
 /// requested and what was sent.
-pub fn by_url(
-    alloc: Global,
-    recorded: &[Recorded],
-    settings: &Settings,
-) -> Result<String, AllocError> {
+pub fn by_url(alloc: Global, recorded: &[Recorded], settings: &Settings) -> Fallible<String> {
     let target = no_target(alloc)?;
     let rows = rows_of(alloc, recorded, &target, settings.options)?;
     let (sums, firsts) = urls_of(alloc, rows.as_slice())?;
@@ -244,29 +224,26 @@ pub fn by_url(
     for index in firsts.as_slice() {
         if let Some(row) = rows.get(*index) {
             let members = url_members(alloc, &sums, row, settings.hides_queries)?;
-            push_object(alloc, &mut out, &members)?;
+            push_members(alloc, &mut out, members, true)?;
         }
     }
     Ok(out)
 }
 
-fn load_members(
-    alloc: Global,
-    load: &str,
-    now: &Counts,
-    then: &Counts,
-) -> Result<Members, AllocError> {
+fn load_members(alloc: Global, load: &str, now: &Counts, then: &Counts) -> Fallible<Members> {
     let mut to = Members::new(alloc);
     let (before, after) = (now.total_of(load, "bytes")?, then.total_of(load, "bytes")?);
     to.text("load", load)?;
     to.count("bytes", before)?;
     to.count("bytes_changed", after)?;
-    to.some_count("saved", before.saturating_sub(after))?;
-    to.some_count("more", after.saturating_sub(before))?;
-    to.some_count("answers_304", now.total_of(load, "confirmed")?)?;
-    to.some_count("answers_304_changed", then.total_of(load, "confirmed")?)?;
-    to.some_count("unknown", now.total_of(load, "unknown")?)?;
-    to.some_count("unknown_changed", then.total_of(load, "unknown")?)?;
+    to.some_counts(&[
+        ("saved", before.saturating_sub(after)),
+        ("more", after.saturating_sub(before)),
+        ("answers_304", now.total_of(load, "confirmed")?),
+        ("answers_304_changed", then.total_of(load, "confirmed")?),
+        ("unknown", now.total_of(load, "unknown")?),
+        ("unknown_changed", then.total_of(load, "unknown")?),
+    ])?;
     Ok(to)
 }
 
@@ -278,14 +255,14 @@ pub fn savings(
     changes: &[Change],
     as_json: bool,
     settings: &Settings,
-) -> Result<String, AllocError> {
+) -> Fallible<String> {
     let (now, then) = costs_if(alloc, recorded, changes, &settings.options)?;
     let (first, later) = (
         load_members(alloc, "first_load", &now, &then)?,
         load_members(alloc, "later_loads", &now, &then)?,
     );
     let mut out = String::new(alloc);
-    push_members(alloc, &mut out, &first, as_json)?;
-    push_members(alloc, &mut out, &later, as_json)?;
+    push_members(alloc, &mut out, first, as_json)?;
+    push_members(alloc, &mut out, later, as_json)?;
     Ok(out)
 }

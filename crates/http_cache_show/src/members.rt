@@ -3,34 +3,35 @@
 ghost use Rattle.std.specs.Prelude.{◌≡◌};
 ghost use Rattle.http_header.specs.Token.{lowercase};
 
-use crate::words::{flaw_words, reasons};
+use crate::error::Fallible;
+use crate::item::Item;
+use crate::words::{fault_words, reasons};
 use http::HeaderMap;
 use http_cache_fields::headers::first_text;
+use http_cache_findings::findings::Fault;
 use http_cache_findings::lint::flaws_of;
 use http_cache_recording::{Answer, Entry, Kind, Printed, Reading};
 use http_cache_walk::order::shown_url;
 use http_cache_walk::row::{Again, AuditVerdict, Demand, Lifetime, Outcome, Received, Row, Used};
-use std::alloc::{AllocError, Global};
+use serde_json::{Map, Value, put};
+use std::alloc::Global;
 
-/// The value of a member.
-#[derive(Drop)]
-pub enum Shown {
-    /// A text.
-    Text(String),
-    /// A number.
-    Count(u64),
-    /// At least one text.
-    Texts(Vec<String>),
-    /// A flag that is set.
-    Yes,
+/// A value without parts.
+#[derive(Clone, Copy)]
+pub(crate) enum Leaf<'a> {
+    Text(&'a str),
+    Number(u64),
+    Is(bool),
+    Null,
 }
 
-/// Members by name, in the order of a line.
+/// Members by name, in the order of a line: texts, numbers, lists of texts, and flags that are set.
+/// In a JSON object they may be any value.
 #[derive(Drop)]
 pub struct Members {
     alloc: Global,
     /// The members.
-    pub all: Vec<(&'static str, Shown)>,
+    pub all: Vec<(&'static str, Value)>,
 }
 
 impl Members {
@@ -41,45 +42,74 @@ impl Members {
         }
     }
 
-    fn add(&mut self, name: &'static str, shown: Shown) -> Result<(), AllocError> {
-        Ok(self.all.push((name, shown))?)
+    pub(crate) fn add(&mut self, name: &'static str, value: Value) -> Fallible<()> {
+        Ok(self.all.push((name, value))?)
     }
 
-    pub(crate) fn text(&mut self, name: &'static str, text: &str) -> Result<(), AllocError> {
-        self.add(name, Shown::Text(String::from_str(self.alloc, text)?))
+    pub(crate) fn text(&mut self, name: &'static str, text: &str) -> Fallible<()> {
+        self.add(name, Value::try_from_str(self.alloc, text)?)
     }
 
-    fn some_text(&mut self, name: &'static str, text: Option<&str>) -> Result<(), AllocError> {
+    fn some_text(&mut self, name: &'static str, text: Option<&str>) -> Fallible<()> {
         match text {
             Some(text) => self.text(name, text),
             None => Ok(()),
         }
     }
 
-    pub(crate) fn count(&mut self, name: &'static str, count: u64) -> Result<(), AllocError> {
-        self.add(name, Shown::Count(count))
+    pub(crate) fn count(&mut self, name: &'static str, count: u64) -> Fallible<()> {
+        self.add(name, Value::from(count))
     }
 
-    // Adds a number that isn't 0.
-    pub(crate) fn some_count(&mut self, name: &'static str, count: u64) -> Result<(), AllocError> {
-        if count == 0 {
-            return Ok(());
+    pub(crate) fn leaves(&mut self, all: &[(&'static str, Leaf<'_>)]) -> Fallible<()> {
+        for (name, leaf) in all {
+            let value = match *leaf {
+                Leaf::Text(text) => Value::try_from_str(self.alloc, text)?,
+                Leaf::Number(number) => Value::from(number),
+                Leaf::Is(holds) => Value::Bool(holds),
+                Leaf::Null => Value::Null,
+            };
+            self.add(*name, value)?;
         }
-        self.count(name, count)
+        Ok(())
     }
 
-    fn texts(&mut self, name: &'static str, texts: Vec<String>) -> Result<(), AllocError> {
+    /// Adds the numbers that aren't 0.
+    pub(crate) fn some_counts(&mut self, counts: &[(&'static str, u64)]) -> Fallible<()> {
+        for (name, count) in counts {
+            if *count > 0 {
+                self.count(*name, *count)?;
+            }
+        }
+        Ok(())
+    }
+
+    pub(crate) fn texts(&mut self, name: &'static str, texts: &[String]) -> Fallible<()> {
         if texts.is_empty() {
             return Ok(());
         }
-        self.add(name, Shown::Texts(texts))
+        let mut all = Vec::with_capacity(self.alloc, texts.len())?;
+        for text in texts {
+            all.push(Value::try_from_str(self.alloc, text.as_str())?)?;
+        }
+        self.add(name, Value::Array(all))
     }
 
-    fn yes(&mut self, name: &'static str, holds: bool) -> Result<(), AllocError> {
+    fn yes(&mut self, name: &'static str, holds: bool) -> Fallible<()> {
         if !holds {
             return Ok(());
         }
-        self.add(name, Shown::Yes)
+        self.add(name, Value::Bool(true))
+    }
+
+    /// Returns the members as a JSON object.
+    pub(crate) fn into_object(self) -> Fallible<Value> {
+        let alloc = self.alloc;
+        let mut object = Map::new(alloc);
+        for (name, value) in self.all {
+            put(&mut object, alloc, name, value)?;
+        }
+        Ok(Value::Object(object))
     }
 }
 
@@ -153,13 +183,13 @@ fn demand_word(demand: Option<Demand>, used: Option<&Used>) -> Option<&'static s
     }
 }
 
-fn add_lifetime(to: &mut Members, lifetime: &Lifetime) -> Result<(), AllocError> {
+fn add_lifetime(to: &mut Members, lifetime: &Lifetime) -> Fallible<()> {
     to.text("by", lifetime.by)?;
     to.some_text("source", lifetime.source.as_deref())
 }
 
 // Adds the stored response that answers, or that is asked about.
-fn add_used(to: &mut Members, verdict: &AuditVerdict) -> Result<(), AllocError> {
+fn add_used(to: &mut Members, verdict: &AuditVerdict) -> Fallible<()> {
     let demand = demand_word(verdict.demand, verdict.used.as_ref());
     to.some_text("asks_for", demand)?;
     let Some(used) = &verdict.used else {
@@ -189,13 +219,13 @@ pub(crate) fn add_received(
     to: &mut Members,
     printed: &Printed,
     received: &Received,
-) -> Result<(), AllocError> {
+) -> Fallible<()> {
     to.text("received", received_word(received))?;
     match received {
         Received::NotStorable(obstacles) => {
             let method = printed.method.as_deref().unwrap_or("");
             let reasons = reasons(to.alloc, method, printed.status, obstacles)?;
-            to.texts("reasons", reasons)
+            to.texts("reasons", reasons.as_slice())
         }
         Received::Stored(kept) | Received::Updated(kept) | Received::UpdatedOther(kept) => {
             let lifetime = &kept.lifetime;
@@ -210,44 +240,39 @@ pub(crate) fn add_received(
     }
 }
 
-fn add_verdict(to: &mut Members, row: &Row<'_>, verdict: &AuditVerdict) -> Result<(), AllocError> {
+fn add_verdict(to: &mut Members, row: &Row<'_>, verdict: &AuditVerdict) -> Fallible<()> {
     add_used(to, verdict)?;
     to.some_text("validator", verdict.validator)?;
-    to.texts("missed_by", verdict.missed_by.clone()?)?;
+    to.texts("missed_by", verdict.missed_by.as_slice())?;
     add_received(to, &row.recorded.printed, &verdict.received)?;
     to.some_text("end", end_word(verdict))?;
     to.yes("repeated", row.repeated)?;
     to.yes("seeded", verdict.seeded)?;
     to.yes("no_cache", row.no_cache)?;
-    to.some_count("invalidated", row.invalidated as u64)?;
+    to.some_counts(&[("invalidated", row.invalidated as u64)])?;
     to.count("sent", row.recorded.printed.sent)
 }
 
-fn hints_of(alloc: Global, entry: &Entry) -> Result<Vec<String>, AllocError> {
+fn hints_of(alloc: Global, entry: &Entry) -> Fallible<Vec<String>> {
     let mut all = Vec::new(alloc);
     for flaw in flaws_of(alloc, entry)?.as_slice() {
-        all.push(String::from_str(alloc, flaw_words(*flaw))?)?;
+        all.push(String::from_str(alloc, fault_words(Fault::Flaw(*flaw)).0)?)?;
     }
     Ok(all)
 }
 
-fn push_said(
-    alloc: Global,
-    all: &mut Vec<String>,
-    headers: &HeaderMap,
-    name: &str,
-) -> Result<(), AllocError>
+fn push_said(alloc: Global, all: &mut Vec<String>, headers: &HeaderMap, name: &str) -> Fallible<()>
     requires { lowercase name.now ≡ name.now }
 {
     match first_text(headers, name) {
-        Some(text) => Ok(all.push(format!(in alloc; "{name}: {text}")?)?),
+        Some(text) => Ok(all.push(filled!(alloc; "$: $"; Item::Text(name), Item::Text(text))?)?),
         None => Ok(()),
     }
 }
 
 // Returns what caches on the way report of a response from the network: Cache-Status (RFC 9211),
 // X-Cache, CF-Cache-Status and Age.
-fn others_of(alloc: Global, entry: &Entry) -> Result<Vec<String>, AllocError> {
+fn others_of(alloc: Global, entry: &Entry) -> Fallible<Vec<String>> {
     let mut all = Vec::new(alloc);
     if let Answer::Received(response) = &entry.answer {
         let headers = &response.headers;
@@ -261,18 +286,18 @@ fn others_of(alloc: Global, entry: &Entry) -> Result<Vec<String>, AllocError> {
 
 /// Adds what looks wrong in the response and what other caches report of it, or why the entry isn't
 /// audited.
-pub(crate) fn add_reading(to: &mut Members, reading: &Reading) -> Result<(), AllocError> {
+pub(crate) fn add_reading(to: &mut Members, reading: &Reading) -> Fallible<()> {
     match reading {
         Reading::Entry(entry) => {
-            to.texts("hints", hints_of(to.alloc, entry)?)?;
-            to.texts("others", others_of(to.alloc, entry)?)
+            to.texts("hints", hints_of(to.alloc, entry)?.as_slice())?;
+            to.texts("others", others_of(to.alloc, entry)?.as_slice())
         }
         Reading::Skipped(reason) => to.text("reason", reason.as_str()),
     }
 }
 
 /// Returns the members of a row, in the order of a line.
-pub fn members_of(alloc: Global, row: &Row<'_>, hides_query: bool) -> Result<Members, AllocError> {
+pub fn members_of(alloc: Global, row: &Row<'_>, hides_query: bool) -> Fallible<Members> {
     let mut to = Members::new(alloc);
     let printed = &row.recorded.printed;
     to.text("verdict", verdict_word(row))?;
@@ -285,7 +310,7 @@ pub fn members_of(alloc: Global, row: &Row<'_>, hides_query: bool) -> Result<Mem
     if let Some(verdict) = &row.verdict {
         add_verdict(&mut to, row, verdict)?;
     }
-    to.texts("assumed", row.assumed.clone()?)?;
+    to.texts("assumed", row.assumed.as_slice())?;
     to.some_text("error", printed.error.as_deref())?;
     to.some_text("browser", printed.browser.as_deref())?;
     add_reading(&mut to, &row.recorded.reading)?;

@@ -2,7 +2,8 @@
 ghost use Rattle.std.specs.Prelude.{◌≡◌, ◌<◌, ◌++◌, map, codes, string_bytes, IfOk, OnOk};
 ghost use Rattle.http_cache_show.specs.Printable.{printed_byte, IsPlain};
 
-use std::alloc::{AllocError, Global};
+use crate::error::Fallible;
+use std::alloc::Global;
 
 fn printed_byte(b: u8) -> u8
     ensures value { result ≡ printed_byte b }
@@ -12,7 +13,7 @@ fn printed_byte(b: u8) -> u8
 }
 
 /// Adds a text, with `?` for each byte other than a blank and `!` to `~`.
-pub fn push_plain(out: &mut String, text: &str) -> Result<(), AllocError>
+pub fn push_plain(out: &mut String, text: &str) -> Fallible<()>
     ensures { OnOk result (string_bytes out.new ≡ string_bytes out.old
         ++ map printed_byte text.now) }
 {
@@ -24,7 +25,7 @@ pub fn push_plain(out: &mut String, text: &str) -> Result<(), AllocError>
 }
 
 /// Adds a line of text, with `?` for each byte other than a blank and `!` to `~`.
-pub fn push_printed(out: &mut String, line: &str) -> Result<(), AllocError>
+pub fn push_printed(out: &mut String, line: &str) -> Fallible<()>
     ensures { OnOk result (string_bytes out.new ≡ string_bytes out.old
         ++ map printed_byte line.now ++ codes "\n") }
 {
@@ -33,7 +34,7 @@ pub fn push_printed(out: &mut String, line: &str) -> Result<(), AllocError>
 }
 
 /// Returns a text in which each byte is printable or a line feed.
-pub fn printable(alloc: Global, text: &str) -> Result<String, AllocError>
+pub fn printable(alloc: Global, text: &str) -> Fallible<String>
     ensures { IfOk result (λ t. IsPlain (string_bytes t)) }
 {
     let mut out = String::new(alloc);

@@ -8,7 +8,7 @@ ghost use Rattle.http_cache_show.specs.Output.{front_of, any_audited, hits_of, A
 ghost use Rattle.http_cache_show.specs.Printable.{IsPlain};
 ghost use Rattle.http_cache_show.specs.Tags.{is_between_tags};
 
-use crate::error::AuditError;
+use crate::error::{AuditError, Fallible};
 use crate::heads_report::heads_report;
 use crate::lines::{by_url, lines, savings};
 use crate::object::object;
@@ -25,7 +25,7 @@ use http_cache_recording::{Reading, Recorded};
 use http_cache_walk::settings::{Settings, no_target};
 use http_cache_walk::walk::rows_of;
 use jiff::Timestamp;
-use std::alloc::{AllocError, Global};
+use std::alloc::Global;
 use std::hash::RandomState;
 use std::io::{ErrorKind, Read, Write};
 
@@ -87,24 +87,6 @@ fn recorded_of(
     }
 }
 
-// Returns what the bytes left in a reader record, and whether they are heads of responses.
-fn recording_of<R: Read>(
-    alloc: Global,
-    keys: RandomState,
-    now: Timestamp,
-    reader: &mut R,
-    ignores_no_cache: bool,
-) -> Result<(Vec<Recorded>, bool), AuditError>
-    ensures read { IfOk result (λ made. IfSome (R.remaining reader.old)
-        (λ bytes. IsInput now.nanosecond ignores_no_cache bytes made.1
-        (map recorded_seen made.0.items))) }
-    ensures refused { IfErr result (IsRefusal (R.remaining reader.old)) }
-    ensures no_writer { result ≢ Err AuditError.NotWritten }
-{
-    let bytes = bytes_of(alloc, reader)?;
-    recorded_of(alloc, keys, now, bytes, ignores_no_cache)
-}
-
 fn any_audited(recorded: &[Recorded]) -> bool
     ensures { result ≡ any_audited (map recorded_seen recorded.now) }
 {
@@ -156,18 +138,16 @@ impl Hits {
     }
 }
 
+// A text, and the hits that it is about.
+type Written = Fallible<(String, Hits)>;
+
 const NO_HITS: Hits = Hits {
     fresh: 0,
     repeated: 0,
 };
 
 // Returns a line or an object for each request.
-fn lines_of(
-    alloc: Global,
-    recorded: &[Recorded],
-    as_json: bool,
-    settings: &Settings,
-) -> Result<(String, Hits), AllocError> {
+fn lines_of(alloc: Global, recorded: &[Recorded], as_json: bool, settings: &Settings) -> Written {
     let (text, counts) = lines(alloc, recorded, as_json, settings)?;
     let fresh = counts.total("verdicts/fresh");
     let repeated = counts.total("counts/repeated");
@@ -183,11 +163,7 @@ fn hits_of(found: &Findings) -> Hits
     }
 }
 
-fn report_of(
-    alloc: Global,
-    recorded: Vec<Recorded>,
-    settings: &Settings,
-) -> Result<(String, Hits), AllocError>
+fn report_of(alloc: Global, recorded: Vec<Recorded>, settings: &Settings) -> Written
     ensures hits { IfOk result (λ made. AreHits (settings_seen settings.now)
         (map recorded_seen recorded.items) made.1) }
     ensures plain { IfOk result (λ made. IsPlain (string_bytes made.0)) }
@@ -197,11 +173,7 @@ fn report_of(
     Ok((text, hits_of(&found)))
 }
 
-fn page_of(
-    alloc: Global,
-    recorded: Vec<Recorded>,
-    settings: &Settings,
-) -> Result<(String, Hits), AllocError>
+fn page_of(alloc: Global, recorded: Vec<Recorded>, settings: &Settings) -> Written
     ensures hits { IfOk result (λ made. AreHits (settings_seen settings.now)
         (map recorded_seen recorded.items) made.1) }
     ensures between { IfOk result (λ made. is_between_tags (string_bytes made.0)) }
@@ -213,11 +185,7 @@ fn page_of(
     Ok((text, hits_of(&found)))
 }
 
-fn object_of(
-    alloc: Global,
-    recorded: Vec<Recorded>,
-    settings: &Settings,
-) -> Result<(String, Hits), AllocError>
+fn object_of(alloc: Global, recorded: Vec<Recorded>, settings: &Settings) -> Written
     ensures { IfOk result (λ made. AreHits (settings_seen settings.now)
         (map recorded_seen recorded.items) made.1) }
 {
@@ -226,11 +194,7 @@ fn object_of(
 }
 
 // Returns the report of heads.
-fn heads_of(
-    alloc: Global,
-    recorded: Vec<Recorded>,
-    settings: &Settings,
-) -> Result<(String, Hits), AllocError>
+fn heads_of(alloc: Global, recorded: Vec<Recorded>, settings: &Settings) -> Written
     ensures { IfOk result (λ made. IsPlain (string_bytes made.0)) }
 {
     let heads = head_findings_of(alloc, recorded, &settings.options)?;
@@ -239,11 +203,7 @@ fn heads_of(
 }
 
 // Returns a line for each request.
-fn plain_lines_of(
-    alloc: Global,
-    recorded: &[Recorded],
-    settings: &Settings,
-) -> Result<(String, Hits), AllocError>
+fn plain_lines_of(alloc: Global, recorded: &[Recorded], settings: &Settings) -> Written
     ensures { IfOk result (λ made. IsPlain (string_bytes made.0)) }
 {
     let (text, hits) = lines_of(alloc, recorded, false, settings)?;
@@ -256,7 +216,7 @@ fn of_form(
     are_heads: bool,
     form: Form,
     settings: &Settings,
-) -> Result<(String, Hits), AllocError>
+) -> Written
     ensures { IfOk result (λ made. IsOfForm form are_heads (settings_seen settings.now)
         (map recorded_seen recorded.items) made.1 (string_bytes made.0)) }
 {
@@ -281,7 +241,7 @@ fn savings_of(
     form: Form,
     changes: &[Change],
     settings: &Settings,
-) -> Result<(String, Hits), AllocError> {
+) -> Written {
     let as_json = matches!(form, Form::Object | Form::JsonLines);
     let text = savings(alloc, recorded, changes, as_json, settings)?;
     if as_json {
@@ -298,7 +258,7 @@ fn printed(
     form: Form,
     changes: &[Change],
     settings: &Settings,
-) -> Result<(String, Hits), AllocError>
+) -> Written
     ensures { IfOk result (λ made. IsPrinted form are_heads (settings_seen settings.now)
         (map change_seen changes.now) (map recorded_seen recorded.items) made.1
         (string_bytes made.0)) }
@@ -327,8 +287,9 @@ fn text_of<R: Read>(
     ensures refused { IfErr result (IsRefusal (R.remaining reader.old)) }
     ensures no_writer { result ≢ Err AuditError.NotWritten }
 {
+    let bytes = bytes_of(alloc, reader)?;
     let ignores = settings.ignores_no_cache;
-    let (recorded, are_heads) = recording_of(alloc, keys, now, reader, ignores)?;
+    let (recorded, are_heads) = recorded_of(alloc, keys, now, bytes, ignores)?;
     let audited = any_audited(recorded.as_slice());
     match printed(alloc, recorded, are_heads, form, changes, &settings) {
         Ok((text, hits)) => Ok((text, Ended { audited, hits })),

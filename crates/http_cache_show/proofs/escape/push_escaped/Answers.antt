@@ -1,15 +1,7 @@
--- Each character is written escaped.
-use Rattle.std.proofs.Common.{sym, ◌∙◌, append_assoc, append-nil}
-use Rattle.std.proofs.lemmas.Str.{IsUtf8-past_char}
-use Rattle.http_cache_show.proofs.EscapeLemmas.{escaped-empty, escaped-step}
+-- One more character is text too.
+use Rattle.std.proofs.Common.{string_bytes}
+use Rattle.http_cache_show.proofs.TagLemmas.{text-then}
 use Rattle.http_cache_show.proofs.escape.push_escaped.Goals as goal
 
 pub loop-c-preserved : goal.loop-c-preserved
-loop-c-preserved c =
-    let held = c.loop-c.invariant in
-    let parts = c.in-Some.ensures.steps.0 in
-    let step = escaped-step _ _ c.in-Some.c held.0 parts in
-    (IsUtf8-past_char _ _ c.in-Some.c held.0 parts, rw (c.in_ok-push_char.ensures, append_assoc) (rw step at held.1))
-
-pub returns : goal.returns
-returns c = sym (append-nil _) ∙ rw (escaped-empty _ c.in-None.ensures.steps.0.0) at c.loop-c.invariant.1
+loop-c-preserved c = text-then (string_bytes c.args.html.now) (string_bytes c.loop-c.html) (string_bytes c.push_char.new.html) c.loop-c.invariant c.push_char.ensures
