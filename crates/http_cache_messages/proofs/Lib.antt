@@ -1,2 +1,3 @@
 -- Lemmas of messages.
+pub mod NeededLemmas
 mod OutgoingLemmas

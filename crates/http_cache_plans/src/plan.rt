@@ -14,6 +14,7 @@ use http_cache_fields::CacheError;
 use http_cache_messages::asking::Incoming;
 use http_cache_messages::complete::is_complete;
 use http_cache_messages::head::{add_cache_status, stored_head};
+use http_cache_messages::needed::NeededRequest;
 use http_cache_messages::worth::{can_be_used_again, is_worth_storing};
 use http_cache_policy::explain::TimeLeft;
 use http_cache_policy::policy::{CacheOptions, CachePolicy};
@@ -182,7 +183,8 @@ fn policy_of(
         headers,
     };
     let asking = arrived.incoming.as_received();
-    CachePolicy::new_options(alloc, &asking, &head, times.sent, *options)
+    let needed = NeededRequest::new(&asking, &head.headers)?;
+    CachePolicy::new_options(alloc, &needed, &head, times.sent, *options)
 }
 
 // Plans what to do with a response whose body is in memory.

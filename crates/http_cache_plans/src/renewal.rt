@@ -9,6 +9,7 @@ use crate::reply::Reply;
 use http::{Version, response};
 use http_cache_fields::CacheError;
 use http_cache_messages::head::stored_head;
+use http_cache_messages::needed::NeededRequest;
 use http_cache_messages::worth::is_worth_storing;
 use http_cache_policy::policy::{CacheOptions, CachePolicy};
 use http_cache_rules::updated::updated_headers;
@@ -38,7 +39,8 @@ pub fn renewed(
         headers: updated_headers(policy.stored_headers(), &new)?,
     };
     let asking = arrived.incoming.asking(policy.stored_method());
-    CachePolicy::new_options(alloc, &asking, &head, times.sent, *options)
+    let needed = NeededRequest::new(&asking, &head.headers)?;
+    CachePolicy::new_options(alloc, &needed, &head, times.sent, *options)
 }
 
 /// The answer by a stored response that a 304 confirmed, and what to do with that response.
