@@ -1,12 +1,12 @@
 """Prints how the time and memory of an audit grow with the entries of a recording.
 
-    audits.py LEAST WORD..    (LEAST: the fewest entries; WORD..: the command of cacheaudit; bin/bench --scaling calls it)
+    audits.py LEAST PROGRAM    (LEAST: the fewest entries; PROGRAM: cacheaudit; bin/bench --scaling calls it)
 
 It prints a table row for each recording. The cells are:
 - the entries and bytes of the recording;
-- the millions of instructions of a run, if valgrind is installed, and how many times the count for half as many entries it is;
-- the least processor time of three runs;
-- the greatest memory of a run, and that memory divided by the bytes of the recording.
+- for a run with `--lines`, one without a word, and one with `--html`: the millions of instructions, if valgrind is installed, and
+  how many times the count for half as many entries it is; and the least processor time of three runs;
+- the greatest memory of these runs, and that memory divided by the bytes of the recording.
 
 The last rows repeat a page that a browser exported (tests/recordings/site.har), in its indented and in a compact form.
 """
@@ -22,10 +22,12 @@ from datetime import datetime, timedelta, timezone
 from pathlib import Path
 
 LEAST = int(sys.argv[1])
-COMMAND = sys.argv[2:]
+PROGRAM = sys.argv[2]
+FORMS = [["--lines"], [], ["--html"]]
 DOUBLINGS = 5
 RUNS = 3
-MOST_COUNTED = 10000
+# The most entries of a recording on which the instructions of a form are counted.
+MOST_COUNTED = [10000, 2500, 2500]
 VALGRIND = ["valgrind", "--tool=callgrind", "--callgrind-out-file=/dev/null"]
 PAGE = Path(__file__).resolve().parent.parent / "tests/recordings/site.har"
 PAGE_ENTRIES = 165
@@ -90,6 +92,14 @@ def with_unselected(size):
     return [variant(i) if i < size // 2 else unselected(i) for i in range(size)]
 
 
+def with_queries(size):
+    """Returns urls of which ten each differ in their query only, and have one body."""
+    entries = [received(i, f"http://example.org/{i // 10}?t={i}") for i in range(size)]
+    for i, one in enumerate(entries):
+        one["response"]["content"] = {"size": 900, "text": f"the body of {i // 10}"}
+    return entries
+
+
 KINDS = [
     ("from the network", of_network),
     ("from the browser's cache, of one host", of_one_host),
@@ -97,6 +107,7 @@ KINDS = [
     ("half from the network, then again from the browser's cache", of_both),
     ("one url, each with another value of Vary", variants),
     ("the same for half, then 304s that select none", with_unselected),
+    ("queries that change, ten for each body", with_queries),
 ]
 
 
@@ -113,22 +124,28 @@ def pages(times):
     return page
 
 
-def run(path):
+def run(path, words):
     """Returns the processor time of a run in seconds, and its greatest memory in bytes."""
     with open(path, "rb") as recording:
-        ran = subprocess.Popen(COMMAND, stdin=recording, stdout=subprocess.DEVNULL)
+        ran = subprocess.Popen([PROGRAM, *words], stdin=recording, stdout=subprocess.DEVNULL)
         _, status, used = os.wait4(ran.pid, 0)
     if status != 0:
-        sys.exit(f"audits.py: {' '.join(COMMAND)} ended with status {status}")
+        sys.exit(f"audits.py: {' '.join([PROGRAM, *words])} ended with status {status}")
     return used.ru_utime + used.ru_stime, used.ru_maxrss * 1024
 
 
-def instructions(path, size):
-    """Returns the instructions of a run, or None for a large recording or without valgrind."""
-    if size > MOST_COUNTED or shutil.which("valgrind") is None:
+def least(path, words):
+    """Returns the least processor time of some runs, and their greatest memory."""
+    runs = [run(path, words) for _ in range(RUNS)]
+    return min(took for took, _ in runs), max(held for _, held in runs)
+
+
+def instructions(path, words):
+    """Returns the instructions of a run, or None without valgrind."""
+    if shutil.which("valgrind") is None:
         return None
     with open(path, "rb") as recording:
-        ran = subprocess.run([*VALGRIND, *COMMAND], stdin=recording, capture_output=True, check=True)
+        ran = subprocess.run([*VALGRIND, PROGRAM, *words], stdin=recording, capture_output=True, check=True)
     return int(re.findall(rb"Collected : (\d+)", ran.stderr)[-1])
 
 
@@ -142,31 +159,38 @@ def write(path, make):
         sys.exit(f"audits.py: {path} can't be written; its errors are above")
 
 
+def grown(now, before):
+    return f"{now / before:.2f}" if now and before else "-"
+
+
 def row(name, size, make, before):
-    """Prints a row, and returns its instructions."""
+    """Prints a row, and returns the instructions of each form."""
     with tempfile.TemporaryDirectory() as folder:
         path = Path(folder) / "recording.har"
         write(path, make)
         length = path.stat().st_size
-        counted = instructions(path, size)
-        runs = [run(path) for _ in range(RUNS)]
-    seconds, memory = min(took for took, _ in runs), max(held for _, held in runs)
-    millions = f"{counted / 1e6:.0f}" if counted else "-"
-    grown = f"{counted / before:.2f}" if counted and before else "-"
-    cells = [name, size, length, millions, grown, f"{seconds:.2f}", f"{memory / 1e6:.0f}", f"{memory / length:.1f}"]
+        counted = [instructions(path, words) if size <= most else None for words, most in zip(FORMS, MOST_COUNTED)]
+        runs = [least(path, words) for words in FORMS]
+    memory = max(held for _, held in runs)
+    cells = [name, size, length]
+    for now, last, (took, _) in zip(counted, before, runs):
+        cells += [f"{now / 1e6:.0f}" if now else "-", grown(now, last), f"{took:.2f}"]
+    cells += [f"{memory / 1e6:.0f}", f"{memory / length:.1f}"]
     print("|", " | ".join(map(str, cells)), "|", flush=True)
     return counted
 
 
 def main():
-    print("| recording | entries | bytes | million instructions | grown | s | memory, MB | bytes of memory a byte |")
-    print("|---|---|---|---|---|---|---|---|")
+    print("| recording | entries | bytes | --lines, million instructions | grown | s | report | grown | s | --html | grown | s "
+          "| memory, MB | bytes of memory a byte |")
+    print("|" + "---|" * 14)
+    nothing = [None] * len(FORMS)
     for name, make in KINDS:
-        before = None
+        before = nothing
         for size in (LEAST << doubling for doubling in range(DOUBLINGS + 1)):
             before = row(name, size, lambda: json.dumps({"log": {"entries": make(size)}}), before)
     for name, form in ("indented", {"indent": 1}), ("compact", {"separators": (",", ":")}):
-        before = None
+        before = nothing
         for times in (max(1, LEAST // PAGE_ENTRIES) << doubling for doubling in range(DOUBLINGS + 1)):
             before = row(f"a page, {name}", times * PAGE_ENTRIES, lambda: json.dumps(pages(times), **form), before)
 
