@@ -117,10 +117,13 @@ fn put_spared(page: &mut Page, found: &Findings) -> Fallible<()> {
     let (count, three) = (changes.len(), three_bytes(changes));
     let part = part_of(three, found.all);
     fill!(page; SPARED; Number(thousands(three)), Value(part))?;
+    let sent = match found.base {
+        Base::Later => "the later loads sent that a cache could answer",
+        Base::Visit => "a visit a day later sends",
+    };
     fill!(page; SPARED_WORDS;
-        Number(count.min(3) as u64), Number(part),
-        Text(match found.base { Base::Later => "the later loads sent that a cache could answer", Base::Visit => "a visit a day later sends", }),
-        Number(count as u64), Number(thousands(saved_by_all(changes))))
+        Number(count.min(3) as u64), Number(part), Text(sent), Number(count as u64),
+        Number(thousands(saved_by_all(changes))))
 }
 
 // Adds the third number: how many requests need nothing.
