@@ -7,8 +7,8 @@ use Rattle.http_cache_messages.specs.Outgoing.{IsClean}
 use Rattle.http_cache_rules.specs.Conditions.{is_conditional}
 use Rattle.http_cache_fields.specs.Directives.{cache_control, has}
 use Rattle.http_cache_fields.specs.Headers.{Headers, headers_of}
-use Rattle.http_cache_storage.specs.Shelf.{StoredByTarget, StoredSeen}
-use Rattle.http_cache_storage.specs.declared.shelf.StoredResponse.{StoredResponse}
+use Rattle.http_cache_store.specs.Store.{StoredByTarget, StoredSeen}
+use Rattle.http_cache_store.specs.declared.store.StoredResponse.{StoredResponse}
 use Rattle.http_cache_client.specs.declared.ask.OriginContact.{OriginContact}
 use Rattle.http_cache_client.specs.declared.ask.OriginContact.TheVariants as contact
 use Rattle.http_cache_client.specs.declared.tokens.Decision.{Decision}
@@ -18,7 +18,7 @@ use Rattle.http_cache_client.specs.declared.tokens.Validation.{Validation}
 abbrev pub fields_of : Request (List ℕ) → Headers
 fields_of request = headers_of (head_of_request request).headers
 
--- the request is answered from the shelf, or a stored response is validated
+-- the request is answered from the store, or a stored response is validated
 abbrev pub IsOfStore : Decision → Type 0
 IsOfStore (Answer _) = ⊤
 IsOfStore (Stale _ _) = ⊤

@@ -1,2 +1,4 @@
 -- Lemmas of messages.
+pub mod NeededLemmas
 mod OutgoingLemmas
+mod WorthLemmas

@@ -1,4 +1,4 @@
-//! A request in the form in which it is compared with stored responses. Nothing here knows a shelf.
+//! A request in the form in which it is compared with stored responses. Nothing here knows a store.
 ghost use Rattle.std.specs.Prelude.{◌≡◌, ◌||◌, IfOk, codes, bytes_eq};
 ghost use Rattle.http.specs.Request.{head_of};
 ghost use Rattle.http_cache_fields.specs.Directives.{cache_control, has};

@@ -5,6 +5,7 @@ pub mod asking;
 pub mod complete;
 pub mod head;
 pub mod memory;
+pub mod needed;
 pub mod outgoing;
 pub mod quoted;
 pub mod worth;

@@ -1,6 +1,6 @@
 -- Which of the stored responses of a target answers a request.
 use Rattle.std.specs.Prelude.{⊤, List, Contains}
-use Rattle.http_cache_storage.specs.declared.shelf.StoredResponse.{StoredResponse}
+use Rattle.http_cache_store.specs.declared.store.StoredResponse.{StoredResponse}
 use Rattle.http_cache_plans.specs.declared.judge.Selected.{Selected}
 use Rattle.http_cache_plans.specs.declared.judge.Selected.TheVariants.{Fresh, Matching, Other, Nothing}
 

@@ -1,11 +1,11 @@
 //! Decides which stored response of a target answers a request.
 ghost use Rattle.std.specs.Prelude.{List, Contains};
-ghost use Rattle.http_cache_storage.specs.declared.shelf.StoredResponse.{StoredResponse};
+ghost use Rattle.http_cache_store.specs.declared.store.StoredResponse.{StoredResponse};
 ghost use Rattle.http_cache_plans.specs.Judge.{IsSelectedOf};
 
 use http_cache_messages::asking::Incoming;
 use http_cache_policy::explain::{Explanation, Reason, StaleReason};
-use http_cache_storage::StoredResponse;
+use http_cache_store::StoredResponse;
 use jiff::Timestamp;
 
 /// The result of a search among the stored responses.

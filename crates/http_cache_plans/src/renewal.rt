@@ -1,7 +1,7 @@
 //! Stored responses that a 304 confirms (RFC 9111, section 4.3.4).
 ghost use Rattle.std.specs.Prelude.{◌≡◌, false, IfOk, IfSome};
 ghost use Rattle.http_cache_plans.specs.Plan.{Stores, IsChangeOf};
-ghost use Rattle.http_cache_storage.specs.Target.{text_of};
+ghost use Rattle.http_cache_store.specs.Target.{text_of};
 ghost use Rattle.http_cache_plans.specs.Renewal.{IsRenewalFor};
 
 use crate::plan::{Arrived, Change, Plan};
@@ -9,10 +9,11 @@ use crate::reply::Reply;
 use http::{Version, response};
 use http_cache_fields::CacheError;
 use http_cache_messages::head::stored_head;
+use http_cache_messages::needed::NeededRequest;
 use http_cache_messages::worth::is_worth_storing;
 use http_cache_policy::policy::{CacheOptions, CachePolicy};
 use http_cache_rules::updated::updated_headers;
-use http_cache_storage::{ResponseId, StoredResponse, Target};
+use http_cache_store::{ResponseId, StoredResponse, Target};
 use jiff::Timestamp;
 use std::alloc::{AllocError, Global};
 
@@ -38,7 +39,8 @@ pub fn renewed(
         headers: updated_headers(policy.stored_headers(), &new)?,
     };
     let asking = arrived.incoming.asking(policy.stored_method());
-    CachePolicy::new_options(alloc, &asking, &head, times.sent, *options)
+    let needed = NeededRequest::new(&asking, &head.headers)?;
+    CachePolicy::new_options(alloc, &needed, &head, times.sent, *options)
 }
 
 /// The answer by a stored response that a 304 confirmed, and what to do with that response.

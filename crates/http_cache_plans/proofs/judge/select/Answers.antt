@@ -1,7 +1,7 @@
 use Rattle.std.proofs.Common.{sym, subst}
 use Rattle.std.specs.Prelude.{Contains}
 use Rattle.std.proofs.lemmas.List.Elements.{Contains-get_or}
-use Rattle.http_cache_storage.specs.declared.shelf.StoredResponse.{StoredResponse}
+use Rattle.http_cache_store.specs.declared.store.StoredResponse.{StoredResponse}
 use Rattle.http_cache_plans.proofs.judge.select.Goals as goal
 
 pub loop-one-preserved : goal.loop-one-preserved

@@ -1,0 +1,3 @@
+-- What a store in a directory stores.
+pub mod Disk
+pub mod Sum

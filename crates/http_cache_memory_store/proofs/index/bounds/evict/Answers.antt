@@ -1,0 +1,15 @@
+-- Each turn evicts one of two or more entries.
+use Rattle.std.proofs.Common.{arith}
+use Rattle.http_cache_memory_store.proofs.BoundsLemmas.{front-all, front-more}
+use Rattle.http_cache_memory_store.proofs.HeldLemmas.{less-same, less-less}
+use Rattle.http_cache_memory_store.proofs.index.bounds.evict.Goals as goal
+
+pub loop-kept-init : goal.loop-kept-init
+loop-kept-init g c = (front-all c.args.kept.now.entries, c.requires, less-same c.args.held.now)
+
+pub loop-kept-preserved : goal.loop-kept-preserved
+loop-kept-preserved g c = (
+  rw c.evict_one.ensures.entries (front-more c.args.kept.now.entries c.loop-kept.kept.entries c.loop-kept.invariant.0 (omega arith)),
+  c.evict_one.ensures.held,
+  less-less c.evict_one.new.held c.loop-kept.held c.args.held.now c.evict_one.ensures.less c.loop-kept.invariant.2,
+)
