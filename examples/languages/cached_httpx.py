@@ -5,6 +5,6 @@ import httpx
 
 from http_cache_semantics.transport import CacheTransport
 
-with httpx.Client(transport=CacheTransport("cache.db")) as client:
+with httpx.Client(transport=CacheTransport("cache")) as client:
     for _ in range(2):
         print(client.get(sys.argv[1]).extensions["from_cache"])

@@ -6,6 +6,6 @@ import requests
 from http_cache_semantics.adapter import CacheAdapter
 
 session = requests.Session()
-session.mount("http://", CacheAdapter("cache.db"))
+session.mount("http://", CacheAdapter("cache"))
 for _ in range(2):
     print(session.get(sys.argv[1]).from_cache)

@@ -89,7 +89,8 @@ def parsed(description: Optional[str], words: Optional[Sequence[str]] = None) ->
     add = parser.add_argument
     add("--listen", type=_address, default=("127.0.0.1", 8080), metavar="HOST:PORT", help="its own address (127.0.0.1:8080)")
     add("--origin", type=Url, required=True, metavar="URL", help="the origin server, such as http://127.0.0.1:8000")
-    add("--file", help="store responses in this file, so that they outlive the process; default: in memory")
+    add("--dir", help="store responses in this directory, so that they outlive the process; default: in memory")
+    add("--sync", action="store_true", help="let each change in the directory outlive a power failure")
     add("--log", action="store_true", help="write a line for each request to standard output")
     add("--timeout", type=_seconds, default=30.0, metavar="SECONDS", help="the wait for a response head (30)")
     add("--idle", type=_seconds, default=60.0, metavar="SECONDS", help="the longest silence in a body, or of a client (60)")
@@ -99,6 +100,6 @@ def parsed(description: Optional[str], words: Optional[Sequence[str]] = None) ->
     add("--name", help="the proxy's name in Via and Cache-Status (cacheserve)")
     add("--program", metavar="FILE", help="the path of the program cacheserve")
     add("--uvloop", action="store_true", help="use the event loop of the package uvloop")
-    for limit in ("responses", "bytes", "stored-body", "variants", "batched"):
+    for limit in ("responses", "bytes", "stored-body", "variants"):
         add("--" + limit, type=_count, metavar="N", help="the limit of cacheserve with this name")
     return parser.parse_args(words)

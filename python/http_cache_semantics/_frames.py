@@ -11,8 +11,8 @@ from typing import Any, Callable, Deque, Dict, Generic, NamedTuple, NoReturn, Op
 PROTOCOL = 1
 # How many seconds a reply may take, unless the caller says otherwise.
 REPLY_SECONDS = 30.0
-# The exit status of a process whose file can't be opened.
-_FILE_NOT_OPENED = 6
+# The exit status of a process whose directory can't be used.
+_NOT_OPENED = 6
 # These are made once, since `json.dumps` and `json.loads` with options look for them at each call.
 _encoded, _decoded = json.JSONEncoder(separators=(",", ":")).encode, json.JSONDecoder().decode
 _NO_RESPONSE = "no-response"
@@ -40,7 +40,7 @@ class CacheGone(CacheError):
 
 
 class StoreNotOpened(CacheGone):
-    """Raised if the process can't open its file, which another process may be using."""
+    """Raised if the process can't use its directory, which another process may be using."""
 
 
 @dataclass(frozen=True)
@@ -346,4 +346,4 @@ def no_reply(seconds: float) -> CacheGone:
 def gone(status: Optional[int], stderr: bytes) -> CacheGone:
     """Returns the exception for a process that has ended, with what it wrote on standard error."""
     text = stderr.decode(errors="replace").strip() or f"cacheserve has ended with status {status}"
-    return StoreNotOpened(text) if status == _FILE_NOT_OPENED else CacheGone(text)
+    return StoreNotOpened(text) if status == _NOT_OPENED else CacheGone(text)

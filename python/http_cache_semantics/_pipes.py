@@ -80,7 +80,7 @@ class Pipes:
         return gone(self.process.poll(), stderr)
 
     def end(self, seconds: float) -> None:
-        """Ends the process, which may take so long to close its file."""
+        """Ends the process, which may take so long to close its directory."""
         _close(self.process.stdin)
         with contextlib.suppress(subprocess.TimeoutExpired):
             self.process.wait(seconds)

@@ -26,11 +26,11 @@ class ProcessOptions:
     """
 
     program: Optional[str] = None
-    file: Optional[str] = None
+    dir: Optional[str] = None
     private: bool = False
     proxy: bool = False
     name: Optional[str] = None
-    batched: Optional[int] = None
+    sync: bool = False
     responses: Optional[int] = None
     bytes: Optional[int] = None
     stored_body: Optional[int] = None

@@ -30,24 +30,25 @@ class CacheAdapter(HTTPAdapter):
     """An adapter of `requests` with a private cache, which sessions and threads may share.
 
     Each response has `from_cache`: whether it is a stored response, validated or not. A copy of the adapter has a process of
-    its own, and so has the adapter after a fork. Of several that name one file, only the first uses it.
+    its own, and so has the adapter after a fork. Of several that name one directory, only the first uses
+    it.
     """
 
     __attrs__ = [*HTTPAdapter.__attrs__, "_process", "_cache_timeout"]
 
     def __init__(
         self,
-        file: Optional[str] = None,
+        directory: Optional[str] = None,
         process: ProcessOptions = ProcessOptions(private=True, name="requests"),
         cache_timeout: float = REPLY_SECONDS,
         **options: Any,
     ) -> None:
-        """Starts the process. With a file, stored responses outlive it. `options` are the options of `HTTPAdapter`.
+        """Starts the process. With a directory, stored responses outlive it. `options` are the options of `HTTPAdapter`.
 
         A process that hasn't replied for `cache_timeout` seconds is killed. Raises `ValueError` if that isn't a positive number.
         """
         super().__init__(**options)
-        self._process, self._cache_timeout = replace(process, file=file or process.file), cache_timeout
+        self._process, self._cache_timeout = replace(process, dir=directory or process.dir), cache_timeout
         self._access = BlockingAccess(self._process, cache_timeout)
         self._access.start()
 
@@ -84,7 +85,7 @@ class CacheAdapter(HTTPAdapter):
         return self.cache.remove(_target(request))
 
     def clear(self) -> None:
-        """Removes all stored responses, and the file."""
+        """Removes all stored responses, and the directory."""
         self.cache.clear()
 
     def close(self) -> None:

@@ -1,6 +1,6 @@
 """What becomes of requests while the process can't be used: it is started again, and is told then what it has missed.
 
-An unsafe request that is forwarded without the process may change what its file stores. Its target is removed there before the
+An unsafe request that is forwarded without the process may change what its directory stores. Its target is removed there before the
 process answers anything again.
 """
 from __future__ import annotations

@@ -13,7 +13,7 @@ ends by `failed`.
 
 The process replies to each frame with one frame, in order. `Cache` writes a frame and reads its reply under a lock, and
 `AsyncCache` reads whenever it can, so full pipes never make both sides wait. If the process has ended, or was killed since it
-didn't reply in time, the next request starts another, with the responses of its file. A `Send` of the old process is then
+didn't reply in time, the next request starts another, with the responses of its directory. A `Send` of the old process is then
 refused.
 """
 from __future__ import annotations
@@ -26,6 +26,7 @@ import weakref
 from collections import deque
 from typing import Any, Deque, Dict, Optional, Tuple
 
+from ._directory import remove_directory
 from ._frames import (
     REPLY_SECONDS,
     Answer,
@@ -64,7 +65,7 @@ from ._frames import (
 from ._pipes import Pipes
 from ._program import ProcessOptions, ProgramNotFound
 
-# How many seconds the process may take to close its file.
+# How many seconds the process may take to close its directory.
 _STOP_SECONDS = 10.0
 _GRACE_SECONDS = 0.1
 
@@ -100,7 +101,7 @@ class Cache:
     """
 
     def __init__(self, options: ProcessOptions = ProcessOptions(), timeout: float = REPLY_SECONDS) -> None:
-        """Starts the process. Raises `ProgramNotFound`, or `StoreNotOpened` if its file can't be opened.
+        """Starts the process. Raises `ProgramNotFound`, or `StoreNotOpened` if its directory can't be used.
 
         Raises `ValueError` if `timeout` isn't a positive number.
         """
@@ -240,13 +241,16 @@ class Cache:
         return self.exchange({"stats": 0})[1].line
 
     def clear(self) -> None:
-        """Removes all stored responses, and the file. Requests under way are lost."""
+        """Removes all stored responses, and the directory. Requests under way are lost.
+
+        Raises `StoreNotOpened` if another process uses the directory.
+        """
         with self._lock:
             self._stop()
-            _remove_file(self.options)
+            remove_directory(self.options.dir)
 
     def close(self) -> None:
-        """Ends the process, once its file is closed. The next request starts another."""
+        """Ends the process, once its directory is closed. The next request starts another."""
         with self._lock:
             self._stop()
 
@@ -267,7 +271,7 @@ _caches: weakref.WeakSet[Cache] = weakref.WeakSet()
 
 
 def _stop(pipes: Pipes, owner: int) -> None:
-    """Ends a process, once its file is closed. A forked process doesn't end that of its parent."""
+    """Ends a process, once its directory is closed. A forked process doesn't end that of its parent."""
     if owner == os.getpid():
         pipes.end(_STOP_SECONDS)
 
@@ -283,12 +287,6 @@ def _let_go() -> None:
 
 
 os.register_at_fork(after_in_child=_let_go)
-
-
-def _remove_file(options: ProcessOptions) -> None:
-    for suffix in ("", "-journal", "-wal", "-shm") if options.file else ():
-        with contextlib.suppress(FileNotFoundError):
-            os.unlink(f"{options.file}{suffix}")
 
 
 class _Pipes(asyncio.SubprocessProtocol):
@@ -466,7 +464,7 @@ class AsyncCache:
             if self.is_running:
                 return
             if self._pipes:
-                # The file is free once the old process has ended.
+                # The directory is free once the old process has ended.
                 await asyncio.wait([self._pipes.closed], timeout=self.timeout)
             words = self.options.command()
             loop = asyncio.get_running_loop()
@@ -578,12 +576,15 @@ class AsyncCache:
         return (await self.exchange({"stats": 0}))[1].line
 
     async def clear(self) -> None:
-        """Ends the process, and removes its file, and so all stored responses. Requests under way are lost."""
+        """Ends the process, and removes its directory, and so all stored responses. Requests under way are lost.
+
+        Raises `StoreNotOpened` if another process uses the directory.
+        """
         await self.close()
-        _remove_file(self.options)
+        remove_directory(self.options.dir)
 
     async def close(self) -> None:
-        """Ends the process, once its file is closed. Does nothing if it has ended."""
+        """Ends the process, once its directory is closed. Does nothing if it has ended."""
         pipes = self._pipes
         if pipes and not pipes.is_gone:
             pipe = pipes.transport.get_pipe_transport(0)

@@ -30,7 +30,7 @@ async def run(words: argparse.Namespace) -> None:
     stop, log, room, url = asyncio.Event(), Log(), Room(words.memory), words.origin
     origin = Origin(url.host, url.port, url.is_tls, url.text, response=words.timeout, idle=words.idle)
     options = ProcessOptions(
-        words.program, words.file, proxy=True, name=words.name, batched=words.batched, responses=words.responses,
+        words.program, words.dir, proxy=True, name=words.name, sync=words.sync, responses=words.responses,
         bytes=words.bytes, stored_body=words.stored_body, variants=words.variants,
     )  # fmt: skip
     name = re.sub(rb"[^!#$%&'*+\-.^_`|~0-9A-Za-z]", b"-", (words.name or _NAME).encode())
@@ -50,9 +50,9 @@ async def run(words: argparse.Namespace) -> None:
         await proxy.cache.start()
     except CacheGone as error:
         proxy.keeper.lost(error)
-    log.say(f"listens on http://{_shown(*words.listen)} for {url.text}")
     for number in (signal.SIGTERM, signal.SIGINT):
         asyncio.get_running_loop().add_signal_handler(number, stop.set)
+    log.say(f"listens on http://{_shown(*words.listen)} for {url.text}")
     await stop.wait()
     listener.close()
     await proxy.stop()

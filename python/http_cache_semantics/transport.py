@@ -46,17 +46,17 @@ class CacheTransport(httpx.BaseTransport):
 
     def __init__(
         self,
-        file: Optional[str] = None,
+        directory: Optional[str] = None,
         process: ProcessOptions = _OPTIONS,
         transport: Optional[httpx.BaseTransport] = None,
         cache_timeout: float = REPLY_SECONDS,
     ) -> None:
-        """Starts the process. With a file, stored responses outlive it. `transport` sends the requests.
+        """Starts the process. With a directory, stored responses outlive it. `transport` sends the requests.
 
         A process that hasn't replied for `cache_timeout` seconds is killed. Raises `ValueError` if that isn't a positive number.
         """
         self._transport = transport or httpx.HTTPTransport()
-        self._access = BlockingAccess(replace(process, file=file or process.file), cache_timeout)
+        self._access = BlockingAccess(replace(process, dir=directory or process.dir), cache_timeout)
         self._access.start()
 
     @property
@@ -75,7 +75,7 @@ class CacheTransport(httpx.BaseTransport):
         return self.cache.remove(_target(httpx.Request("GET", url)))
 
     def clear(self) -> None:
-        """Removes all stored responses, and the file."""
+        """Removes all stored responses, and the directory."""
         self.cache.clear()
 
     def close(self) -> None:
@@ -93,18 +93,18 @@ class AsyncCacheTransport(httpx.AsyncBaseTransport):
 
     def __init__(
         self,
-        file: Optional[str] = None,
+        directory: Optional[str] = None,
         process: ProcessOptions = _OPTIONS,
         transport: Optional[httpx.AsyncBaseTransport] = None,
         cache_timeout: float = REPLY_SECONDS,
     ) -> None:
-        """With a file, stored responses outlive the process. `transport` sends the requests.
+        """With a directory, stored responses outlive the process. `transport` sends the requests.
 
         A process that hasn't replied for `cache_timeout` seconds is killed. Raises `ValueError` if that isn't a positive number.
         """
         self._timeout = checked_timeout(cache_timeout, "cache_timeout")
         self._transport = transport or httpx.AsyncHTTPTransport()
-        self._options = replace(process, file=file or process.file)
+        self._options = replace(process, dir=directory or process.dir)
         self._access = Access(self._opened, _owner)
         self._tasks: Set[asyncio.Task[None]] = set()
 
@@ -132,7 +132,7 @@ class AsyncCacheTransport(httpx.AsyncBaseTransport):
         return await (await self.cache()).remove(_target(httpx.Request("GET", url)))
 
     async def clear(self) -> None:
-        """Removes all stored responses, and the file."""
+        """Removes all stored responses, and the directory."""
         await (await self.cache()).clear()
 
     async def aclose(self) -> None:

@@ -176,9 +176,9 @@ class Adapters(unittest.TestCase):
         self.assertEqual(self.session.post(self.base + "/form", data=b"x").status_code, 200)
         self.assertEqual(len(self.origin.asked), 4)
 
-    def test_a_file(self):
+    def test_a_directory(self):
         with tempfile.TemporaryDirectory() as folder:
-            file = f"{folder}/cache.db"
+            file = f"{folder}/cache"
             with session_with(CacheAdapter(file)) as session:
                 session.get(self.base + "/page")
             with session_with(CacheAdapter(file, ProcessOptions(name="mine"))) as session:
@@ -468,7 +468,7 @@ class Outages(unittest.TestCase):
         self.base = f"http://127.0.0.1:{self.origin.port}"
         self.folder = tempfile.TemporaryDirectory()
         self.addCleanup(self.folder.cleanup)
-        self.file = f"{self.folder.name}/cache.db"
+        self.file = f"{self.folder.name}/cache"
 
     def numbers(self, session, *paths):
         """Returns whether each response is from the cache."""
@@ -486,15 +486,15 @@ class Outages(unittest.TestCase):
         [line] = log.output
         self.assertIn("requests are sent without the cache: /nowhere: No such file or directory", line)
 
-    def test_a_file_that_another_process_uses(self):
-        with Cache(ProcessOptions(file=self.file)) as first:
+    def test_a_directory_that_another_process_uses(self):
+        with Cache(ProcessOptions(dir=self.file)) as first:
             with self.assertLogs("http_cache_semantics", "WARNING") as log:
                 session = session_with(CacheAdapter(self.file))
                 self.assertEqual(self.numbers(session, "/page", "/page"), [False, False])
             with self.assertRaises(StoreNotOpened):
                 session.get_adapter(self.base).remove(self.base + "/page")
             [line] = log.output
-            self.assertIn(f"{self.file}: another process uses the file", line)
+            self.assertIn(f"{self.file}: another process uses the directory", line)
             first.close()
             time.sleep(1.1)
             self.assertEqual(self.numbers(session, "/page", "/page"), [False, True])
@@ -679,11 +679,11 @@ class Copies(unittest.TestCase):
                 made.close()
             self.assertEqual(gets_twice(session, self.url), [True, True])
 
-    def test_a_copy_of_a_session_with_a_file(self):
-        with tempfile.TemporaryDirectory() as folder, session_with(CacheAdapter(f"{folder}/cache.db")) as session:
+    def test_a_copy_of_a_session_with_a_directory(self):
+        with tempfile.TemporaryDirectory() as folder, session_with(CacheAdapter(f"{folder}/cache")) as session:
             with self.assertLogs("http_cache_semantics", "WARNING") as log, copy.deepcopy(session) as made:
                 self.assertEqual(gets_twice(made, self.url), [False, False])
-            self.assertIn("another process uses the file", log.output[0])
+            self.assertIn("another process uses the directory", log.output[0])
             self.assertEqual(gets_twice(session, self.url), [False, True])
 
     def forked(self, session, inherited):

@@ -321,9 +321,9 @@ class Transports:
         with self.assertRaisesRegex(ValueError, "^cache_timeout isn't a positive number of seconds: 0$"):
             type(self.client.transport)(cache_timeout=0)
 
-    def test_a_file(self):
+    def test_a_directory(self):
         with tempfile.TemporaryDirectory() as folder:
-            file = f"{folder}/cache.db"
+            file = f"{folder}/cache"
 
             def made():
                 return type(self.client.transport)(file, ProcessOptions(private=True, name="mine"))
@@ -335,7 +335,7 @@ class Transports:
                 self.assertFalse(second.request("GET", self.origin.base + "/page").extensions["from_cache"])
             with self.assertRaises(StoreNotOpened):
                 second.stats()
-            self.assertIn(f"{file}: another process uses the file", log.output[0])
+            self.assertIn(f"{file}: another process uses the directory", log.output[0])
             second.close()
             first.close()
             third = self.made(made)

@@ -122,7 +122,7 @@ class WithoutProcess(ProxyTest):
 
     def test_what_changes_meanwhile_is_removed(self):
         self.set_up(True)
-        with self.started(f"--file={self.folder}/cache.db") as run:
+        with self.started(f"--dir={self.folder}/cache") as run:
             for path in (b"/a", b"/b"):
                 self.ask(path)
                 self.assertTrue(is_hit(self.ask(path)[1]))
@@ -155,7 +155,7 @@ class WithoutProcess(ProxyTest):
     def test_a_process_that_hangs(self):
         self.set_up(True)
         for loop in LOOPS:
-            with self.subTest(loop), self.started(f"--file={self.folder}/cache.db", "--cache-timeout=6", *loop) as run:
+            with self.subTest(loop), self.started(f"--dir={self.folder}/cache", "--cache-timeout=6", *loop) as run:
                 self.assertTrue(wait_until(self.is_used))
                 [pid] = children(run.pid)
                 os.kill(pid, signal.SIGSTOP)
@@ -240,15 +240,15 @@ class WithoutProcess(ProxyTest):
             self.assertTrue(closed.wait(5))
             run.stderr.close()
 
-    def test_a_file_that_another_process_uses(self):
+    def test_a_directory_that_another_process_uses(self):
         self.set_up(True)
-        file = f"{self.folder}/cache.db"
-        with Cache(ProcessOptions(file=file)) as other, self.started(f"--file={file}") as run:
+        file = f"{self.folder}/cache"
+        with Cache(ProcessOptions(dir=file)) as other, self.started(f"--dir={file}") as run:
             self.assertEqual(self.ask(b"/page")[2], b"page /page")
             other.close()
             self.assertTrue(wait_until(self.is_used, 20))
             lines = lines_of(run)
-        self.assertIn(f"proxy: no cache, so requests are forwarded: cacheserve: {file}: another process uses the file", lines)
+        self.assertIn(f"proxy: no cache, so requests are forwarded: cacheserve: {file}: another process uses the directory", lines)
 
 
 class WithoutOrigin(unittest.TestCase):

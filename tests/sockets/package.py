@@ -315,11 +315,11 @@ class Processes(unittest.TestCase):
             self.assertEqual((wrong, cache.stats()["hits"]), ([], 400))
 
 
-class Files(unittest.TestCase):
+class Directories(unittest.TestCase):
     def setUp(self):
         self.folder = tempfile.TemporaryDirectory()
         self.addCleanup(self.folder.cleanup)
-        self.options = ProcessOptions(file=f"{self.folder.name}/cache.db")
+        self.options = ProcessOptions(dir=f"{self.folder.name}/cache")
 
     def test_what_is_stored_outlives_the_process(self):
         with Cache(self.options) as cache:
@@ -330,20 +330,36 @@ class Files(unittest.TestCase):
         with Cache(self.options) as cache:
             self.assertEqual(cache.ask(get(b"/a"), at=START).body, b"page")
             cache.clear()
-            self.assertFalse(os.path.exists(self.options.file))
+            self.assertFalse(os.path.exists(self.options.dir))
             self.assertIsInstance(cache.ask(get(b"/a"), at=START), Send)
 
-    def test_a_file_in_use(self):
+    def test_a_directory_in_use(self):
         with Cache(self.options) as cache:
-            with self.assertRaisesRegex(StoreNotOpened, f"^cacheserve: {self.options.file}: another process uses the file$"):
+            with self.assertRaisesRegex(StoreNotOpened, f"^cacheserve: {self.options.dir}: another process uses the directory$"):
                 Cache(self.options)
             self.assertIsInstance(cache.ask(get(b"/a")), Send)
 
-    def test_a_file_of_another_kind(self):
-        Path(self.options.file).write_text("notes of mine, which are no cache, but longer than a page of sqlite" * 20)
-        with self.assertRaisesRegex(StoreNotOpened, self.options.file):
+    def test_what_is_no_directory_of_a_store(self):
+        path = Path(self.options.dir)
+        path.write_text("notes of mine")
+        with self.assertRaisesRegex(StoreNotOpened, f"{path}: a file, and no directory$"):
             Cache(self.options)
-        self.assertTrue(os.path.exists(self.options.file))
+        self.assertEqual(path.read_text(), "notes of mine")
+        path.unlink()
+        path.mkdir()
+        notes = path / "notes"
+        notes.write_text("mine")
+        with self.assertRaisesRegex(StoreNotOpened, f"{path}: the directory of another program, with the file notes$"):
+            Cache(self.options)
+        self.assertEqual([notes], list(path.iterdir()))
+
+    def test_clear_leaves_what_is_not_of_the_cache(self):
+        with Cache(self.options) as cache:
+            store(cache, b"/a")
+            notes = Path(self.options.dir) / "notes"
+            notes.write_text("mine")
+            cache.clear()
+            self.assertEqual([notes], list(Path(self.options.dir).iterdir()))
 
 
 class Programs(unittest.TestCase):
@@ -356,8 +372,8 @@ class Programs(unittest.TestCase):
         return ProcessOptions(program=str(path))
 
     def test_words_of_the_command(self):
-        options = ProcessOptions("x", "f.db", private=True, name="n", stored_body=5, requests=7)
-        words = ["x", "--file", "f.db", "--private", "--name", "n", "--stored-body", "5", "--requests", "7"]
+        options = ProcessOptions("x", "f", private=True, sync=True, name="n", stored_body=5, requests=7)
+        words = ["x", "--dir", "f", "--private", "--name", "n", "--sync", "--stored-body", "5", "--requests", "7"]
         self.assertEqual(options.command(), words)
 
     def test_no_program(self):
@@ -484,7 +500,7 @@ class Asynchronous(unittest.IsolatedAsyncioTestCase):
             slow = Path(folder) / "slow"
             slow.write_text('#!/bin/sh\nsleep 0.5\nexec "$CACHESERVE" "$@"\n')
             slow.chmod(0o755)
-            before, cache = set(children(os.getpid())), AsyncCache(ProcessOptions(str(slow), f"{folder}/cache.db"))
+            before, cache = set(children(os.getpid())), AsyncCache(ProcessOptions(str(slow), f"{folder}/cache"))
             start = asyncio.ensure_future(cache.start())
             await asyncio.sleep(0.3)
             self.assertEqual(len(set(children(os.getpid())) - before), 1)
@@ -501,11 +517,11 @@ class Asynchronous(unittest.IsolatedAsyncioTestCase):
         answers = await asyncio.gather(*(self.cache.ask(get(b"/a"), at=START) for _ in range(50)))
         self.assertEqual({len(answer.body) for answer in answers}, {MEGABYTE})
 
-    async def test_a_file_in_use(self):
+    async def test_a_directory_in_use(self):
         with tempfile.TemporaryDirectory() as folder:
-            options = ProcessOptions(file=f"{folder}/cache.db")
+            options = ProcessOptions(dir=f"{folder}/cache")
             with Cache(options):
-                with self.assertRaisesRegex(StoreNotOpened, ": another process uses the file$"):
+                with self.assertRaisesRegex(StoreNotOpened, ": another process uses the directory$"):
                     await AsyncCache(options).start()
 
 

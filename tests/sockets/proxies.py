@@ -162,7 +162,7 @@ class Proxies(unittest.TestCase):
         )
 
     def test_an_unsafe_request_whose_process_is_killed(self):
-        with tempfile.TemporaryDirectory() as folder, self.proxy(f"--file={folder}/c.db", stderr=subprocess.DEVNULL) as run:
+        with tempfile.TemporaryDirectory() as folder, self.proxy(f"--dir={folder}/c", stderr=subprocess.DEVNULL) as run:
             self.reply(get(b"/slow"))
             self.assertIn(b"; hit", self.reply(get(b"/slow")))
             with socket.create_connection(("127.0.0.1", self.port), 20) as connection:
@@ -172,7 +172,7 @@ class Proxies(unittest.TestCase):
                     os.kill(process, signal.SIGKILL)
                 reply = b"".join(iter(lambda: connection.recv(65_536), b""))
             self.assertEqual((reply[:12], reply[-8:]), (b"HTTP/1.1 200", b"\r\n\r\npage"))
-            # The POST may have changed the page, so the response in the file must not be used any more.
+            # The POST may have changed the page, so the response in the directory must not be used any more.
             self.assertNotIn(b"; hit", self.reply(get(b"/slow")))
 
 

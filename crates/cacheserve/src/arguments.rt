@@ -1,16 +1,16 @@
 //! Reads the command line and its settings.
 use http_cache_frames::Longest;
-use http_cache_shelf::Limits;
+use http_cache_memory_store::Limits;
 use std::alloc::{AllocError, Global};
 use std::env::Args;
 
 /// The settings of the process.
 #[derive(Drop)]
 pub struct Settings {
-    /// The file in which responses are stored. Without one they are stored in memory.
-    pub file: Option<String>,
-    /// The number of calls on the file in a commit.
-    pub batched: u32,
+    /// The directory in which responses are stored. Without one they are stored in memory.
+    pub dir: Option<String>,
+    /// Whether each change in the directory waits until it outlives a power failure.
+    pub is_synced: bool,
     /// Whether the cache is private.
     pub is_private: bool,
     /// Whether the caller is an intermediary, such as a proxy (RFC 9110, section 3.7).
@@ -28,8 +28,8 @@ pub struct Settings {
 impl Settings {
     fn new(alloc: Global) -> Result<Settings, AllocError> {
         Ok(Settings {
-            file: None,
-            batched: 1,
+            dir: None,
+            is_synced: false,
             is_private: false,
             is_proxy: false,
             name: String::from_str(alloc, "cacheserve")?,
@@ -46,7 +46,6 @@ impl Settings {
     // fit.
     fn set_number(&mut self, word: &str, number: u64) -> Option<()> {
         match word {
-            "--batched" => self.batched = u32::try_from(number).ok()?,
             "--responses" => self.limits.responses = usize::try_from(number).ok()?,
             "--variants" => self.limits.variants = usize::try_from(number).ok()?,
             "--requests" => self.requests = usize::try_from(number).ok()?,
@@ -65,8 +64,8 @@ impl Settings {
                 self.name = value;
                 Some(())
             }
-            "--file" => {
-                self.file = Some(value);
+            "--dir" => {
+                self.dir = Some(value);
                 Some(())
             }
             _ => self.set_number(word, value.as_str().parse::<u64>().ok()?),
@@ -78,6 +77,7 @@ impl Settings {
         match word {
             "--private" => self.is_private = true,
             "--proxy" => self.is_proxy = true,
+            "--sync" => self.is_synced = true,
             _ => return false,
         }
         true

@@ -9,9 +9,9 @@ pub enum End {
     Served(Ended),
     /// The system has no random bytes.
     NoKeys,
-    /// The file can't be opened. Standard error has the reason.
+    /// The directory can't be used. Standard error has the reason.
     NotOpened,
-    /// The file can't be closed.
+    /// The directory can't be closed. Standard error has the reason.
     NotClosed,
 }
 
@@ -37,12 +37,11 @@ impl End {
     /// Returns the line for standard error, if there is one.
     pub fn text(self) -> Option<&'static str> {
         match self {
-            End::Served(Ended::Well | Ended::NotWritten) | End::NotOpened => None,
+            End::Served(Ended::Well | Ended::NotWritten) | End::NotOpened | End::NotClosed => None,
             End::Served(Ended::Broken(cause)) => Some(cause.reason().text()),
             End::Served(Ended::NotReadable) => Some("standard input can't be read"),
             End::Served(Ended::NoMemory) => Some("out of memory"),
             End::NoKeys => Some("the system has no random bytes"),
-            End::NotClosed => Some("the file can't be closed"),
         }
     }
 }

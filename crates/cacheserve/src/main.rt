@@ -10,20 +10,18 @@ use arguments::{Command, Settings, command_of};
 use cache::{Cache, Counted};
 use end::End;
 use http_cache_client::Client;
+use http_cache_disk_store::{DiskOptions, DiskStore};
 use http_cache_frames::{Ended, serve};
 use http_cache_intermediary::Intermediary;
+use http_cache_memory_store::{MemoryStore, Store};
 use http_cache_semantics::CacheOptions;
 use http_cache_session::Settings as SessionSettings;
-use http_cache_shelf::{MemoryShelf, Shelf};
-use http_cache_store::{Durability, Store, StoreError, StoreOptions};
-use sqlite::{Alter, Error, ErrorCode, File, FileStore};
 use std::env;
 use std::hash::RandomState;
 use std::io::IsTerminal;
 use std::process::ExitCode;
 
-const USAGE: &str =
-    "usage: cacheserve [--file FILE [--batched N]] [--private] [--proxy] [--name NAME]
+const USAGE: &str = "usage: cacheserve [--dir DIR [--sync]] [--private] [--proxy] [--name NAME]
     [--responses N] [--bytes N] [--stored-body N] [--variants N]   limits of what is stored
     [--requests N] [--head N] [--body N]                           limits of frames
        cacheserve --help | --version
@@ -38,10 +36,10 @@ fn options_of(settings: &Settings) -> CacheOptions {
     }
 }
 
-fn cache_over<S: Shelf + Drop>(
+fn cache_over<S: Store + Drop>(
     rt: &HostRuntime,
     settings: &Settings,
-    shelf: S,
+    store: S,
 ) -> Result<Cache<S>, End> {
     let alloc = rt.alloc();
     let name = String::from_str(alloc, settings.name.as_str())?;
@@ -53,9 +51,9 @@ fn cache_over<S: Shelf + Drop>(
     let Ok(keys) = RandomState::new(rt) else {
         return Err(End::NoKeys);
     };
-    let client = Client::new(shelf, options_of(settings), name);
+    let client = Client::new(store, options_of(settings), name);
     Ok(Cache::new(
-        alloc,
+        rt,
         client,
         SessionSettings {
             keys,
@@ -66,13 +64,13 @@ fn cache_over<S: Shelf + Drop>(
     ))
 }
 
-// Serves standard input over a shelf, and returns the shelf.
-fn serve_over<S: Shelf + Counted + Drop>(
+// Serves standard input over a store, and returns the store.
+fn serve_over<S: Store + Counted + Drop>(
     rt: &HostRuntime,
     settings: &Settings,
-    shelf: S,
+    store: S,
 ) -> Result<(End, S), End> {
-    let mut cache = cache_over(rt, settings, shelf)?;
+    let mut cache = cache_over(rt, settings, store)?;
     let served = serve(
         rt.alloc(),
         &mut cache,
@@ -80,62 +78,67 @@ fn serve_over<S: Shelf + Counted + Drop>(
         rt.stdout(),
         settings.longest,
     );
-    Ok((End::Served(served.ended), cache.into_shelf()))
+    Ok((End::Served(served.ended), cache.into_store()))
 }
 
 fn serve_in_memory(rt: &HostRuntime, settings: &Settings) -> Result<End, End> {
     let Ok(hasher) = RandomState::new(rt) else {
         return Err(End::NoKeys);
     };
-    let shelf = MemoryShelf::new(rt.alloc(), hasher, settings.limits)?;
-    let (end, shelf) = serve_over(rt, settings, shelf)?;
-    drop(shelf);
+    let store = MemoryStore::new(rt.alloc(), hasher, settings.limits)?;
+    let (end, store) = serve_over(rt, settings, store)?;
+    drop(store);
     Ok(end)
 }
 
-// Serves over a store, and returns it.
-fn serve_stored<S: Alter + Drop>(
-    rt: &HostRuntime,
-    settings: &Settings,
-    store: Store<S>,
-) -> Result<(End, Store<S>), End> {
-    serve_over(rt, settings, store)
-}
-
+// Opens the directory, and reports what was wrong with it.
 fn opened(
     rt: &HostRuntime,
     settings: &Settings,
     path: &str,
-) -> Result<Store<FileStore<File>>, End> {
-    let options = StoreOptions {
+) -> Result<DiskStore<HostRuntime>, End> {
+    let options = DiskOptions {
         limits: settings.limits,
-        durability: Durability::Batched {
-            calls: settings.batched,
-        },
+        is_synced: settings.is_synced,
     };
-    match Store::open(rt, path, options) {
-        Ok(store) => Ok(store),
-        Err(StoreError::Sqlite(Error::SqliteFailure(ErrorCode::DatabaseBusy))) => {
-            let _ = eprintln!(rt; "cacheserve: {path}: another process uses the file");
-            Err(End::NotOpened)
-        }
+    let store = match DiskStore::open(rt, path, options) {
+        Ok(store) => store,
         Err(cause) => {
             let _ = eprintln!(rt; "cacheserve: {path}: {cause}");
-            Err(End::NotOpened)
+            return Err(End::NotOpened);
+        }
+    };
+    let found = store.found();
+    if found.damaged > 0 {
+        let _ = eprintln!(rt;
+            "cacheserve: {path}: removed {} damaged responses",
+            found.damaged
+        );
+    }
+    if found.distrusted > 0 {
+        let _ = eprintln!(rt;
+            "cacheserve: {path}: removed {} responses, since it wasn't closed",
+            found.distrusted
+        );
+    }
+    Ok(store)
+}
+
+fn serve_in_directory(rt: &HostRuntime, settings: &Settings, path: &str) -> Result<End, End> {
+    let store = opened(rt, settings, path)?;
+    let (end, store) = serve_over(rt, settings, store)?;
+    match store.close() {
+        Ok(()) => Ok(end),
+        Err(cause) => {
+            let _ = eprintln!(rt; "cacheserve: {path}: {cause}");
+            Ok(End::NotClosed)
         }
     }
 }
 
 fn run(rt: &HostRuntime, settings: &Settings) -> Result<End, End> {
-    match settings.file.as_ref() {
-        Some(path) => {
-            let store = opened(rt, settings, path.as_str())?;
-            let (end, store) = serve_stored(rt, settings, store)?;
-            match store.close() {
-                Ok(()) => Ok(end),
-                Err(_) => Ok(End::NotClosed),
-            }
-        }
+    match settings.dir.as_ref() {
+        Some(path) => serve_in_directory(rt, settings, path.as_str()),
         None => serve_in_memory(rt, settings),
     }
 }

@@ -4,8 +4,8 @@
 use bytes::Bytes;
 use http::{Request, Response};
 use http_cache_client::{Client, Origin};
+use http_cache_memory_store::{Limits, MemoryStore};
 use http_cache_semantics::CacheOptions;
-use http_cache_shelf::{Limits, MemoryShelf};
 use jiff::Timestamp;
 use std::alloc::Global;
 use std::hash::RandomState;
@@ -37,8 +37,8 @@ impl Origin for Site {
 fn main(rt: HostRuntime) -> anyhow::Result<()> {
     let alloc = rt.alloc();
     let name = String::from_str(alloc, "first_answer")?;
-    let shelf = MemoryShelf::new(alloc, RandomState::new(&rt)?, Limits::default())?;
-    let mut client = Client::new(shelf, CacheOptions::default(), name);
+    let store = MemoryStore::new(alloc, RandomState::new(&rt)?, Limits::default())?;
+    let mut client = Client::new(store, CacheOptions::default(), name);
     let mut site = Site {
         alloc,
         now: Timestamp::UNIX_EPOCH,

@@ -11,9 +11,9 @@ mod wire;
 
 use clock::StepClock;
 use http_cache_client::{Client, Origin};
+use http_cache_memory_store::{Limits, MemoryStore};
 use http_cache_proxy::{ClockTime, Proxy, TimeSource};
 use http_cache_semantics::CacheOptions;
-use http_cache_shelf::{Limits, MemoryShelf};
 use http_server::{Config, Connection, serve};
 use site::Site;
 use std::hash::RandomState;
@@ -39,7 +39,7 @@ fn read_arguments(rt: &HostRuntime) -> anyhow::Result<Option<OriginFiles>> {
     }
 }
 
-// Serves one connection, with a shelf in memory and an origin server.
+// Serves one connection, with a store in memory and an origin server.
 fn serve_with<O: Origin + Drop, C: TimeSource + Drop>(
     rt: &HostRuntime,
     origin: O,
@@ -49,9 +49,9 @@ where
     O::Error: Drop,
 {
     let alloc = rt.alloc();
-    let shelf = MemoryShelf::new(alloc, RandomState::new(rt)?, Limits::default())?;
+    let store = MemoryStore::new(alloc, RandomState::new(rt)?, Limits::default())?;
     let name = String::from_str(alloc, NAME)?;
-    let client = Client::new(shelf, CacheOptions::default(), name);
+    let client = Client::new(store, CacheOptions::default(), name);
     let mut proxy = Proxy::new(alloc, client, origin, clock)?;
     let mut connection = Connection::new(alloc, RandomState::new(rt)?, Config::default());
     let (mut reader, mut writer) = (rt.stdin(), rt.stdout());

@@ -1,3 +1,3 @@
 -- Lemmas of a caching client.
-pub mod CountLemmas
 pub mod ContactLemmas
+pub mod KeepLemmas

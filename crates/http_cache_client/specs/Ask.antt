@@ -1,14 +1,17 @@
 -- What a client does with a request (RFC 9111, section 4).
-use Rattle.std.specs.Prelude.{◌≡◌, ◌⊎◌, ℕ, List, true, ⊤, codes, Contains}
+use Rattle.std.specs.Prelude.{◌≡◌, ◌⊎◌, ℕ, ℤ, List, Some, true, ⊤, codes, Contains}
+use Rattle.std.specs.List.{find}
 use Rattle.http.specs.Request.{head_of as head_of_request}
 use Rattle.http.specs.Response.{head_of}
 use Rattle.http.specs.declared.request.Request.{Request}
+use Rattle.http_cache_policy.specs.Lookup.{may_be_used}
 use Rattle.http_cache_messages.specs.Outgoing.{IsClean}
 use Rattle.http_cache_rules.specs.Conditions.{is_conditional}
+use Rattle.http_cache_rules.specs.Messages.{RequestSeen}
 use Rattle.http_cache_fields.specs.Directives.{cache_control, has}
 use Rattle.http_cache_fields.specs.Headers.{Headers, headers_of}
-use Rattle.http_cache_storage.specs.Shelf.{StoredByTarget, StoredSeen}
-use Rattle.http_cache_storage.specs.declared.shelf.StoredResponse.{StoredResponse}
+use Rattle.http_cache_store.specs.Store.{StoredByTarget, StoredSeen}
+use Rattle.http_cache_store.specs.declared.store.StoredResponse.{StoredResponse}
 use Rattle.http_cache_client.specs.declared.ask.OriginContact.{OriginContact}
 use Rattle.http_cache_client.specs.declared.ask.OriginContact.TheVariants as contact
 use Rattle.http_cache_client.specs.declared.tokens.Decision.{Decision}
@@ -18,7 +21,7 @@ use Rattle.http_cache_client.specs.declared.tokens.Validation.{Validation}
 abbrev pub fields_of : Request (List ℕ) → Headers
 fields_of request = headers_of (head_of_request request).headers
 
--- the request is answered from the shelf, or a stored response is validated
+-- the request is answered from the store, or a stored response is validated
 abbrev pub IsOfStore : Decision → Type 0
 IsOfStore (Answer _) = ⊤
 IsOfStore (Stale _ _) = ⊤
@@ -98,9 +101,31 @@ IsAnswered stored request (Stale answer _) = HasStoredStatus stored (head_of ans
 IsAnswered stored request (Validate _) = ⊤
 IsAnswered stored request (Forward _) = ⊤
 
--- an answer has the status, and each validation is clean
+-- the status is that of the newest response that may be used for the request at the time without validation, or 304
+pub record IsHit (stored : List StoredSeen) (request : RequestSeen) (now : ℤ) (status : ℕ) : Type 0 where
+  pub one : StoredSeen
+  pub usable : find (λ r. may_be_used r.exchange request now) stored ≡ Some one
+  pub is : (status ≡ one.exchange.status) ⊎ (status ≡ 304)
+
+-- the only answer that isn't stored is the 504 to an `only-if-cached` request
+abbrev pub IsGenerated : Headers → Decision → Type 0
+IsGenerated fields (Answer answer) = IsOnlyIfCached fields × ((head_of answer).status ≡ 504)
+IsGenerated fields (Stale _ _) = ⊤
+IsGenerated fields (Validate _) = ⊤
+IsGenerated fields (Forward _) = ⊤
+
+-- an answer without validation is a hit, or is generated
+abbrev pub IsUsed : List StoredSeen → RequestSeen → ℤ → Headers → Decision → Type 0
+IsUsed stored request now fields (Answer answer) =
+    IsHit stored request now (head_of answer).status
+    ⊎ (IsOnlyIfCached fields × ((head_of answer).status ≡ 504))
+IsUsed stored request now fields (Stale _ _) = ⊤
+IsUsed stored request now fields (Validate _) = ⊤
+IsUsed stored request now fields (Forward _) = ⊤
+
+-- a stale answer has the status, and each validation is clean
 abbrev pub IsDecisionOf : ℕ → Decision → Type 0
-IsDecisionOf status (Answer answer) = (head_of answer).status ≡ status
+IsDecisionOf status (Answer _) = ⊥
 IsDecisionOf status (Stale answer due) = ((head_of answer).status ≡ status) × IsCleanValidation due
 IsDecisionOf status (Validate validation) = IsCleanValidation validation
 IsDecisionOf status (Forward _) = ⊤

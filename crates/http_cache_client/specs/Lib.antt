@@ -1,5 +1,5 @@
 -- What a caching client answers, sends and stores.
 pub mod Ask
 pub mod Fetch
+pub mod Keep
 pub mod Receive
-pub mod Remove

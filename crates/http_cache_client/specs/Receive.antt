@@ -6,7 +6,7 @@ use Rattle.http.specs.declared.request.Request.{Request}
 use Rattle.http.specs.declared.response.Response.{Response}
 use Rattle.http_cache_messages.specs.Asking.{is_looked_up}
 use Rattle.http_cache_fields.specs.Headers.{headers_of}
-use Rattle.http_cache_storage.specs.Target.{target_text}
+use Rattle.http_cache_store.specs.Target.{target_text}
 use Rattle.http_cache_plans.specs.Plan.{IsElsewhere, IsWholeBody, HasCondition}
 use Rattle.http_cache_plans.specs.declared.body.Body.{Body}
 use Rattle.http_cache_client.specs.declared.tokens.Received.{Received}
@@ -36,6 +36,10 @@ KeepsBodyLocation response (Again _) = ⊤
 abbrev pub IsAfterA304 : Response Body → Received → Type 0
 IsAfterA304 response (Answer _) = ⊤
 IsAfterA304 response (Again _) = (head_of response).status ≡ 304
+
+abbrev pub IsAgain : Received → Type 0
+IsAgain (Answer _) = ⊥
+IsAgain (Again _) = ⊤
 
 abbrev pub HasBodyHere : Received → Type 0
 HasBodyHere (Answer answer) = ¬ (IsElsewhere (body_of answer))

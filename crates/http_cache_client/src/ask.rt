@@ -1,15 +1,17 @@
 //! Decides what to do with a request: answer it, validate a stored response, or forward it.
 ghost use Rattle.std.specs.Prelude.{◌≡◌, true, List, IfOk, IfSome, Contains};
 ghost use Rattle.http.specs.Response.{head_of as head_of_response};
-ghost use Rattle.http_cache_messages.specs.Asking.{is_looked_up};
-ghost use Rattle.http_cache_storage.specs.Shelf.{KeepsAll};
-ghost use Rattle.http_cache_storage.specs.declared.shelf.StoredResponse.{StoredResponse};
+ghost use Rattle.http_cache_messages.specs.Asking.{incoming_seen, is_looked_up, looked_up};
+ghost use Rattle.http_cache_store.specs.Store.{KeepsAll, KeepsAllOthers};
+ghost use Rattle.http_cache_store.specs.Target.{text_of};
+ghost use Rattle.http_cache_store.specs.declared.store.StoredResponse.{StoredResponse};
 ghost use Rattle.http_cache_plans.specs.Judge.{IsSelectedOf};
 ghost use Rattle.http_cache_client.specs.Ask.{fields_of, IsOfStore, IsCleanValidation, IsCleanDecision};
 ghost use Rattle.http_cache_client.specs.Ask.{IsConditionalDecision, IsCleanContact};
 ghost use Rattle.http_cache_client.specs.Ask.{IsConditionalContact};
 ghost use Rattle.http_cache_client.specs.Ask.{IsContactOf, IsContactIn, IsDecisionOf, IsAnswered};
-ghost use Rattle.http_cache_client.specs.Ask.{IsAnswer, IsOnlyIfCached};
+ghost use Rattle.http_cache_client.specs.Ask.{IsAnswer, IsGenerated, IsOnlyIfCached, IsUsed};
+ghost use Rattle.http_cache_client.specs.Receive.{own_text};
 
 use crate::client::Client;
 use crate::tokens::{Decision, Forwarded, Validation};
@@ -22,9 +24,9 @@ use http_cache_messages::worth::has_validator;
 use http_cache_plans::Why;
 use http_cache_plans::judge::{Selected, select};
 use http_cache_plans::reply::Reply;
-use http_cache_plans::report::{answer_of, generated, hit, shelf_failed, why_of};
+use http_cache_plans::report::{answer_of, generated, hit, store_failed, why_of};
 use http_cache_policy::explain::Forward;
-use http_cache_storage::{Shelf, StoredResponse, Target};
+use http_cache_store::{Store, StoredResponse, Target};
 use jiff::Timestamp;
 use std::alloc::{AllocError, Global};
 
@@ -58,7 +60,7 @@ fn validation_of(
         Ok(request) => Ok(OriginContact::Validate(Validation {
             id: Some(stored.id),
             why: said,
-            is_past_shelf: false,
+            is_past_store: false,
             request: Box::new(alloc, request)?,
         })),
         Err(CacheError::Memory) => Err(AllocError),
@@ -134,25 +136,27 @@ fn why_not_looked_up(method: &Method) -> Why {
     })
 }
 
-// Forwards the client's own request after the shelf failed.
-fn past_shelf(alloc: Global) -> Result<Forwarded, AllocError> {
+// Forwards the client's own request after the store failed.
+fn past_store(alloc: Global) -> Result<Forwarded, AllocError> {
     Ok(Forwarded {
         id: None,
-        why: shelf_failed(alloc)?,
-        is_past_shelf: true,
+        why: store_failed(alloc)?,
+        is_past_store: true,
     })
 }
 
-impl<S: Shelf + Drop> Client<S> {
-    // Answers with a stored response. Returns None if the shelf has lost its body.
+impl<S: Store + Drop> Client<S> {
+    // Answers with a stored response. Returns None if the store has lost its body.
     fn used(
         &mut self,
         alloc: Global,
         target: &Target,
         mut reply: Reply,
     ) -> Result<Option<Response<Bytes>>, AllocError>
-        ensures kept { KeepsAll (S.stored self.old.shelf) (S.next_id self.old.shelf)
-            (S.stored self.new.shelf) (S.next_id self.new.shelf) }
+        ensures kept { KeepsAll (S.stored self.old.store) (S.next_id self.old.store)
+            (S.stored self.new.store) (S.next_id self.new.store) }
+        ensures lasting { KeepsAllOthers (S.lasting self.old.store) (S.lasting self.new.store)
+            (text_of target.now) }
         ensures used { IfOk result (λ answer. IfSome answer (λ sent.
             (head_of_response sent).status ≡ reply.head.status)) }
     {
@@ -172,8 +176,10 @@ impl<S: Shelf + Drop> Client<S> {
         due: Validation,
     ) -> Result<Decision, AllocError>
         requires { IsCleanValidation due }
-        ensures kept { KeepsAll (S.stored self.old.shelf) (S.next_id self.old.shelf)
-            (S.stored self.new.shelf) (S.next_id self.new.shelf) }
+        ensures kept { KeepsAll (S.stored self.old.store) (S.next_id self.old.store)
+            (S.stored self.new.store) (S.next_id self.new.store) }
+        ensures lasting { KeepsAllOthers (S.lasting self.old.store) (S.lasting self.new.store)
+            (text_of target.now) }
         ensures used { IfOk result (IsDecisionOf reply.head.status) }
     {
         let Some(body) = self.body_of(alloc, target, &mut reply)? else {
@@ -210,15 +216,18 @@ impl<S: Shelf + Drop> Client<S> {
         contact: OriginContact,
     ) -> Result<Decision, AllocError>
         requires { IsCleanContact contact }
-        ensures kept { KeepsAll (S.stored self.old.shelf) (S.next_id self.old.shelf)
-            (S.stored self.new.shelf) (S.next_id self.new.shelf) }
+        ensures kept { KeepsAll (S.stored self.old.store) (S.next_id self.old.store)
+            (S.stored self.new.store) (S.next_id self.new.store) }
+        ensures lasting { KeepsAllOthers (S.lasting self.old.store) (S.lasting self.new.store)
+            (text_of target.now) }
         ensures clean { IfOk result IsCleanDecision }
         ensures conditional { IsConditionalContact (fields_of incoming.now.request.now) contact
             → IfOk result (IsConditionalDecision (fields_of incoming.now.request.now)) }
-        ensures answered { IsContactIn (S.stored self.old.shelf) contact → IfOk result
-            (IsAnswered (S.stored self.old.shelf) (fields_of incoming.now.request.now)) }
+        ensures answered { IsContactIn (S.stored self.old.store) contact → IfOk result
+            (IsAnswered (S.stored self.old.store) (fields_of incoming.now.request.now)) }
         ensures only_if_cached { IsOnlyIfCached (fields_of incoming.now.request.now)
             → IfOk result IsAnswer }
+        ensures generated { IfOk result (IsGenerated (fields_of incoming.now.request.now)) }
     {
         // Nothing is sent for such a request (RFC 9111, section 5.2.1.7).
         if incoming.is_only_if_cached() {
@@ -239,40 +248,45 @@ impl<S: Shelf + Drop> Client<S> {
         incoming: &Incoming<'_>,
         now: Timestamp,
     ) -> Result<Decision, AllocError>
-        ensures kept { KeepsAll (S.stored self.old.shelf) (S.next_id self.old.shelf)
-            (S.stored self.new.shelf) (S.next_id self.new.shelf) }
+        ensures kept { KeepsAll (S.stored self.old.store) (S.next_id self.old.store)
+            (S.stored self.new.store) (S.next_id self.new.store) }
+        ensures lasting { KeepsAllOthers (S.lasting self.old.store) (S.lasting self.new.store)
+            (own_text incoming.now.request.now) }
         ensures clean { IfOk result IsCleanDecision }
         ensures conditional { IfOk result
             (IsConditionalDecision (fields_of incoming.now.request.now)) }
-        ensures answered { IfOk result (IsAnswered (S.stored self.old.shelf)
+        ensures answered { IfOk result (IsAnswered (S.stored self.old.store)
             (fields_of incoming.now.request.now)) }
         ensures only_if_cached { IsOnlyIfCached (fields_of incoming.now.request.now)
             → IfOk result IsAnswer }
+        ensures used { IfOk result (IsUsed (S.stored self.old.store
+            (own_text incoming.now.request.now)) (incoming_seen incoming.now) now.nanosecond
+            (fields_of incoming.now.request.now)) }
     {
         let request = incoming.request();
         let target = Target::of(alloc, request.uri(), request.headers())?;
         if !self.read(alloc, &target)? {
-            let contact = OriginContact::Forward(past_shelf(alloc)?);
+            let contact = OriginContact::Forward(past_store(alloc)?);
             return self.not_fresh(alloc, &target, incoming, contact);
         }
-        let selected = select(self.shelf.found(&target), incoming, now);
+        let selected = select(self.store.found(&target), incoming, now);
         if let Selected::Fresh(one) = selected
             && let Some(reply) = Reply::of(alloc, one, incoming, now)?
         {
             if let Some(answer) = self.used(alloc, &target, reply)? {
                 return Ok(Decision::Answer(answer));
             }
-            let contact = OriginContact::Forward(past_shelf(alloc)?);
+            let contact = OriginContact::Forward(past_store(alloc)?);
             return self.not_fresh(alloc, &target, incoming, contact);
         }
         let contact = otherwise(alloc, selected, incoming, now)?;
         self.not_fresh(alloc, &target, incoming, contact)
     }
 
-    /// Returns what to do with a request that was received at `now`: an answer from the shelf, or a
+    /// Returns what to do with a request that was received at `now`: an answer from the store, or a
     /// request to send to the origin server (RFC 9111, section 4).
     ///
-    /// If the shelf fails, the request is forwarded, unless it says `only-if-cached`. In an answer,
+    /// If the store fails, the request is forwarded, unless it says `only-if-cached`. In an answer,
     /// the client's member of Cache-Status is after the members of earlier caches.
     ///
     /// # Errors
@@ -289,11 +303,15 @@ impl<S: Shelf + Drop> Client<S> {
         ensures conditional { IfOk result
             (IsConditionalDecision (fields_of request.now)) }
         ensures answered { IfOk result
-            (IsAnswered (S.stored self.old.shelf) (fields_of request.now)) }
+            (IsAnswered (S.stored self.old.store) (fields_of request.now)) }
+        ensures used { IfOk result (IsUsed (S.stored self.old.store (own_text request.now))
+            (looked_up request.now) now.nanosecond (fields_of request.now)) }
         ensures only_if_cached { is_looked_up request.now ≡ true
             → IsOnlyIfCached (fields_of request.now) → IfOk result IsAnswer }
-        ensures kept { KeepsAll (S.stored self.old.shelf) (S.next_id self.old.shelf)
-            (S.stored self.new.shelf) (S.next_id self.new.shelf) }
+        ensures kept { KeepsAll (S.stored self.old.store) (S.next_id self.old.store)
+            (S.stored self.new.store) (S.next_id self.new.store) }
+        ensures lasting { KeepsAllOthers (S.lasting self.old.store) (S.lasting self.new.store)
+            (own_text request.now) }
     {
         if !is_looked_up(request) {
             let why = why_not_looked_up(request.method());

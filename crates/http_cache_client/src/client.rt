@@ -1,19 +1,19 @@
-//! The caching client: its shelf, its name in Cache-Status and its options.
-ghost use Rattle.std.specs.Prelude.{◌≡◌, ◌⊎◌, ℕ, List, true, map, string_bytes, length, IfOk, OnOk, OnErr};
-ghost use Rattle.http_cache_storage.specs.Shelf.{KeepsAll, KeepsOthers, RemovesThese, IsSwept};
-ghost use Rattle.http_cache_storage.specs.Target.{text_of};
+//! The caching client: its store, its name in Cache-Status and its options.
+ghost use Rattle.std.specs.Prelude.{◌≡◌, ◌≢◌, ◌⊎◌, ℕ, List, true, map, string_bytes, IfOk, OnErr, IsErrOf};
+ghost use Rattle.http_cache_store.specs.Store.{KeepsAll, KeepsMost, KeepsAllOthers, LosesSome};
+ghost use Rattle.http_cache_store.specs.Store.{RemovesThese, removed_count, IsSwept};
+ghost use Rattle.http_cache_store.specs.Target.{text_of};
 ghost use Rattle.http_cache_plans.specs.Plan.{Stores, IsChangeOf};
-ghost use Rattle.http_cache_client.specs.Remove.{stored_count};
 
 use bytes::Bytes;
 use http_cache_plans::plan::{Change, Settled};
 use http_cache_plans::reply::Reply;
 use http_cache_policy::policy::CacheOptions;
-use http_cache_storage::{Shelf, ShelfError, Target};
+use http_cache_store::{Store, StoreError, Target};
 use jiff::Timestamp;
 use std::alloc::{AllocError, Global};
 
-/// A caching client over a shelf of stored responses (RFC 9111).
+/// A caching client over a store of stored responses (RFC 9111).
 ///
 /// It looks up only GET and HEAD without a body, and stores only their responses (RFC 9111,
 /// sections 2 to 4). It forwards every other request as it is. A response to an unsafe request can
@@ -24,18 +24,18 @@ use std::alloc::{AllocError, Global};
 pub struct Client<S: Drop> {
     pub(crate) name: String,
     pub(crate) options: CacheOptions,
-    pub(crate) shelf: S,
+    pub(crate) store: S,
 }
 
-impl<S: Shelf + Drop> Client<S> {
-    /// Returns a client over a shelf. `options.shared` says whether it serves several users.
-    pub fn new(shelf: S, options: CacheOptions, name: String) -> Client<S>
-        ensures { result.shelf ≡ shelf }
+impl<S: Store + Drop> Client<S> {
+    /// Returns a client over a store. `options.shared` says whether it serves several users.
+    pub fn new(store: S, options: CacheOptions, name: String) -> Client<S>
+        ensures { result.store ≡ store }
     {
         Client {
             name,
             options,
-            shelf,
+            store,
         }
     }
 
@@ -46,109 +46,69 @@ impl<S: Shelf + Drop> Client<S> {
         self.name.as_str()
     }
 
-    /// Returns the shelf.
-    pub fn shelf(&self) -> &S
-        ensures { result.now ≡ self.now.shelf }
+    /// Returns the store.
+    pub fn store(&self) -> &S
+        ensures { result.now ≡ self.now.store }
     {
-        &self.shelf
+        &self.store
     }
 
-    /// Returns the shelf, and drops the client.
-    pub fn into_shelf(self) -> S
-        ensures { result ≡ self.shelf }
+    /// Returns the store, and drops the client.
+    pub fn into_store(self) -> S
+        ensures { result ≡ self.store }
     {
-        let Client { shelf, .. } = self;
-        shelf
+        let Client { store, .. } = self;
+        store
     }
 
     /// Removes the stored responses that can't be used again at `now`, and returns their number.
     ///
     /// A response can't be used again if it varies by `*` (RFC 9111, section 4.1), or if it is
     /// stale and can neither be validated nor served stale (RFC 9111, section 4.2.4).
-    ///
-    /// # Errors
-    ///
-    /// The error of the shelf. Nothing is removed then.
-    pub fn sweep(&mut self, now: Timestamp) -> Result<usize, ShelfError>
-        ensures swept { OnOk result
-            (IsSwept now.nanosecond (S.stored self.old.shelf) (S.stored self.new.shelf)) }
-        ensures kept { OnErr result (KeepsAll (S.stored self.old.shelf) (S.next_id self.old.shelf)
-            (S.stored self.new.shelf) (S.next_id self.new.shelf)) }
-        ensures given_once { S.next_id self.new.shelf ≡ S.next_id self.old.shelf }
+    pub fn sweep(&mut self, now: Timestamp) -> usize
+        ensures swept { IsSwept now.nanosecond (S.lasting self.old.store) (S.stored self.new.store) }
+        ensures given_once { S.next_id self.new.store ≡ S.next_id self.old.store }
     {
-        self.shelf.sweep(now)
-    }
-
-    fn count(&mut self, alloc: Global, target: &Target) -> Result<usize, ShelfError>
-        ensures count { IfOk result (λ count. count ≡ length (S.stored self.old.shelf
-            (text_of target.now))) }
-        ensures kept { KeepsAll (S.stored self.old.shelf) (S.next_id self.old.shelf)
-            (S.stored self.new.shelf) (S.next_id self.new.shelf) }
-    {
-        self.shelf.look_up(alloc, target)?;
-        Ok(self.shelf.found(target).len())
-    }
-
-    fn count_all(&mut self, alloc: Global, targets: &[Target]) -> Result<usize, ShelfError>
-        ensures count { IfOk result (λ count. count
-            ≡ stored_count (S.stored self.old.shelf) (map text_of targets.now)) }
-        ensures kept { KeepsAll (S.stored self.old.shelf) (S.next_id self.old.shelf)
-            (S.stored self.new.shelf) (S.next_id self.new.shelf) }
-    {
-        let mut count = 0_usize;
-        for target in targets {
-            let more = self.count(alloc, target)?;
-            let Some(sum) = count.checked_add(more) else {
-                return Err(ShelfError::Memory);
-            };
-            count = sum;
-        }
-        Ok(count)
+        self.store.sweep(now)
     }
 
     /// Removes all stored responses of some targets in one step, as a purge does, and returns their
-    /// number. A target that is listed twice is counted twice.
-    ///
-    /// # Errors
-    ///
-    /// The error of the shelf, or `Memory` if the number is out of range. Nothing is removed then.
-    pub fn remove(&mut self, alloc: Global, targets: &[Target]) -> Result<usize, ShelfError>
-        ensures removed { OnOk result (RemovesThese (map text_of targets.now)
-            (S.stored self.old.shelf) (S.stored self.new.shelf)) }
-        ensures count { IfOk result (λ count. count
-            ≡ stored_count (S.stored self.old.shelf) (map text_of targets.now)) }
-        ensures kept { OnErr result (KeepsAll (S.stored self.old.shelf) (S.next_id self.old.shelf)
-            (S.stored self.new.shelf) (S.next_id self.new.shelf)) }
-        ensures given_once { S.next_id self.new.shelf ≡ S.next_id self.old.shelf }
+    /// number.
+    pub fn remove(&mut self, targets: &[Target]) -> usize
+        ensures removed { RemovesThese (map text_of targets.now)
+            (S.lasting self.old.store) (S.stored self.new.store) }
+        ensures count { result ≡ removed_count (S.lasting self.old.store) (map text_of targets.now) }
+        ensures given_once { S.next_id self.new.store ≡ S.next_id self.old.store }
     {
-        let count = self.count_all(alloc, targets)?;
-        self.shelf.remove_targets(targets)?;
-        Ok(count)
+        self.store.remove_targets(targets)
     }
 
-    // Reads what is stored for a target. Returns false if the shelf failed.
+    // Reads what is stored for a target. Returns false if the store failed.
     pub(crate) fn read(&mut self, alloc: Global, target: &Target) -> Result<bool, AllocError>
-        ensures kept { KeepsAll (S.stored self.old.shelf) (S.next_id self.old.shelf)
-            (S.stored self.new.shelf) (S.next_id self.new.shelf) }
+        ensures kept { KeepsAll (S.stored self.old.store) (S.next_id self.old.store)
+            (S.stored self.new.store) (S.next_id self.new.store) }
+        ensures lasting { S.lasting self.new.store ≡ S.lasting self.old.store }
         ensures read { IfOk result (λ is_read. is_read ≡ true
-            → S.is_read self.new.shelf (text_of target.now)) }
+            → S.is_read self.new.store (text_of target.now)) }
     {
-        match self.shelf.look_up(alloc, target) {
+        match self.store.look_up(alloc, target) {
             Ok(()) => Ok(true),
-            Err(ShelfError::Memory) => Err(AllocError),
-            Err(ShelfError::Failed) => Ok(false),
+            Err(StoreError::Memory) => Err(AllocError),
+            Err(StoreError::Failed) => Ok(false),
         }
     }
 
-    // Returns the body to send with a stored response, or None if the shelf has lost it.
+    // Returns the body to send with a stored response, or None if the store has lost it.
     pub(crate) fn body_of(
         &mut self,
         alloc: Global,
         target: &Target,
         reply: &mut Reply,
     ) -> Result<Option<Bytes>, AllocError>
-        ensures kept { KeepsAll (S.stored self.old.shelf) (S.next_id self.old.shelf)
-            (S.stored self.new.shelf) (S.next_id self.new.shelf) }
+        ensures kept { KeepsAll (S.stored self.old.store) (S.next_id self.old.store)
+            (S.stored self.new.store) (S.next_id self.new.store) }
+        ensures lasting { KeepsAllOthers (S.lasting self.old.store) (S.lasting self.new.store)
+            (text_of target.now) }
         ensures head { reply.new.head ≡ reply.old.head }
     {
         if !reply.needs_body {
@@ -157,23 +117,28 @@ impl<S: Shelf + Drop> Client<S> {
         if let Some(body) = reply.body.take() {
             return Ok(Some(body));
         }
-        match self.shelf.body(alloc, target, reply.id) {
+        match self.store.body(alloc, target, reply.id) {
             Ok(body) => Ok(body),
-            Err(ShelfError::Memory) => Err(AllocError),
-            Err(ShelfError::Failed) => Ok(None),
+            Err(StoreError::Memory) => Err(AllocError),
+            Err(StoreError::Failed) => Ok(None),
         }
     }
 
-    // Makes a change in one call of the shelf.
-    fn make(&mut self, change: Change) -> Result<Settled, ShelfError>
-        ensures kept { OnErr result (KeepsAll (S.stored self.old.shelf) (S.next_id self.old.shelf)
-            (S.stored self.new.shelf) (S.next_id self.new.shelf)) }
-        ensures stored { Stores change ⊎ (S.next_id self.new.shelf ≡ S.next_id self.old.shelf) }
+    // Makes a change in one call of the store.
+    fn make(&mut self, change: Change) -> Result<Settled, StoreError>
+        ensures kept { IsErrOf result StoreError.Memory
+            → KeepsAll (S.stored self.old.store) (S.next_id self.old.store)
+            (S.stored self.new.store) (S.next_id self.new.store) }
+        ensures failed { IsErrOf result StoreError.Failed → (own : List ℕ) → IsChangeOf own change
+            → LosesSome own (S.lasting self.old.store) (S.stored self.new.store) }
+        ensures settled { IfOk result (λ settled. settled ≢ Settled.Failed) }
+        ensures stored { Stores change ⊎ (S.next_id self.new.store ≡ S.next_id self.old.store) }
         ensures others { (own : List ℕ) → IsChangeOf own change
-            → KeepsOthers (S.stored self.old.shelf) (S.stored self.new.shelf) own }
+            → KeepsMost (S.stored self.old.store) (S.lasting self.old.store)
+            (S.stored self.new.store) own }
         ensures unchanged { change ≡ Change.Nothing
-            → KeepsAll (S.stored self.old.shelf) (S.next_id self.old.shelf)
-            (S.stored self.new.shelf) (S.next_id self.new.shelf) }
+            → KeepsAll (S.stored self.old.store) (S.next_id self.old.store)
+            (S.stored self.new.store) (S.next_id self.new.store) }
     {
         match change {
             Change::Nothing => Ok(Settled::NotStored),
@@ -184,7 +149,7 @@ impl<S: Shelf + Drop> Client<S> {
                 body,
             } => {
                 let id = self
-                    .shelf
+                    .store
                     .put(&target, superseded.as_slice(), policy, body)?;
                 Ok(if id.is_some() {
                     Settled::Stored
@@ -199,7 +164,7 @@ impl<S: Shelf + Drop> Client<S> {
                 policy,
             } => {
                 let is_there = self
-                    .shelf
+                    .store
                     .renew(&target, superseded.as_slice(), id, policy)?;
                 Ok(if is_there {
                     Settled::Stored
@@ -208,31 +173,35 @@ impl<S: Shelf + Drop> Client<S> {
                 })
             }
             Change::Remove { target, ids } => {
-                self.shelf.remove(&target, ids.as_slice())?;
+                self.store.remove(&target, ids.as_slice());
                 Ok(Settled::NotStored)
             }
             Change::RemoveTargets(targets) => {
-                self.shelf.remove_targets(targets.as_slice())?;
+                self.store.remove_targets(targets.as_slice());
                 Ok(Settled::NotStored)
             }
         }
     }
 
-    // Makes a change as the last step of a call. A shelf that failed keeps what it had.
+    // Makes a change as the last step of a call. A store that failed stores nothing new.
     pub(crate) fn commit(&mut self, change: Change) -> Result<Settled, AllocError>
-        ensures kept { OnErr result (KeepsAll (S.stored self.old.shelf) (S.next_id self.old.shelf)
-            (S.stored self.new.shelf) (S.next_id self.new.shelf)) }
-        ensures stored { Stores change ⊎ (S.next_id self.new.shelf ≡ S.next_id self.old.shelf) }
+        ensures kept { OnErr result (KeepsAll (S.stored self.old.store) (S.next_id self.old.store)
+            (S.stored self.new.store) (S.next_id self.new.store)) }
+        ensures failed { IfOk result (λ settled. settled ≡ Settled.Failed
+            → (own : List ℕ) → IsChangeOf own change
+            → LosesSome own (S.lasting self.old.store) (S.stored self.new.store)) }
+        ensures stored { Stores change ⊎ (S.next_id self.new.store ≡ S.next_id self.old.store) }
         ensures others { (own : List ℕ) → IsChangeOf own change
-            → KeepsOthers (S.stored self.old.shelf) (S.stored self.new.shelf) own }
+            → KeepsMost (S.stored self.old.store) (S.lasting self.old.store)
+            (S.stored self.new.store) own }
         ensures unchanged { change ≡ Change.Nothing
-            → KeepsAll (S.stored self.old.shelf) (S.next_id self.old.shelf)
-            (S.stored self.new.shelf) (S.next_id self.new.shelf) }
+            → KeepsAll (S.stored self.old.store) (S.next_id self.old.store)
+            (S.stored self.new.store) (S.next_id self.new.store) }
     {
         match self.make(change) {
             Ok(settled) => Ok(settled),
-            Err(ShelfError::Memory) => Err(AllocError),
-            Err(ShelfError::Failed) => Ok(Settled::Failed),
+            Err(StoreError::Memory) => Err(AllocError),
+            Err(StoreError::Failed) => Ok(Settled::Failed),
         }
     }
 }

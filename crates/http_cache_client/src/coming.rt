@@ -1,7 +1,7 @@
 //! Answers by a response whose body is on its way, before anything is stored.
 ghost use Rattle.std.specs.Prelude.{◌≡◌, ◌⊎◌, true, IfOk, IfSome};
 ghost use Rattle.http.specs.Response.{head_of, body_of};
-ghost use Rattle.http_cache_storage.specs.Shelf.{KeepsAll};
+ghost use Rattle.http_cache_store.specs.Store.{KeepsAll};
 ghost use Rattle.http_cache_plans.specs.Plan.{IsElsewhere, HasCondition};
 
 use crate::client::Client;
@@ -18,7 +18,7 @@ use http_cache_plans::renewal::of_id;
 use http_cache_plans::report::forwarded;
 use http_cache_plans::{Body, Times};
 use http_cache_policy::explain::{Member, TimeLeft};
-use http_cache_storage::{Shelf, Target};
+use http_cache_store::{Store, Target};
 use jiff::Timestamp;
 use std::alloc::{AllocError, Global};
 
@@ -32,7 +32,7 @@ fn copy_of(head: &response::Parts) -> Result<response::Parts, AllocError>
     })
 }
 
-impl<S: Shelf + Drop> Client<S> {
+impl<S: Store + Drop> Client<S> {
     // Returns whether a stale response may be used if the origin server fails.
     fn has_replacement(
         &mut self,
@@ -42,8 +42,9 @@ impl<S: Shelf + Drop> Client<S> {
         incoming: &Incoming<'_>,
         now: Timestamp,
     ) -> Result<bool, AllocError>
-        ensures kept { KeepsAll (S.stored self.old.shelf) (S.next_id self.old.shelf)
-            (S.stored self.new.shelf) (S.next_id self.new.shelf) }
+        ensures kept { KeepsAll (S.stored self.old.store) (S.next_id self.old.store)
+            (S.stored self.new.store) (S.next_id self.new.store) }
+        ensures lasting { S.lasting self.new.store ≡ S.lasting self.old.store }
     {
         let Some(id) = pending.id else {
             return Ok(false);
@@ -51,7 +52,7 @@ impl<S: Shelf + Drop> Client<S> {
         if !self.read(alloc, target)? {
             return Ok(false);
         }
-        Ok(match of_id(self.shelf.found(target), id) {
+        Ok(match of_id(self.store.found(target), id) {
             Some(one) => is_usable_on_error(one, incoming, now),
             None => false,
         })
@@ -94,14 +95,15 @@ impl<S: Shelf + Drop> Client<S> {
         length: Option<u64>,
         times: &Times,
     ) -> Result<Option<Coming>, AllocError>
-        ensures kept { KeepsAll (S.stored self.old.shelf) (S.next_id self.old.shelf)
-            (S.stored self.new.shelf) (S.next_id self.new.shelf) }
+        ensures kept { KeepsAll (S.stored self.old.store) (S.next_id self.old.store)
+            (S.stored self.new.store) (S.next_id self.new.store) }
+        ensures lasting { S.lasting self.new.store ≡ S.lasting self.old.store }
         ensures conditional { IfOk result (λ coming. IfSome coming (λ c.
             (head_of c.answer).status ≡ 304 → HasCondition request.now)) }
     {
         let status = head.status;
         let is_kept = status.is_server_error() && pending.id.is_some();
-        if pending.is_past_shelf
+        if pending.is_past_store
             || is_kept
             || status == StatusCode::NOT_MODIFIED
             || !is_looked_up(request)
@@ -150,8 +152,9 @@ impl<S: Shelf + Drop> Client<S> {
         length: Option<u64>,
         times: &Times,
     ) -> Result<Option<Coming>, AllocError>
-        ensures kept { KeepsAll (S.stored self.old.shelf) (S.next_id self.old.shelf)
-            (S.stored self.new.shelf) (S.next_id self.new.shelf) }
+        ensures kept { KeepsAll (S.stored self.old.store) (S.next_id self.old.store)
+            (S.stored self.new.store) (S.next_id self.new.store) }
+        ensures lasting { S.lasting self.new.store ≡ S.lasting self.old.store }
         ensures conditional { IfOk result (λ coming. IfSome coming (λ c.
             (head_of c.answer).status ≡ 304 → HasCondition request.now)) }
     {
@@ -173,8 +176,9 @@ impl<S: Shelf + Drop> Client<S> {
         length: Option<u64>,
         times: &Times,
     ) -> Result<Option<Coming>, AllocError>
-        ensures kept { KeepsAll (S.stored self.old.shelf) (S.next_id self.old.shelf)
-            (S.stored self.new.shelf) (S.next_id self.new.shelf) }
+        ensures kept { KeepsAll (S.stored self.old.store) (S.next_id self.old.store)
+            (S.stored self.new.store) (S.next_id self.new.store) }
+        ensures lasting { S.lasting self.new.store ≡ S.lasting self.old.store }
         ensures conditional { IfOk result (λ coming. IfSome coming (λ c.
             (head_of c.answer).status ≡ 304 → HasCondition request.now)) }
     {

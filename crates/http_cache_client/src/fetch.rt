@@ -2,7 +2,7 @@
 ghost use Rattle.std.specs.Prelude.{◌≡◌, ◌⊎◌, true, false, Some, None, IsSome, IfOk, IfErr, OnOk, OnErr};
 ghost use Rattle.http.specs.Response.{head_of, body_of};
 ghost use Rattle.http_cache_messages.specs.Asking.{is_looked_up};
-ghost use Rattle.http_cache_storage.specs.Shelf.{KeepsAll, KeepsOthers};
+ghost use Rattle.http_cache_store.specs.Store.{KeepsAll, KeepsMost};
 ghost use Rattle.http_cache_client.specs.Receive.{own_text};
 ghost use Rattle.http_cache_client.specs.Ask.{fields_of, IsOfStore, IsCleanValidation, IsCleanDecision};
 ghost use Rattle.http_cache_client.specs.Ask.{IsConditionalDecision, IsAnswer, IsOnlyIfCached};
@@ -19,7 +19,7 @@ use http_cache_fields::reading::says;
 use http_cache_messages::asking::is_looked_up;
 use http_cache_plans::{Body, Times, Why};
 use http_cache_policy::explain::Forward;
-use http_cache_storage::Shelf;
+use http_cache_store::Store;
 use jiff::Timestamp;
 use std::alloc::{AllocError, Global};
 
@@ -42,7 +42,7 @@ fn with_body(response: Response<Bytes>) -> Response<Body>
     Response::from_parts(head, Body::Here(bytes))
 }
 
-// Returns a token for a request that bypasses the shelf.
+// Returns a token for a request that bypasses the store.
 fn bypass(alloc: Global, detail: &str) -> Result<Forwarded, AllocError> {
     let why = Why {
         forward: Forward::Bypass,
@@ -67,7 +67,7 @@ fn send_validation<O: Origin>(
     origin.send(&asking)
 }
 
-impl<S: Shelf + Drop> Client<S> {
+impl<S: Store + Drop> Client<S> {
     // Handles a request that got no response from the origin (RFC 5861, section 4).
     fn unanswered<E: Drop>(
         &mut self,
@@ -77,8 +77,8 @@ impl<S: Shelf + Drop> Client<S> {
         cause: E,
         now: Timestamp,
     ) -> Result<Response<Bytes>, FetchError<E>>
-        ensures kept { KeepsAll (S.stored self.old.shelf) (S.next_id self.old.shelf)
-            (S.stored self.new.shelf) (S.next_id self.new.shelf) }
+        ensures kept { KeepsAll (S.stored self.old.store) (S.next_id self.old.store)
+            (S.stored self.new.store) (S.next_id self.new.store) }
         ensures conditional { IfOk result (λ answer. (head_of answer).status ≡ 304
             → HasCondition request.now) }
         ensures lost { IfErr result (IsUnsent ⊥) }
@@ -108,10 +108,10 @@ impl<S: Shelf + Drop> Client<S> {
         ensures lost { IfErr result (IsUnsent ⊥) }
         ensures conditional { IfOk result (λ answer. (head_of answer).status ≡ 304
             → HasCondition request.now ⊎ HasSentFor304 O.sent origin.old origin.new request.now) }
-        ensures others { KeepsOthers (S.stored self.old.shelf) (S.stored self.new.shelf)
-            (own_text request.now) }
-        ensures kept { OnErr result (KeepsAll (S.stored self.old.shelf) (S.next_id self.old.shelf)
-            (S.stored self.new.shelf) (S.next_id self.new.shelf)) }
+        ensures others { KeepsMost (S.stored self.old.store) (S.lasting self.old.store)
+            (S.stored self.new.store) (own_text request.now) }
+        ensures kept { OnErr result (KeepsAll (S.stored self.old.store) (S.next_id self.old.store)
+            (S.stored self.new.store) (S.next_id self.new.store)) }
     {
         match origin.send(request) {
             Ok((response, received)) => {
@@ -146,10 +146,10 @@ impl<S: Shelf + Drop> Client<S> {
         ensures lost { IfErr result (IsUnsent ⊥) }
         ensures conditional { IfOk result (λ answer. (head_of answer).status ≡ 304
             → HasCondition request.now ⊎ HasSentFor304 O.sent origin.old origin.new request.now) }
-        ensures others { KeepsOthers (S.stored self.old.shelf) (S.stored self.new.shelf)
-            (own_text request.now) }
-        ensures kept { OnErr result (KeepsAll (S.stored self.old.shelf) (S.next_id self.old.shelf)
-            (S.stored self.new.shelf) (S.next_id self.new.shelf)
+        ensures others { KeepsMost (S.stored self.old.store) (S.lasting self.old.store)
+            (S.stored self.new.store) (own_text request.now) }
+        ensures kept { OnErr result (KeepsAll (S.stored self.old.store) (S.next_id self.old.store)
+            (S.stored self.new.store) (S.next_id self.new.store)
             ⊎ ((outcome : Outcome)
             × HasSentBoth O.sent origin.old origin.new request.now outcome)) }
     {
@@ -192,10 +192,10 @@ impl<S: Shelf + Drop> Client<S> {
         ensures conditional { IsConditionalDecision (fields_of request.now) decision
             → IfOk result (λ answer. (head_of answer).status ≡ 304
             → HasCondition request.now ⊎ HasSentFor304 O.sent origin.old origin.new request.now) }
-        ensures others { KeepsOthers (S.stored self.old.shelf) (S.stored self.new.shelf)
-            (own_text request.now) }
-        ensures kept { OnErr result (KeepsAll (S.stored self.old.shelf) (S.next_id self.old.shelf)
-            (S.stored self.new.shelf) (S.next_id self.new.shelf)
+        ensures others { KeepsMost (S.stored self.old.store) (S.lasting self.old.store)
+            (S.stored self.new.store) (own_text request.now) }
+        ensures kept { OnErr result (KeepsAll (S.stored self.old.store) (S.next_id self.old.store)
+            (S.stored self.new.store) (S.next_id self.new.store)
             ⊎ ((outcome : Outcome)
             × HasSentBoth O.sent origin.old origin.new request.now outcome)) }
     {
@@ -207,7 +207,7 @@ impl<S: Shelf + Drop> Client<S> {
         }
     }
 
-    /// Returns the response to a request that was received at `now`: from the shelf if a stored
+    /// Returns the response to a request that was received at `now`: from the store if a stored
     /// response may be used, else from the origin (RFC 9111, section 4).
     ///
     /// At most one request is sent, or two if the first is a validation that ends in a 304 which
@@ -240,10 +240,10 @@ impl<S: Shelf + Drop> Client<S> {
             → IsOnlyIfCached (fields_of request.now) → origin.new ≡ origin.old }
         ensures conditional { IfOk result (λ answer. (head_of answer).status ≡ 304
             → HasCondition request.now ⊎ HasSentFor304 O.sent origin.old origin.new request.now) }
-        ensures others { KeepsOthers (S.stored self.old.shelf) (S.stored self.new.shelf)
-            (own_text request.now) }
-        ensures kept { OnErr result (KeepsAll (S.stored self.old.shelf) (S.next_id self.old.shelf)
-            (S.stored self.new.shelf) (S.next_id self.new.shelf)
+        ensures others { KeepsMost (S.stored self.old.store) (S.lasting self.old.store)
+            (S.stored self.new.store) (own_text request.now) }
+        ensures kept { OnErr result (KeepsAll (S.stored self.old.store) (S.next_id self.old.store)
+            (S.stored self.new.store) (S.next_id self.new.store)
             ⊎ ((outcome : Outcome)
             × HasSentBoth O.sent origin.old origin.new request.now outcome)) }
     {
@@ -283,11 +283,11 @@ impl<S: Shelf + Drop> Client<S> {
         ensures no_response { IfErr result
             (HasNoResponse (HasSentOwn O.sent origin.old origin.new request.now None)) }
         ensures lost { IfErr result (IsUnsent ⊥) }
-        ensures others { KeepsOthers (S.stored self.old.shelf) (S.stored self.new.shelf)
-            (own_text request.now) }
-        ensures stored { S.next_id self.new.shelf ≡ S.next_id self.old.shelf }
-        ensures kept { OnErr result (KeepsAll (S.stored self.old.shelf) (S.next_id self.old.shelf)
-            (S.stored self.new.shelf) (S.next_id self.new.shelf)) }
+        ensures others { KeepsMost (S.stored self.old.store) (S.lasting self.old.store)
+            (S.stored self.new.store) (own_text request.now) }
+        ensures stored { S.next_id self.new.store ≡ S.next_id self.old.store }
+        ensures kept { OnErr result (KeepsAll (S.stored self.old.store) (S.next_id self.old.store)
+            (S.stored self.new.store) (S.next_id self.new.store)) }
     {
         match origin.send(request) {
             Ok((response, received)) => {
@@ -300,7 +300,7 @@ impl<S: Shelf + Drop> Client<S> {
         }
     }
 
-    /// Returns the origin's response to a request that bypasses the shelf, for instance if the time
+    /// Returns the origin's response to a request that bypasses the store, for instance if the time
     /// is unknown. Nothing is stored. Cache-Status has `fwd=bypass` with the detail (RFC 9211,
     /// section 2.2).
     ///
@@ -327,11 +327,11 @@ impl<S: Shelf + Drop> Client<S> {
         ensures unsent { IfErr result (IsUnsent (origin.new ≡ origin.old)) }
         ensures only_if_cached { is_looked_up request.now ≡ true
             → IsOnlyIfCached (fields_of request.now) → origin.new ≡ origin.old }
-        ensures others { KeepsOthers (S.stored self.old.shelf) (S.stored self.new.shelf)
-            (own_text request.now) }
-        ensures stored { S.next_id self.new.shelf ≡ S.next_id self.old.shelf }
-        ensures kept { OnErr result (KeepsAll (S.stored self.old.shelf) (S.next_id self.old.shelf)
-            (S.stored self.new.shelf) (S.next_id self.new.shelf)) }
+        ensures others { KeepsMost (S.stored self.old.store) (S.lasting self.old.store)
+            (S.stored self.new.store) (own_text request.now) }
+        ensures stored { S.next_id self.new.store ≡ S.next_id self.old.store }
+        ensures kept { OnErr result (KeepsAll (S.stored self.old.store) (S.next_id self.old.store)
+            (S.stored self.new.store) (S.next_id self.new.store)) }
     {
         match self.unasked(alloc, request) {
             Ok(None) => {}

@@ -1,4 +1,4 @@
-//! A caching client over a shelf of stored responses (RFC 9110, 9111, 5861 and 9211).
+//! A caching client over a store of stored responses (RFC 9110, 9111, 5861 and 9211).
 #![tactic(auto)]
 
 mod ask;

@@ -2,13 +2,14 @@
 //! answers.
 ghost use Rattle.std.specs.Prelude.{◌≡◌, ◌≢◌, ◌⊎◌, ℕ, List, true, false, None, IfOk, IfSome, OnErr};
 ghost use Rattle.http.specs.Response.{head_of, body_of};
-ghost use Rattle.http_cache_storage.specs.Shelf.{KeepsAll, KeepsOthers};
-ghost use Rattle.http_cache_storage.specs.Target.{text_of};
+ghost use Rattle.http_cache_store.specs.Store.{KeepsAll, KeepsMost, KeepsAllOthers};
+ghost use Rattle.http_cache_store.specs.Target.{text_of};
 ghost use Rattle.http_cache_plans.specs.Plan.{Stores, IsChangeOf, IsElsewhere, IsWhole, IsKnownPlan};
 ghost use Rattle.http_cache_plans.specs.Plan.{HasCondition, is_failure};
 ghost use Rattle.http_cache_client.specs.Receive.{IsWholeResponse, MayBeStored, IsConditionalReceipt};
 ghost use Rattle.http_cache_client.specs.Receive.{own_text, KeepsBodyLocation};
-ghost use Rattle.http_cache_client.specs.Receive.{HasBodyHere, IsAfterA304};
+ghost use Rattle.http_cache_client.specs.Receive.{HasBodyHere, IsAfterA304, IsAgain};
+ghost use Rattle.http_cache_client.specs.Keep.{KeepsLasting};
 
 use crate::client::Client;
 use crate::tokens::{Forwarded, Received, Validation};
@@ -24,7 +25,7 @@ use http_cache_plans::renewal::{Renewal, renewal_of};
 use http_cache_plans::report::{answer_of, forwarded, replace_cache_status};
 use http_cache_plans::{Body, Times, Why};
 use http_cache_policy::explain::{Forward, Member};
-use http_cache_storage::{ResponseId, Shelf, Target};
+use http_cache_store::{ResponseId, Store, Target};
 use jiff::Timestamp;
 use std::alloc::{AllocError, Global};
 use std::mem;
@@ -42,19 +43,19 @@ struct Receipt<'a> {
 pub(crate) struct Pending<'a> {
     pub(crate) id: Option<ResponseId>,
     pub(crate) why: &'a Why,
-    pub(crate) is_past_shelf: bool,
+    pub(crate) is_past_store: bool,
     pub(crate) is_own: bool,
 }
 
 impl Forwarded {
     pub(crate) fn pending(&self) -> Pending<'_>
         ensures id { result.id ≡ self.now.id }
-        ensures unstored { result.is_past_shelf ≡ self.now.is_past_shelf }
+        ensures unstored { result.is_past_store ≡ self.now.is_past_store }
     {
         Pending {
             id: self.id,
             why: &self.why,
-            is_past_shelf: self.is_past_shelf,
+            is_past_store: self.is_past_store,
             is_own: true,
         }
     }
@@ -63,18 +64,18 @@ impl Forwarded {
 impl Validation {
     pub(crate) fn pending(&self) -> Pending<'_>
         ensures id { result.id ≡ self.now.id }
-        ensures unstored { result.is_past_shelf ≡ self.now.is_past_shelf }
+        ensures unstored { result.is_past_store ≡ self.now.is_past_store }
     {
         Pending {
             id: self.id,
             why: &self.why,
-            is_past_shelf: self.is_past_shelf,
+            is_past_store: self.is_past_store,
             is_own: false,
         }
     }
 }
 
-impl<S: Shelf + Drop> Client<S> {
+impl<S: Store + Drop> Client<S> {
     // Makes the change of the plan as the last step, and returns the answer with its Cache-Status.
     fn settle(
         &mut self,
@@ -82,14 +83,15 @@ impl<S: Shelf + Drop> Client<S> {
         cache_statuses: CacheStatuses,
         plan: Plan,
     ) -> Result<Response<Body>, AllocError>
-        ensures kept { OnErr result (KeepsAll (S.stored self.old.shelf) (S.next_id self.old.shelf)
-            (S.stored self.new.shelf) (S.next_id self.new.shelf)) }
-        ensures stored { Stores plan.change ⊎ (S.next_id self.new.shelf ≡ S.next_id self.old.shelf) }
+        ensures kept { OnErr result (KeepsAll (S.stored self.old.store) (S.next_id self.old.store)
+            (S.stored self.new.store) (S.next_id self.new.store)) }
+        ensures stored { Stores plan.change ⊎ (S.next_id self.new.store ≡ S.next_id self.old.store) }
         ensures others { (own : List ℕ) → IsChangeOf own plan.change
-            → KeepsOthers (S.stored self.old.shelf) (S.stored self.new.shelf) own }
+            → KeepsMost (S.stored self.old.store) (S.lasting self.old.store)
+            (S.stored self.new.store) own }
         ensures unchanged { plan.change ≡ Change.Nothing
-            → KeepsAll (S.stored self.old.shelf) (S.next_id self.old.shelf)
-            (S.stored self.new.shelf) (S.next_id self.new.shelf) }
+            → KeepsAll (S.stored self.old.store) (S.next_id self.old.store)
+            (S.stored self.new.store) (S.next_id self.new.store) }
         ensures status { IfOk result (λ sent. (head_of sent).status ≡ (head_of answer).status) }
         ensures body { IfOk result (λ sent. body_of sent ≡ body_of answer) }
     {
@@ -114,14 +116,15 @@ impl<S: Shelf + Drop> Client<S> {
         receipt: &Receipt<'_>,
         plan: Plan,
     ) -> Result<Response<Body>, AllocError>
-        ensures kept { OnErr result (KeepsAll (S.stored self.old.shelf) (S.next_id self.old.shelf)
-            (S.stored self.new.shelf) (S.next_id self.new.shelf)) }
-        ensures stored { Stores plan.change ⊎ (S.next_id self.new.shelf ≡ S.next_id self.old.shelf) }
+        ensures kept { OnErr result (KeepsAll (S.stored self.old.store) (S.next_id self.old.store)
+            (S.stored self.new.store) (S.next_id self.new.store)) }
+        ensures stored { Stores plan.change ⊎ (S.next_id self.new.store ≡ S.next_id self.old.store) }
         ensures others { (own : List ℕ) → IsChangeOf own plan.change
-            → KeepsOthers (S.stored self.old.shelf) (S.stored self.new.shelf) own }
+            → KeepsMost (S.stored self.old.store) (S.lasting self.old.store)
+            (S.stored self.new.store) own }
         ensures unchanged { plan.change ≡ Change.Nothing
-            → KeepsAll (S.stored self.old.shelf) (S.next_id self.old.shelf)
-            (S.stored self.new.shelf) (S.next_id self.new.shelf) }
+            → KeepsAll (S.stored self.old.store) (S.next_id self.old.store)
+            (S.stored self.new.store) (S.next_id self.new.store) }
         ensures status { IfOk result (λ sent. (head_of sent).status ≡ 304
             → (plan.is_known ≡ true) ⊎ ((head_of response).status ≡ 304)) }
         ensures body { IfOk result (λ sent. IsElsewhere (body_of sent) → IsElsewhere (body_of response)) }
@@ -151,8 +154,10 @@ impl<S: Shelf + Drop> Client<S> {
         status: Option<StatusCode>,
         now: Timestamp,
     ) -> Result<Option<Response<Bytes>>, AllocError>
-        ensures kept { KeepsAll (S.stored self.old.shelf) (S.next_id self.old.shelf)
-            (S.stored self.new.shelf) (S.next_id self.new.shelf) }
+        ensures kept { KeepsAll (S.stored self.old.store) (S.next_id self.old.store)
+            (S.stored self.new.store) (S.next_id self.new.store) }
+        ensures lasting { KeepsAllOthers (S.lasting self.old.store) (S.lasting self.new.store)
+            (text_of target.now) }
         ensures conditional { IfOk result (λ answer. IfSome answer (λ sent. (head_of sent).status ≡ 304
             → HasCondition incoming.now.request.now)) }
     {
@@ -162,7 +167,7 @@ impl<S: Shelf + Drop> Client<S> {
         if !self.read(alloc, target)? {
             return Ok(None);
         }
-        let stored = self.shelf.found(target);
+        let stored = self.store.found(target);
         let Some(mut reply) = stale_reply(alloc, stored, id, incoming, now)? else {
             return Ok(None);
         };
@@ -184,16 +189,17 @@ impl<S: Shelf + Drop> Client<S> {
         target: Target,
         arrived: &Arrived<'_>,
     ) -> Result<Plan, AllocError>
-        ensures kept { KeepsAll (S.stored self.old.shelf) (S.next_id self.old.shelf)
-            (S.stored self.new.shelf) (S.next_id self.new.shelf) }
+        ensures kept { KeepsAll (S.stored self.old.store) (S.next_id self.old.store)
+            (S.stored self.new.store) (S.next_id self.new.store) }
+        ensures lasting { S.lasting self.new.store ≡ S.lasting self.old.store }
         ensures whole { IfOk result (λ plan. Stores plan.change → IsWhole arrived.now) }
         ensures known { IfOk result (IsKnownPlan arrived.now) }
         ensures target { IfOk result (λ plan. IsChangeOf (text_of target) plan.change) }
     {
         if !self.read(alloc, &target)? {
-            return Ok(Plan::nothing(Some("shelf failed")));
+            return Ok(Plan::nothing(Some("store failed")));
         }
-        let stored = self.shelf.found(&target);
+        let stored = self.store.found(&target);
         if let Some(change) = freshened(alloc, &target, stored, arrived, &self.options)? {
             return Ok(Plan::of(change));
         }
@@ -210,12 +216,12 @@ impl<S: Shelf + Drop> Client<S> {
         response: Response<Body>,
         times: &Times,
     ) -> Result<Response<Body>, AllocError>
-        ensures kept { OnErr result (KeepsAll (S.stored self.old.shelf) (S.next_id self.old.shelf)
-            (S.stored self.new.shelf) (S.next_id self.new.shelf)) }
-        ensures others { KeepsOthers (S.stored self.old.shelf) (S.stored self.new.shelf)
-            (text_of target) }
+        ensures kept { OnErr result (KeepsAll (S.stored self.old.store) (S.next_id self.old.store)
+            (S.stored self.new.store) (S.next_id self.new.store)) }
+        ensures others { KeepsMost (S.stored self.old.store) (S.lasting self.old.store)
+            (S.stored self.new.store) (text_of target) }
         ensures complete { IsWholeResponse incoming.now.request.now response
-            ⊎ (S.next_id self.new.shelf ≡ S.next_id self.old.shelf) }
+            ⊎ (S.next_id self.new.store ≡ S.next_id self.old.store) }
         ensures status { IfOk result (λ sent. (head_of sent).status ≡ 304
             → HasCondition incoming.now.request.now
             ⊎ ((head_of response).status ≡ 304)) }
@@ -252,17 +258,17 @@ impl<S: Shelf + Drop> Client<S> {
         response: Response<Body>,
         times: &Times,
     ) -> Result<Response<Body>, AllocError>
-        ensures kept { OnErr result (KeepsAll (S.stored self.old.shelf) (S.next_id self.old.shelf)
-            (S.stored self.new.shelf) (S.next_id self.new.shelf)) }
-        ensures others { KeepsOthers (S.stored self.old.shelf) (S.stored self.new.shelf)
-            (own_text incoming.now.request.now) }
+        ensures kept { OnErr result (KeepsAll (S.stored self.old.store) (S.next_id self.old.store)
+            (S.stored self.new.store) (S.next_id self.new.store)) }
+        ensures others { KeepsMost (S.stored self.old.store) (S.lasting self.old.store)
+            (S.stored self.new.store) (own_text incoming.now.request.now) }
         ensures complete { IsWholeResponse incoming.now.request.now response
-            ⊎ (S.next_id self.new.shelf ≡ S.next_id self.old.shelf) }
-        ensures unstored { pending.now.is_past_shelf ≡ true
-            → S.next_id self.new.shelf ≡ S.next_id self.old.shelf }
+            ⊎ (S.next_id self.new.store ≡ S.next_id self.old.store) }
+        ensures unstored { pending.now.is_past_store ≡ true
+            → S.next_id self.new.store ≡ S.next_id self.old.store }
         ensures failure { is_failure (head_of response).status ≡ true → pending.now.id ≢ None
-            → KeepsAll (S.stored self.old.shelf) (S.next_id self.old.shelf)
-            (S.stored self.new.shelf) (S.next_id self.new.shelf) }
+            → KeepsAll (S.stored self.old.store) (S.next_id self.old.store)
+            (S.stored self.new.store) (S.next_id self.new.store) }
         ensures status { IfOk result (λ sent. (head_of sent).status ≡ 304
             → HasCondition incoming.now.request.now
             ⊎ ((head_of response).status ≡ 304)) }
@@ -285,7 +291,7 @@ impl<S: Shelf + Drop> Client<S> {
             return Ok(Response::from_parts(head, Body::Here(body)));
         }
         let is_kept = status.is_server_error() && pending.id.is_some();
-        if pending.is_past_shelf || is_kept {
+        if pending.is_past_store || is_kept {
             let receipt = Receipt {
                 why: pending.why,
                 status,
@@ -297,30 +303,22 @@ impl<S: Shelf + Drop> Client<S> {
     }
 
     // Removes a stored response that a 304 didn't confirm.
-    fn unconfirmed(
-        &mut self,
-        alloc: Global,
-        target: Target,
-        validation: &mut Validation,
-    ) -> Result<Forwarded, AllocError>
-        ensures kept { OnErr result (KeepsAll (S.stored self.old.shelf) (S.next_id self.old.shelf)
-            (S.stored self.new.shelf) (S.next_id self.new.shelf)) }
-        ensures others { KeepsOthers (S.stored self.old.shelf) (S.stored self.new.shelf)
-            (text_of target) }
-        ensures stored { S.next_id self.new.shelf ≡ S.next_id self.old.shelf }
-        ensures unspent { OnErr result (validation.new.id ≡ validation.old.id) }
+    fn unconfirmed(&mut self, target: &Target, validation: &mut Validation) -> Forwarded
+        ensures lasting { KeepsLasting (S.stored self.old.store) (S.lasting self.old.store)
+            (S.stored self.new.store) (S.lasting self.new.store) (text_of target.now) }
+        ensures stored { S.next_id self.new.store ≡ S.next_id self.old.store }
     {
         if let Some(id) = validation.id {
-            let ids = vec![in alloc; id]?;
-            self.commit(Change::Remove { target, ids })?;
+            let ids = [id];
+            self.store.remove(target, &ids);
         }
         validation.id = None;
         let why = mem::replace(&mut validation.why, Why::of(Forward::Miss));
-        Ok(Forwarded::of(None, why))
+        Forwarded::of(None, why)
     }
 
     // Answers with a stored response that a 304 confirmed (RFC 9111, section 4.3.4). Returns None
-    // if the shelf has lost its body.
+    // if the store has lost its body.
     fn confirmed(
         &mut self,
         alloc: Global,
@@ -331,14 +329,17 @@ impl<S: Shelf + Drop> Client<S> {
         requires stored { ¬ (Stores renewal.plan.change) }
         requires known { renewal.plan.is_known ≡ false }
         requires target { IsChangeOf (text_of target.now) renewal.plan.change }
-        ensures kept { OnErr result (KeepsAll (S.stored self.old.shelf) (S.next_id self.old.shelf)
-            (S.stored self.new.shelf) (S.next_id self.new.shelf)) }
+        ensures kept { OnErr result (KeepsAll (S.stored self.old.store) (S.next_id self.old.store)
+            (S.stored self.new.store) (S.next_id self.new.store)) }
         ensures lost { IfOk result (λ answer. answer ≡ None
-            → KeepsAll (S.stored self.old.shelf) (S.next_id self.old.shelf)
-            (S.stored self.new.shelf) (S.next_id self.new.shelf)) }
-        ensures others { KeepsOthers (S.stored self.old.shelf) (S.stored self.new.shelf)
-            (text_of target.now) }
-        ensures stored { S.next_id self.new.shelf ≡ S.next_id self.old.shelf }
+            → KeepsAll (S.stored self.old.store) (S.next_id self.old.store)
+            (S.stored self.new.store) (S.next_id self.new.store)) }
+        ensures lasting { IfOk result (λ answer. answer ≡ None
+            → KeepsAllOthers (S.lasting self.old.store) (S.lasting self.new.store)
+            (text_of target.now)) }
+        ensures others { KeepsMost (S.stored self.old.store) (S.lasting self.old.store)
+            (S.stored self.new.store) (text_of target.now) }
+        ensures stored { S.next_id self.new.store ≡ S.next_id self.old.store }
         ensures status { IfOk result (λ answer. IfSome answer (λ sent. (head_of sent).status ≡ 304
             → renewal.reply.head.status ≡ 304)) }
         ensures here { IfOk result (λ answer. IfSome answer (λ sent. ¬ (IsElsewhere (body_of sent)))) }
@@ -376,11 +377,14 @@ impl<S: Shelf + Drop> Client<S> {
         response: Response<Body>,
         times: &Times,
     ) -> Result<Received, AllocError>
-        ensures kept { OnErr result (KeepsAll (S.stored self.old.shelf) (S.next_id self.old.shelf)
-            (S.stored self.new.shelf) (S.next_id self.new.shelf)) }
-        ensures others { KeepsOthers (S.stored self.old.shelf) (S.stored self.new.shelf)
-            (own_text incoming.now.request.now) }
-        ensures stored { S.next_id self.new.shelf ≡ S.next_id self.old.shelf }
+        ensures kept { OnErr result (KeepsAll (S.stored self.old.store) (S.next_id self.old.store)
+            (S.stored self.new.store) (S.next_id self.new.store)) }
+        ensures others { KeepsMost (S.stored self.old.store) (S.lasting self.old.store)
+            (S.stored self.new.store) (own_text incoming.now.request.now) }
+        ensures lasting { IfOk result (λ received. IsAgain received
+            → KeepsLasting (S.stored self.old.store) (S.lasting self.old.store)
+            (S.stored self.new.store) (S.lasting self.new.store) (own_text incoming.now.request.now)) }
+        ensures stored { S.next_id self.new.store ≡ S.next_id self.old.store }
         ensures conditional { IfOk result (IsConditionalReceipt incoming.now.request.now) }
         ensures here { IfOk result HasBodyHere }
         ensures unspent { OnErr result (validation.new.id ≡ validation.old.id) }
@@ -400,13 +404,13 @@ impl<S: Shelf + Drop> Client<S> {
             status: StatusCode::NOT_MODIFIED,
             received: times.received,
         };
-        if !validation.is_past_shelf
+        if !validation.is_past_store
             && let Some(id) = validation.id
             && self.read(alloc, &target)?
             && let Some(renewal) = renewal_of(
                 alloc,
                 &target,
-                self.shelf.found(&target),
+                self.store.found(&target),
                 id,
                 &arrived,
                 &self.options,
@@ -416,8 +420,7 @@ impl<S: Shelf + Drop> Client<S> {
             validation.id = None;
             return Ok(Received::Answer(answer));
         }
-        let again = self.unconfirmed(alloc, target, validation)?;
-        Ok(Received::Again(again))
+        Ok(Received::Again(self.unconfirmed(&target, validation)))
     }
 
     /// Takes the response to a validation, and returns the answer to the client's request, or the
@@ -442,17 +445,20 @@ impl<S: Shelf + Drop> Client<S> {
         response: Response<Body>,
         times: Times,
     ) -> Result<Received, AllocError>
-        ensures kept { OnErr result (KeepsAll (S.stored self.old.shelf) (S.next_id self.old.shelf)
-            (S.stored self.new.shelf) (S.next_id self.new.shelf)) }
-        ensures others { KeepsOthers (S.stored self.old.shelf) (S.stored self.new.shelf)
-            (own_text request.now) }
+        ensures kept { OnErr result (KeepsAll (S.stored self.old.store) (S.next_id self.old.store)
+            (S.stored self.new.store) (S.next_id self.new.store)) }
+        ensures others { KeepsMost (S.stored self.old.store) (S.lasting self.old.store)
+            (S.stored self.new.store) (own_text request.now) }
+        ensures lasting { IfOk result (λ received. IsAgain received
+            → KeepsLasting (S.stored self.old.store) (S.lasting self.old.store)
+            (S.stored self.new.store) (S.lasting self.new.store) (own_text request.now)) }
         ensures complete { IsWholeResponse request.now response
-            ⊎ (S.next_id self.new.shelf ≡ S.next_id self.old.shelf) }
-        ensures unstored { validation.old.is_past_shelf ≡ true
-            → S.next_id self.new.shelf ≡ S.next_id self.old.shelf }
+            ⊎ (S.next_id self.new.store ≡ S.next_id self.old.store) }
+        ensures unstored { validation.old.is_past_store ≡ true
+            → S.next_id self.new.store ≡ S.next_id self.old.store }
         ensures failure { is_failure (head_of response).status ≡ true → validation.old.id ≢ None
-            → KeepsAll (S.stored self.old.shelf) (S.next_id self.old.shelf)
-            (S.stored self.new.shelf) (S.next_id self.new.shelf) }
+            → KeepsAll (S.stored self.old.store) (S.next_id self.old.store)
+            (S.stored self.new.store) (S.next_id self.new.store) }
         ensures conditional { IfOk result (IsConditionalReceipt request.now) }
         ensures whose_body { IfOk result (KeepsBodyLocation response) }
         ensures again { IfOk result (IsAfterA304 response) }
@@ -473,7 +479,7 @@ impl<S: Shelf + Drop> Client<S> {
     /// The response is stored if the request is looked up and storing is allowed (RFC 9111, section
     /// 3). A response without an error to an unsafe request removes what is stored for its targets:
     /// its own, and those at the same origin in Location and Content-Location (RFC 9111, section
-    /// 4.4). If the shelf fails, nothing is stored, and Cache-Status says so. The token is spent
+    /// 4.4). If the store fails, nothing is stored, and Cache-Status says so. The token is spent
     /// only on success.
     ///
     /// # Errors
@@ -487,17 +493,17 @@ impl<S: Shelf + Drop> Client<S> {
         response: Response<Body>,
         times: Times,
     ) -> Result<Response<Body>, AllocError>
-        ensures kept { OnErr result (KeepsAll (S.stored self.old.shelf) (S.next_id self.old.shelf)
-            (S.stored self.new.shelf) (S.next_id self.new.shelf)) }
-        ensures others { KeepsOthers (S.stored self.old.shelf) (S.stored self.new.shelf)
-            (own_text request.now) }
+        ensures kept { OnErr result (KeepsAll (S.stored self.old.store) (S.next_id self.old.store)
+            (S.stored self.new.store) (S.next_id self.new.store)) }
+        ensures others { KeepsMost (S.stored self.old.store) (S.lasting self.old.store)
+            (S.stored self.new.store) (own_text request.now) }
         ensures complete { MayBeStored request.now response
-            ⊎ (S.next_id self.new.shelf ≡ S.next_id self.old.shelf) }
-        ensures unstored { token.old.is_past_shelf ≡ true
-            → S.next_id self.new.shelf ≡ S.next_id self.old.shelf }
+            ⊎ (S.next_id self.new.store ≡ S.next_id self.old.store) }
+        ensures unstored { token.old.is_past_store ≡ true
+            → S.next_id self.new.store ≡ S.next_id self.old.store }
         ensures failure { is_failure (head_of response).status ≡ true → token.old.id ≢ None
-            → KeepsAll (S.stored self.old.shelf) (S.next_id self.old.shelf)
-            (S.stored self.new.shelf) (S.next_id self.new.shelf) }
+            → KeepsAll (S.stored self.old.store) (S.next_id self.old.store)
+            (S.stored self.new.store) (S.next_id self.new.store) }
         ensures conditional { IfOk result (λ answer. (head_of answer).status ≡ 304
             → HasCondition request.now ⊎ ((head_of response).status ≡ 304)) }
         ensures whose_body { IfOk result (λ answer. IsElsewhere (body_of answer)
@@ -513,7 +519,7 @@ impl<S: Shelf + Drop> Client<S> {
         Ok(answer)
     }
 
-    // Answers a request that isn't looked up or bypasses the shelf.
+    // Answers a request that isn't looked up or bypasses the store.
     pub(crate) fn passed(
         &mut self,
         alloc: Global,
@@ -522,14 +528,14 @@ impl<S: Shelf + Drop> Client<S> {
         response: Response<Body>,
         received: Timestamp,
     ) -> Result<Response<Body>, AllocError>
-        ensures kept { OnErr result (KeepsAll (S.stored self.old.shelf) (S.next_id self.old.shelf)
-            (S.stored self.new.shelf) (S.next_id self.new.shelf)) }
-        ensures others { KeepsOthers (S.stored self.old.shelf) (S.stored self.new.shelf)
-            (own_text request.now) }
-        ensures stored { S.next_id self.new.shelf ≡ S.next_id self.old.shelf }
+        ensures kept { OnErr result (KeepsAll (S.stored self.old.store) (S.next_id self.old.store)
+            (S.stored self.new.store) (S.next_id self.new.store)) }
+        ensures others { KeepsMost (S.stored self.old.store) (S.lasting self.old.store)
+            (S.stored self.new.store) (own_text request.now) }
+        ensures stored { S.next_id self.new.store ≡ S.next_id self.old.store }
         ensures failure { is_failure (head_of response).status ≡ true
-            → KeepsAll (S.stored self.old.shelf) (S.next_id self.old.shelf)
-            (S.stored self.new.shelf) (S.next_id self.new.shelf) }
+            → KeepsAll (S.stored self.old.store) (S.next_id self.old.store)
+            (S.stored self.new.store) (S.next_id self.new.store) }
         ensures status { IfOk result (λ sent. (head_of sent).status ≡ 304
             → (head_of response).status ≡ 304) }
         ensures body { IfOk result (λ sent. IsElsewhere (body_of sent) → IsElsewhere (body_of response)) }
@@ -560,8 +566,10 @@ impl<S: Shelf + Drop> Client<S> {
         request: &Request<Bytes>,
         now: Timestamp,
     ) -> Result<Option<Response<Bytes>>, AllocError>
-        ensures kept { KeepsAll (S.stored self.old.shelf) (S.next_id self.old.shelf)
-            (S.stored self.new.shelf) (S.next_id self.new.shelf) }
+        ensures kept { KeepsAll (S.stored self.old.store) (S.next_id self.old.store)
+            (S.stored self.new.store) (S.next_id self.new.store) }
+        ensures lasting { KeepsAllOthers (S.lasting self.old.store) (S.lasting self.new.store)
+            (own_text request.now) }
         ensures conditional { IfOk result (λ answer. IfSome answer (λ sent.
             (head_of sent).status ≡ 304 → HasCondition request.now)) }
         ensures unspent { OnErr result (token.new ≡ token.old) }

@@ -5,7 +5,7 @@ ghost use Rattle.std.specs.Prelude.{◌≡◌, true};
 use bytes::Bytes;
 use http::{Response, request};
 use http_cache_plans::{Body, Why};
-use http_cache_storage::ResponseId;
+use http_cache_store::ResponseId;
 use std::alloc::Global;
 use std::mem;
 
@@ -17,7 +17,7 @@ pub struct Forwarded {
     pub(crate) id: Option<ResponseId>,
     pub(crate) why: Why,
     // Whether the response isn't stored.
-    pub(crate) is_past_shelf: bool,
+    pub(crate) is_past_store: bool,
 }
 
 /// The validation of a stored response. Send `request`, and pass the response to `receive`.
@@ -27,7 +27,7 @@ pub struct Validation {
     pub(crate) id: Option<ResponseId>,
     pub(crate) why: Why,
     // Whether the response isn't stored, and a 304 renews nothing.
-    pub(crate) is_past_shelf: bool,
+    pub(crate) is_past_store: bool,
     // It is boxed, since tokens are moved for other requests too.
     pub(crate) request: Box<request::Parts>,
 }
@@ -36,17 +36,17 @@ impl Forwarded {
     /// Forbids to store the response, such as one that may be older than the invalidation of its
     /// target.
     pub fn forbid_storing(&mut self)
-        ensures unstored { self.new.is_past_shelf ≡ true }
+        ensures unstored { self.new.is_past_store ≡ true }
         ensures kept { self.new.id ≡ self.old.id }
     {
-        self.is_past_shelf = true;
+        self.is_past_store = true;
     }
 
     pub(crate) fn of(id: Option<ResponseId>, why: Why) -> Forwarded {
         Forwarded {
             id,
             why,
-            is_past_shelf: false,
+            is_past_store: false,
         }
     }
 }
@@ -55,10 +55,10 @@ impl Validation {
     /// Forbids to store the response, such as one that may be older than the invalidation of its
     /// target. A 304 then confirms nothing.
     pub fn forbid_storing(&mut self)
-        ensures unstored { self.new.is_past_shelf ≡ true }
+        ensures unstored { self.new.is_past_store ≡ true }
         ensures kept { self.new.id ≡ self.old.id }
     {
-        self.is_past_shelf = true;
+        self.is_past_store = true;
     }
 
     /// Returns the id of the stored response, or `None` once the token is spent.
@@ -88,13 +88,13 @@ impl Validation {
         let Validation {
             id,
             why,
-            is_past_shelf,
+            is_past_store,
             ..
         } = self;
         Forwarded {
             id,
             why,
-            is_past_shelf,
+            is_past_store,
         }
     }
 }

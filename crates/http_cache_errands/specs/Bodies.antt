@@ -5,7 +5,7 @@ use Rattle.http_cache_errands.specs.declared.errands.Errand.TheVariants.{Own, Ch
 
 -- the response isn't stored
 abbrev pub IsUnstorable : Errand → Type 0
-IsUnstorable (Own forwarded) = forwarded.is_past_shelf ≡ true
-IsUnstorable (Check validation) = validation.is_past_shelf ≡ true
-IsUnstorable (Failed forwarded) = forwarded.is_past_shelf ≡ true
+IsUnstorable (Own forwarded) = forwarded.is_past_store ≡ true
+IsUnstorable (Check validation) = validation.is_past_store ≡ true
+IsUnstorable (Failed forwarded) = forwarded.is_past_store ≡ true
 IsUnstorable (Rest rest) = ⊤

@@ -3,7 +3,7 @@ use Rattle.std.specs.Prelude.{◌≡◌, ◌==◌, ℕ, List, Bool, false, Optio
 use Rattle.std.specs.List.{list_any}
 use Rattle.std.specs.BTreeMap.{BTreeMap, get, values}
 use Rattle.std.specs.Ordering.{nat_cmp}
-use Rattle.http_cache_storage.specs.Target.{text_of}
+use Rattle.http_cache_store.specs.Target.{text_of}
 use Rattle.http_cache_errands.specs.declared.errands.Errand.{Errand}
 use Rattle.http_cache_errands.specs.declared.errands.Errand.TheVariants.{Check}
 use Rattle.http_cache_errands.specs.declared.errands.UnderWay.{UnderWay}

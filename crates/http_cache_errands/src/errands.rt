@@ -3,7 +3,7 @@ ghost use Rattle.std.specs.Prelude.{◌≡◌, ◌≤◌, ◌+◌, ◌++◌, ◌
 ghost use Rattle.http.specs.Response.{head_of, body_of};
 ghost use Rattle.std.specs.BTreeMap.{get};
 ghost use Rattle.std.specs.Ordering.{nat_cmp};
-ghost use Rattle.http_cache_storage.specs.Target.{text_of};
+ghost use Rattle.http_cache_store.specs.Target.{text_of};
 ghost use Rattle.http_cache_errands.specs.UnderWay.{Changes, KeepsIds, id_at, validates, are_validating};
 ghost use Rattle.http_cache_errands.specs.UnderWay.{target_of, target_at, validated_at};
 ghost use Rattle.http_cache_errands.specs.Bodies.{IsUnstorable};
@@ -11,7 +11,7 @@ ghost use Rattle.http_cache_errands.specs.Bodies.{IsUnstorable};
 use bytes::Bytes;
 use http::{Method, Request, Response, response};
 use http_cache_client::{Forwarded, Times, Validation};
-use http_cache_storage::{ResponseId, Target};
+use http_cache_store::{ResponseId, Target};
 use jiff::Timestamp;
 use std::alloc::{AllocError, Global};
 use std::collections::BTreeMap;

@@ -1,9 +1,9 @@
 //! Which requests under way may be older than an invalidation of their target.
 ghost use Rattle.std.specs.Prelude.{◌≡◌, ◌≤◌, ◌⊎◌, ℕ, List, All, OnOk};
-ghost use Rattle.http_cache_storage.specs.Target.{text_of};
+ghost use Rattle.http_cache_store.specs.Target.{text_of};
 ghost use Rattle.http_cache_errands.specs.Invalidations.{token_at, last_of};
 
-use http_cache_storage::Target;
+use http_cache_store::Target;
 use std::alloc::{AllocError, Global};
 use std::collections::BTreeMap;
 

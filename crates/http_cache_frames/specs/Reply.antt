@@ -3,7 +3,7 @@ use Rattle.std.specs.Prelude.{ℕ, List, [], ◌++◌, Option, Some, None, codes
 use Rattle.http_cache_frames.specs.declared.reply.Counts.{Counts}
 use Rattle.http_cache_frames.specs.declared.reply.Reason.{Reason}
 use Rattle.http_cache_frames.specs.declared.reply.Reason.TheVariants.{LongLine, NoObject, NoLength, Cut, TooLong, NoSuchFrame, NoToken, NoTime, UnknownToken}
-use Rattle.http_cache_frames.specs.declared.reply.Reason.TheVariants.{MalformedHead, FullHead, NotFinal, NoRest, NoTarget, TooMany, StoreFailed, Memory}
+use Rattle.http_cache_frames.specs.declared.reply.Reason.TheVariants.{MalformedHead, FullHead, NotFinal, NoRest, NoTarget, TooMany, Memory}
 use Rattle.http_cache_frames.specs.declared.reply.Notice.{Notice}
 use Rattle.http_cache_frames.specs.declared.reply.Notice.TheVariants.{Protocol, Done, More, Wait, Part, Swept, Removed, NoResponse, Stats, Quit, Error}
 use Rattle.http_cache_frames.specs.declared.reply.Word.{Word}
@@ -27,7 +27,6 @@ reason_text NotFinal = codes "the status isn't final"
 reason_text NoRest = codes "rest isn't a length or true"
 reason_text NoTarget = codes "the target isn't an absolute URI"
 reason_text TooMany = codes "too many requests under way"
-reason_text StoreFailed = codes "the store failed"
 reason_text Memory = codes "out of memory"
 
 unfoldable pub reason_code : Reason → List ℕ
@@ -46,7 +45,6 @@ reason_code NotFinal = codes "not-final"
 reason_code NoRest = codes "no-rest"
 reason_code NoTarget = codes "no-target"
 reason_code TooMany = codes "too-many"
-reason_code StoreFailed = codes "store-failed"
 reason_code Memory = codes "out-of-memory"
 
 -- the name of a member, with the text before it
@@ -67,6 +65,7 @@ word_text word.Wait = codes "{\"wait\":"
 word_text word.Body = codes ",\"body\":"
 word_text word.Bytes = codes ",\"bytes\":"
 word_text word.Errors = codes ",\"errors\":"
+word_text word.Files = codes ",\"store\":\"failing\",\"files\":"
 word_text word.Frames = codes ",\"frames\":"
 word_text word.Head = codes ",\"head\":"
 word_text word.Hits = codes ",\"hits\":"
@@ -146,7 +145,8 @@ notice_text (Removed id responses) =
 notice_text (NoResponse id token) =
     pair_text word.NoResponse id word.Token token ++ end_text
 notice_text (Stats id counts) =
-    member_text word.Stats id ++ stored_text counts ++ done_text counts ++ end_text
+    member_text word.Stats id ++ stored_text counts ++ done_text counts
+    ++ optional_text word.Files counts.failing ++ end_text
 notice_text (Quit id) = member_text word.Quit id ++ end_text
 notice_text (Error reason id token) = error_text reason id token
 

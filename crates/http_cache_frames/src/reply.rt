@@ -13,8 +13,10 @@ use std::alloc::AllocError;
 pub struct Counts {
     /// The number of stored responses.
     pub responses: u64,
-    /// The bytes of their fields and bodies.
+    /// What they count for the limit of bytes.
     pub bytes: u64,
+    /// The number of removed responses whose files couldn't be removed, if the store is failing.
+    pub failing: Option<u64>,
     /// The number of requests under way.
     pub under_way: u64,
     /// The number of frames that were read.
@@ -62,8 +64,6 @@ pub enum Reason {
     NoTarget,
     /// More requests are under way than the limit.
     TooMany,
-    /// The store failed.
-    StoreFailed,
     /// There is not enough memory.
     Memory,
 }
@@ -90,7 +90,6 @@ impl Reason {
             Reason::NoRest => "rest isn't a length or true",
             Reason::NoTarget => "the target isn't an absolute URI",
             Reason::TooMany => "too many requests under way",
-            Reason::StoreFailed => "the store failed",
             Reason::Memory => "out of memory",
         }
     }
@@ -116,7 +115,6 @@ impl Reason {
             Reason::NoRest => "no-rest",
             Reason::NoTarget => "no-target",
             Reason::TooMany => "too-many",
-            Reason::StoreFailed => "store-failed",
             Reason::Memory => "out-of-memory",
         }
     }
@@ -291,6 +289,7 @@ enum Word {
     Body,
     Bytes,
     Errors,
+    Files,
     Frames,
     Head,
     Hits,
@@ -328,6 +327,7 @@ impl Word {
             Word::Body => ",\"body\":",
             Word::Bytes => ",\"bytes\":",
             Word::Errors => ",\"errors\":",
+            Word::Files => ",\"store\":\"failing\",\"files\":",
             Word::Frames => ",\"frames\":",
             Word::Head => ",\"head\":",
             Word::Hits => ",\"hits\":",
@@ -541,6 +541,7 @@ impl Notice {
                 push_member(out, Word::Stats, id)?;
                 counts.push_stored(out)?;
                 counts.push_done(out)?;
+                push_optional(out, Word::Files, counts.failing)?;
                 push_end(out)
             }
             Notice::Error { reason, id, token } => push_error(out, reason, id, token),

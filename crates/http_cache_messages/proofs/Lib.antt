@@ -1,3 +1,4 @@
 -- Lemmas of messages.
 pub mod NeededLemmas
 mod OutgoingLemmas
+mod WorthLemmas

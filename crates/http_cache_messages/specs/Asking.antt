@@ -5,6 +5,7 @@ use Rattle.http.specs.Request.{head_of, body_of}
 use Rattle.http.specs.declared.request.Request.{Request}
 use Rattle.http_uri.specs.Uri.{uri_eq}
 use Rattle.http_cache_fields.specs.Headers.{Headers, headers_of}
+use Rattle.http_cache_rules.specs.Joined.{joined_headers}
 use Rattle.http_cache_rules.specs.Messages.{RequestSeen}
 use Rattle.http_cache_messages.specs.declared.asking.Incoming.{Incoming}
 
@@ -26,4 +27,17 @@ asking_seen i method = record {
   is_same_target = uri_eq (head_of i.request.now).uri;
   method = method;
   headers = headers_seen i;
+}
+
+-- the request with its own method
+abbrev pub incoming_seen : Incoming → RequestSeen
+incoming_seen i = asking_seen i (head_of i.request.now).method
+
+-- the request as stored responses are asked by it: with one line for each field (RFC 9111, section 4.1)
+abbrev pub looked_up : Request (List ℕ) → RequestSeen
+looked_up request = record {
+  target = (head_of request).uri;
+  is_same_target = uri_eq (head_of request).uri;
+  method = (head_of request).method;
+  headers = joined_headers (headers_of (head_of request).headers);
 }

@@ -1,9 +1,10 @@
-//! A request in the form in which it is compared with stored responses. Nothing here knows a shelf.
+//! A request in the form in which it is compared with stored responses. Nothing here knows a store.
 ghost use Rattle.std.specs.Prelude.{◌≡◌, ◌||◌, IfOk, codes, bytes_eq};
 ghost use Rattle.http.specs.Request.{head_of};
 ghost use Rattle.http_cache_fields.specs.Directives.{cache_control, has};
 ghost use Rattle.http_cache_fields.specs.Headers.{headers_of};
 ghost use Rattle.http_cache_messages.specs.Asking.{is_get_or_head, is_looked_up, headers_seen};
+ghost use Rattle.http_cache_messages.specs.Asking.{asking_seen, incoming_seen, looked_up};
 
 use crate::memory::or_out_of_memory;
 use bytes::Bytes;
@@ -11,7 +12,7 @@ use http::{HeaderMap, Method, Request, Uri};
 use http_cache_fields::CacheError;
 use http_cache_fields::reading::says;
 use http_cache_policy::policy::RequestLike;
-use http_cache_rules::joined::joined_headers;
+use http_cache_rules::joined::{has_single_lines, joined_headers};
 use std::alloc::{AllocError, Global};
 
 /// A client's request with joined field lines, so that all lines of a field count for Vary (RFC
@@ -50,15 +51,22 @@ impl<'a> Incoming<'a> {
     ///
     /// `AllocError` if there is not enough memory for the joined lines.
     pub fn new(alloc: Global, request: &'a Request<Bytes>) -> Result<Incoming<'a>, AllocError>
-        ensures { IfOk result (λ incoming. incoming.request.now ≡ request.now) }
+        ensures request { IfOk result (λ incoming. incoming.request.now ≡ request.now) }
+        ensures looked_up { IfOk result (λ incoming. incoming_seen incoming
+            ≡ looked_up request.now) }
     {
         let headers = request.headers();
-        let joined = if headers.len() == headers.keys_len() {
-            None
-        } else {
-            Some(joined_headers(alloc, headers)?)
-        };
-        Ok(Incoming { request, joined })
+        if has_single_lines(headers) {
+            return Ok(Incoming {
+                request,
+                joined: None,
+            });
+        }
+        let joined = joined_headers(alloc, headers)?;
+        Ok(Incoming {
+            request,
+            joined: Some(joined),
+        })
     }
 
     /// Returns the request as received.
@@ -94,7 +102,9 @@ impl<'a> Incoming<'a> {
     }
 
     /// Returns the request with its own method.
-    pub fn as_received(&self) -> Asking<'_> {
+    pub fn as_received(&self) -> Asking<'_>
+        ensures { asking_seen result.incoming.now result.method.now ≡ incoming_seen self.now }
+    {
         self.by(self.request.method())
     }
 
@@ -108,7 +118,10 @@ impl<'a> Incoming<'a> {
         }
     }
 
-    fn by<'b>(&'b self, method: &'b Method) -> Asking<'b> {
+    fn by<'b>(&'b self, method: &'b Method) -> Asking<'b>
+        ensures { asking_seen result.incoming.now result.method.now
+            ≡ asking_seen self.now method.now }
+    {
         Asking {
             incoming: self,
             method,

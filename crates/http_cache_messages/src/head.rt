@@ -16,7 +16,7 @@ use httpdate::HttpDate;
 use jiff::Timestamp;
 use std::alloc::Global;
 
-// A head with more names isn't stored, so that an answer from the shelf has room for its own
+// A head with more names isn't stored, so that an answer from the store has room for its own
 // fields.
 const MOST_NAMES: usize = 24_000;
 

@@ -1,7 +1,9 @@
 //! Decides whether a response is worth storing, and a stored one worth keeping.
-ghost use Rattle.std.specs.Prelude.{◌≡◌, true};
+ghost use Rattle.std.specs.Prelude.{◌≡◌, ◌↔◌, ◌<ℤ◌, ℤ, true, false, IfSome};
+ghost use Rattle.jiff.specs.Words.{IsTimestampNanos};
 ghost use Rattle.http_cache_fields.specs.Headers.{headers_of};
 ghost use Rattle.http_cache_rules.specs.Storability.{is_storable};
+ghost use Rattle.http_cache_policy.specs.Age.{is_stale_at};
 ghost use Rattle.http_cache_messages.specs.Worth.{has_validator, varies_by_all, can_be_used_again};
 
 use crate::quoted::is_misread;
@@ -38,6 +40,45 @@ pub fn can_be_used_again(policy: &CachePolicy, now: Timestamp) -> bool
     let stored = policy.stored_headers();
     !varies_by_all(stored)
         && (!policy.is_stale(now) || has_validator(stored) || !policy.forbids_stale())
+}
+
+// Returns the time from which on a stored response is stale, or `None` if it never is.
+fn fresh_until(policy: &CachePolicy) -> Option<Timestamp>
+    ensures always { result ≡ None → (now : ℤ) → IsTimestampNanos now
+        → is_stale_at policy.now now ≡ false }
+    ensures until { IfSome result (λ until. (now : ℤ) → IsTimestampNanos now
+        → ((is_stale_at policy.now now ≡ false) ↔ (now <ℤ until.nanosecond))) }
+{
+    let received = policy.stored_response_time();
+    let lifetime = policy.freshness().lifetime;
+    // The seconds come with the proof that the lifetime is at most the greatest duration.
+    let _seconds = lifetime.as_secs();
+    let left = lifetime.saturating_sub(policy.age(received));
+    if left.is_zero() {
+        return Some(Timestamp::MIN);
+    }
+    received.checked_add(left).ok()
+}
+
+/// Returns the time from which on a stored response can't be used again, or `None` if it always
+/// can.
+///
+/// `can_be_used_again` is true exactly at the times before it.
+#[tactic(auto, unfolding(crate::specs::Worth::can_be_used_again))]
+pub fn usable_until(policy: &CachePolicy) -> Option<Timestamp>
+    ensures always { result ≡ None → (now : ℤ) → IsTimestampNanos now
+        → can_be_used_again policy.now now ≡ true }
+    ensures until { IfSome result (λ until. (now : ℤ) → IsTimestampNanos now
+        → ((can_be_used_again policy.now now ≡ true) ↔ (now <ℤ until.nanosecond))) }
+{
+    let stored = policy.stored_headers();
+    if varies_by_all(stored) {
+        return Some(Timestamp::MIN);
+    }
+    if has_validator(stored) || !policy.forbids_stale() {
+        return None;
+    }
+    fresh_until(policy)
 }
 
 /// Returns whether a response is worth storing at `now`. Allocates nothing.

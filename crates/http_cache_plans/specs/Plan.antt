@@ -6,7 +6,7 @@ use Rattle.http.specs.declared.request.Request.{Request}
 use Rattle.http_cache_messages.specs.Complete.{is_complete}
 use Rattle.http_cache_rules.specs.Conditions.{is_conditional}
 use Rattle.http_cache_fields.specs.Headers.{headers_of}
-use Rattle.http_cache_storage.specs.Target.{text_of}
+use Rattle.http_cache_store.specs.Target.{text_of}
 use Rattle.http_cache_plans.specs.declared.body.Body.{Body}
 use Rattle.http_cache_plans.specs.declared.body.Body.TheVariants.{Here, Elsewhere}
 use Rattle.http_cache_plans.specs.declared.plan.Arrived.{Arrived}

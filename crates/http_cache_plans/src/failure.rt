@@ -9,7 +9,7 @@ use crate::renewal::of_id;
 use crate::reply::Reply;
 use http::StatusCode;
 use http_cache_messages::asking::Incoming;
-use http_cache_storage::{ResponseId, StoredResponse};
+use http_cache_store::{ResponseId, StoredResponse};
 use jiff::Timestamp;
 use std::alloc::{AllocError, Global};
 

@@ -1,7 +1,7 @@
 //! Stored responses that a 304 or a response to HEAD confirms.
 ghost use Rattle.std.specs.Prelude.{IfOk, IfSome};
 ghost use Rattle.http_cache_plans.specs.Plan.{Stores, IsChangeOf};
-ghost use Rattle.http_cache_storage.specs.Target.{text_of};
+ghost use Rattle.http_cache_store.specs.Target.{text_of};
 
 use crate::plan::{Arrived, Change};
 use crate::renewal::{of_id, renewed};
@@ -9,7 +9,7 @@ use http::header::{CONTENT_LENGTH, ETAG, LAST_MODIFIED};
 use http::{HeaderMap, HeaderName, Method, StatusCode};
 use http_cache_fields::CacheError;
 use http_cache_policy::policy::CacheOptions;
-use http_cache_storage::{ResponseId, StoredResponse, Target};
+use http_cache_store::{ResponseId, StoredResponse, Target};
 use std::alloc::{AllocError, Global};
 
 // What a response to HEAD says of a response that is stored for GET.

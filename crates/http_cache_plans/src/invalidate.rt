@@ -7,7 +7,7 @@ use bytes::Bytes;
 use http::header::{CONTENT_LOCATION, LOCATION};
 use http::{Request, StatusCode, response};
 use http_cache_fields::headers::first_text;
-use http_cache_storage::Target;
+use http_cache_store::Target;
 use std::alloc::{AllocError, Global};
 
 // Returns whether a status is a 2xx or 3xx (RFC 9111, section 4.4).

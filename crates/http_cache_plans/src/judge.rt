@@ -1,11 +1,11 @@
 //! Decides which stored response of a target answers a request.
-ghost use Rattle.std.specs.Prelude.{List, Contains};
-ghost use Rattle.http_cache_storage.specs.declared.shelf.StoredResponse.{StoredResponse};
-ghost use Rattle.http_cache_plans.specs.Judge.{IsSelectedOf};
+ghost use Rattle.std.specs.Prelude.{◌≡◌, option_copied};
+ghost use Rattle.http_cache_messages.specs.Asking.{asking_seen, incoming_seen};
+ghost use Rattle.http_cache_plans.specs.Judge.{IsSelected, IsSelectedOf, answering, usable};
 
-use http_cache_messages::asking::Incoming;
+use http_cache_messages::asking::{Asking, Incoming};
 use http_cache_policy::explain::{Explanation, Reason, StaleReason};
-use http_cache_storage::StoredResponse;
+use http_cache_store::StoredResponse;
 use jiff::Timestamp;
 
 /// The result of a search among the stored responses.
@@ -19,31 +19,6 @@ pub enum Selected<'a> {
     Other(Explanation<'a>),
     /// No stored response at all.
     Nothing,
-}
-
-// Returns whether a stored response isn't for the request at all.
-fn is_mismatch(reason: Reason<'_>) -> bool {
-    matches!(
-        reason,
-        Reason::Target | Reason::Host | Reason::OtherOfGetAndHead | Reason::Method | Reason::Vary(_)
-    )
-}
-
-// Returns the better of the result so far and one more response that isn't fresh.
-fn better<'a>(
-    so_far: Selected<'a>,
-    stored: &'a StoredResponse,
-    said: Explanation<'a>,
-) -> Selected<'a>
-    ensures { (all : List StoredResponse) → IsSelectedOf all so_far.entry
-        → Contains all stored.now → IsSelectedOf all result }
-{
-    match (so_far, said.reason) {
-        (Selected::Matching(..) | Selected::Fresh(_), _) => so_far,
-        (_, Some(reason)) if !is_mismatch(reason) => Selected::Matching(stored, said),
-        (Selected::Nothing, _) => Selected::Other(said),
-        _ => so_far,
-    }
 }
 
 // Returns why a stored response may not be used without validation. A stale one that forbids such
@@ -67,22 +42,47 @@ fn explained<'a>(
     said
 }
 
-/// Returns the newest stored response that may be used, else the newest one that may be used after
-/// validation, else why there is none (RFC 9111, sections 4 and 4.1).
+fn usable<'a>(
+    stored: &'a [StoredResponse],
+    asking: &Asking<'_>,
+    now: Timestamp,
+) -> Option<&'a StoredResponse>
+    ensures { option_copied result
+        ≡ usable (asking_seen asking.now.incoming.now asking.now.method.now) now.nanosecond stored.now }
+{
+    stored
+        .iter()
+        .find(|one| one.policy.may_be_used(asking, now))
+}
+
+fn answering<'a>(stored: &'a [StoredResponse], asking: &Asking<'_>) -> Option<&'a StoredResponse>
+    ensures { option_copied result
+        ≡ answering (asking_seen asking.now.incoming.now asking.now.method.now) stored.now }
+{
+    stored
+        .iter()
+        .find(|one| one.policy.answers_once_validated(asking))
+}
+
+/// Returns the newest stored response that may be used, else the newest one that answers once it is
+/// validated, else why there is none (RFC 9111, sections 4 and 4.1).
 pub fn select<'a>(
     stored: &'a [StoredResponse],
     incoming: &'a Incoming<'a>,
     now: Timestamp,
 ) -> Selected<'a>
-    ensures { IsSelectedOf stored.now result }
+    ensures selected { IsSelected (incoming_seen incoming.now) now.nanosecond stored.now result }
+    ensures among { IsSelectedOf stored.now result }
 {
-    let mut selected = Selected::Nothing;
-    for one in stored {
-        let said = explained(one, incoming, now);
-        if said.reason.is_none() {
-            return Selected::Fresh(one);
-        }
-        selected = better(selected, one, said);
+    let asking = incoming.as_received();
+    if let Some(one) = usable(stored, &asking, now) {
+        return Selected::Fresh(one);
     }
-    selected
+    if let Some(one) = answering(stored, &asking) {
+        return Selected::Matching(one, explained(one, incoming, now));
+    }
+    match stored.first() {
+        Some(one) => Selected::Other(explained(one, incoming, now)),
+        None => Selected::Nothing,
+    }
 }

@@ -1,4 +1,4 @@
-//! What a caching client decides about the stored responses of a target, without a shelf: which one
+//! What a caching client decides about the stored responses of a target, without a store: which one
 //! answers a request, what the answer is, and what to store of a received response (RFC 9110, 9111,
 //! 5861 and 9211).
 #![tactic(auto)]

@@ -1,10 +1,10 @@
-//! Decides what to store of a received response. It reads what the shelf showed, and plans one
-//! change of the shelf as the last step.
+//! Decides what to store of a received response. It reads what the store showed, and plans one
+//! change of the store as the last step.
 //!
 //! Nothing fails once a policy is made, so a policy is dropped at few places.
 ghost use Rattle.std.specs.Prelude.{◌≡◌, true, false, IsSome, IfOk};
 ghost use Rattle.http_cache_plans.specs.Plan.{Stores, IsChangeOf, IsElsewhere, IsWhole, IsKnownPlan};
-ghost use Rattle.http_cache_storage.specs.Target.{text_of};
+ghost use Rattle.http_cache_store.specs.Target.{text_of};
 
 use crate::body::Body;
 use crate::reply::left_of;
@@ -18,11 +18,11 @@ use http_cache_messages::needed::NeededRequest;
 use http_cache_messages::worth::{can_be_used_again, is_worth_storing};
 use http_cache_policy::explain::TimeLeft;
 use http_cache_policy::policy::{CacheOptions, CachePolicy};
-use http_cache_storage::{ResponseId, StoredResponse, Target};
+use http_cache_store::{ResponseId, StoredResponse, Target};
 use jiff::Timestamp;
 use std::alloc::{AllocError, Global};
 
-/// A change of the shelf.
+/// A change of the store.
 #[derive(Drop)]
 pub enum Change {
     /// No change.
@@ -60,21 +60,21 @@ pub enum Change {
     RemoveTargets(Vec<Target>),
 }
 
-/// The outcome of a change of the shelf.
+/// The outcome of a change of the store.
 #[derive(Clone, Copy, Debug, PartialEq, Eq)]
 pub enum Settled {
     /// A response is stored.
     Stored,
     /// No response is stored.
     NotStored,
-    /// The shelf failed, and nothing changed.
+    /// The store failed, and stores nothing new.
     Failed,
 }
 
 /// What to do with a received response.
 #[derive(Drop)]
 pub struct Plan {
-    /// The change of the shelf.
+    /// The change of the store.
     pub change: Change,
     /// The remaining lifetime of the stored response.
     pub left: Option<TimeLeft>,
@@ -82,7 +82,7 @@ pub struct Plan {
     pub left_if_whole: Option<TimeLeft>,
     /// The reason why it isn't stored, unless its own fields say so.
     pub detail: Option<&'static str>,
-    /// Whether Cache-Status says `stored` if the shelf takes the response.
+    /// Whether Cache-Status says `stored` if the store takes the response.
     pub says_stored: bool,
     /// Whether the response makes the client's own condition false.
     pub is_known: bool,

@@ -20,7 +20,7 @@ use std::alloc::{AllocError, Global};
 pub struct CacheStatuses {
     /// For a response that is stored.
     pub stored: HeaderValue,
-    /// For a shelf that failed.
+    /// For a store that failed.
     pub failed: HeaderValue,
 }
 
@@ -35,7 +35,7 @@ fn cache_statuses_of(
     };
     let failed = Member {
         left: None,
-        detail: Some("shelf failed"),
+        detail: Some("store failed"),
         ..*member
     };
     Ok(CacheStatuses {

@@ -1,7 +1,7 @@
 //! Stored responses that a 304 confirms (RFC 9111, section 4.3.4).
 ghost use Rattle.std.specs.Prelude.{◌≡◌, false, IfOk, IfSome};
 ghost use Rattle.http_cache_plans.specs.Plan.{Stores, IsChangeOf};
-ghost use Rattle.http_cache_storage.specs.Target.{text_of};
+ghost use Rattle.http_cache_store.specs.Target.{text_of};
 ghost use Rattle.http_cache_plans.specs.Renewal.{IsRenewalFor};
 
 use crate::plan::{Arrived, Change, Plan};
@@ -13,7 +13,7 @@ use http_cache_messages::needed::NeededRequest;
 use http_cache_messages::worth::is_worth_storing;
 use http_cache_policy::policy::{CacheOptions, CachePolicy};
 use http_cache_rules::updated::updated_headers;
-use http_cache_storage::{ResponseId, StoredResponse, Target};
+use http_cache_store::{ResponseId, StoredResponse, Target};
 use jiff::Timestamp;
 use std::alloc::{AllocError, Global};
 

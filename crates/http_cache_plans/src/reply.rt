@@ -16,7 +16,7 @@ use http_cache_fields::headers::{contains_key, copy_of_map, insert};
 use http_cache_messages::asking::Incoming;
 use http_cache_policy::explain::TimeLeft;
 use http_cache_policy::policy::CachePolicy;
-use http_cache_storage::{ResponseId, StoredResponse};
+use http_cache_store::{ResponseId, StoredResponse};
 use jiff::Timestamp;
 use std::alloc::{AllocError, Global};
 use std::time::Duration;

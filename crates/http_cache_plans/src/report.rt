@@ -78,11 +78,11 @@ pub fn why_of(alloc: Global, said: &Explanation<'_>) -> Result<Why, AllocError> 
     })
 }
 
-/// Returns the reason for a request that is sent because the shelf failed.
-pub fn shelf_failed(alloc: Global) -> Result<Why, AllocError> {
+/// Returns the reason for a request that is sent because the store failed.
+pub fn store_failed(alloc: Global) -> Result<Why, AllocError> {
     Ok(Why {
         forward: Forward::Bypass,
-        detail: Some(String::from_str(alloc, "shelf failed")?),
+        detail: Some(String::from_str(alloc, "store failed")?),
     })
 }
 

@@ -236,7 +236,8 @@ impl CachePolicy {
     ///
     /// They are without what `ignore_cargo_cult` removes.
     pub fn stored_headers(&self) -> &HeaderMap
-        ensures { headers_of result.now ≡ self.now.response_headers }
+        ensures headers { headers_of result.now ≡ self.now.response_headers }
+        ensures settled { kept_exchange self.now ≡ self.now }
     {
         &self.parts.response_headers
     }

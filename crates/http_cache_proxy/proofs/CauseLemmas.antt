@@ -5,7 +5,7 @@ use Rattle.http.specs.declared.request.Request.{Request}
 use Rattle.http.specs.declared.response.Response.{Response as Answer}
 use Rattle.http_server.specs.Response.{IsResponse}
 use Rattle.http_server.specs.declared.response.Response.{Response}
-use Rattle.http_cache_storage.specs.Shelf.{StoredByTarget, KeepsAll}
+use Rattle.http_cache_store.specs.Store.{StoredByTarget, KeepsAll}
 use Rattle.http_cache_client.specs.Fetch.{Outcome, Sends, HasSentOwn, HasSentBoth, HasNoResponse, IsUnsent}
 use Rattle.http_cache_client.specs.declared.origin.FetchError.{FetchError}
 use Rattle.http_cache_client.specs.declared.origin.FetchError.TheVariants as fetch
@@ -20,7 +20,7 @@ use Rattle.http_cache_proxy.specs.declared.failure.Failure.{Failure}
 use Rattle.http_cache_proxy.specs.declared.failure.Failure.TheVariants.{Refused, Unsendable, Memory, Lost, Cut}
 use Rattle.http_cache_proxy.specs.declared.failure.Failure.TheVariants.{NoResponse}
 
--- a request that bypasses the shelf has no answer because it has no response
+-- a request that bypasses the store has no answer because it has no response
 pub failure-past : {O E : Type 0} (sent : Sends O) (before after : O) (forwarded : Request (List ℕ))
     (cause : FetchError (NoAnswer E))
     → HasNoResponse (HasSentOwn sent before after forwarded None) cause → IsUnsent (after ≡ before) cause

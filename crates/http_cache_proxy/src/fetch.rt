@@ -1,6 +1,6 @@
 //! Answers a request with the client's help, or says why there is no answer.
 ghost use Rattle.std.specs.Prelude.{◌≡◌, ◌⊎◌, true, false, Some, None, IfOk, IfErr, IsErrOf, OnErr};
-ghost use Rattle.http_cache_storage.specs.Shelf.{KeepsAll};
+ghost use Rattle.http_cache_store.specs.Store.{KeepsAll};
 ghost use Rattle.http_cache_client.specs.Ask.{fields_of, IsOnlyIfCached};
 ghost use Rattle.http_cache_client.specs.Fetch.{Outcome, HasSentBoth, HasSentTwiceAtMost};
 ghost use Rattle.http_cache_messages.specs.Asking.{is_looked_up};
@@ -13,8 +13,8 @@ use bytes::Bytes;
 use http::{Request, Response as Answer};
 use http_cache_client::{Client, Origin};
 use http_cache_intermediary::{Content, Intermediary, Refusal};
+use http_cache_memory_store::Store;
 use http_cache_semantics::CacheError;
-use http_cache_shelf::Shelf;
 use jiff::Timestamp;
 use std::alloc::Global;
 
@@ -43,7 +43,7 @@ fn forwarded(
 }
 
 // Returns the client's answer at a time.
-fn fetched_at<S: Shelf + Drop, O: Origin>(
+fn fetched_at<S: Store + Drop, O: Origin>(
     alloc: Global,
     client: &mut Client<S>,
     origin: &mut WholeOrigin<O>,
@@ -58,8 +58,8 @@ where
         → IsOnlyIfCached (fields_of forwarded.now) → origin.new ≡ origin.old }
     ensures failure { IfErr result
         (IsFetchFailure ⟦<WholeOrigin<O> as Origin>⟧.sent origin.old origin.new forwarded.now) }
-    ensures kept { OnErr result (KeepsAll (S.stored client.old.shelf) (S.next_id client.old.shelf)
-        (S.stored client.new.shelf) (S.next_id client.new.shelf)
+    ensures kept { OnErr result (KeepsAll (S.stored client.old.store) (S.next_id client.old.store)
+        (S.stored client.new.store) (S.next_id client.new.store)
         ⊎ ((outcome : Outcome)
         × HasSentBoth ⟦<WholeOrigin<O> as Origin>⟧.sent origin.old origin.new forwarded.now outcome)) }
 {
@@ -69,8 +69,8 @@ where
     }
 }
 
-// Returns the origin server's answer to a request that bypasses the shelf.
-fn fetched_past<S: Shelf + Drop, O: Origin>(
+// Returns the origin server's answer to a request that bypasses the store.
+fn fetched_past<S: Store + Drop, O: Origin>(
     alloc: Global,
     client: &mut Client<S>,
     origin: &mut WholeOrigin<O>,
@@ -84,9 +84,9 @@ where
         → IsOnlyIfCached (fields_of forwarded.now) → origin.new ≡ origin.old }
     ensures failure { IfErr result
         (IsFetchFailure ⟦<WholeOrigin<O> as Origin>⟧.sent origin.old origin.new forwarded.now) }
-    ensures kept { OnErr result (KeepsAll (S.stored client.old.shelf) (S.next_id client.old.shelf)
-        (S.stored client.new.shelf) (S.next_id client.new.shelf)) }
-    ensures unstored { S.next_id client.new.shelf ≡ S.next_id client.old.shelf }
+    ensures kept { OnErr result (KeepsAll (S.stored client.old.store) (S.next_id client.old.store)
+        (S.stored client.new.store) (S.next_id client.new.store)) }
+    ensures unstored { S.next_id client.new.store ≡ S.next_id client.old.store }
 {
     match client.pass(alloc, origin, forwarded, NO_CLOCK) {
         Ok(answer) => Ok(answer),
@@ -95,7 +95,7 @@ where
 }
 
 // Returns the answer to a request that is forwarded.
-fn fetched<S: Shelf + Drop, O: Origin>(
+fn fetched<S: Store + Drop, O: Origin>(
     alloc: Global,
     client: &mut Client<S>,
     origin: &mut WholeOrigin<O>,
@@ -110,11 +110,11 @@ where
         → IsOnlyIfCached (fields_of forwarded.now) → origin.new ≡ origin.old }
     ensures failure { IfErr result
         (IsFetchFailure ⟦<WholeOrigin<O> as Origin>⟧.sent origin.old origin.new forwarded.now) }
-    ensures kept { OnErr result (KeepsAll (S.stored client.old.shelf) (S.next_id client.old.shelf)
-        (S.stored client.new.shelf) (S.next_id client.new.shelf)
+    ensures kept { OnErr result (KeepsAll (S.stored client.old.store) (S.next_id client.old.store)
+        (S.stored client.new.store) (S.next_id client.new.store)
         ⊎ ((outcome : Outcome)
         × HasSentBoth ⟦<WholeOrigin<O> as Origin>⟧.sent origin.old origin.new forwarded.now outcome)) }
-    ensures unstored { time.now ≡ None → S.next_id client.new.shelf ≡ S.next_id client.old.shelf }
+    ensures unstored { time.now ≡ None → S.next_id client.new.store ≡ S.next_id client.old.store }
 {
     match time {
         Some(now) => fetched_at(alloc, client, origin, forwarded, *now),
@@ -123,7 +123,7 @@ where
 }
 
 /// Returns the answer to a request. If the time is unknown, nothing is looked up or stored.
-pub(crate) fn answer_to<S: Shelf + Drop, O: Origin>(
+pub(crate) fn answer_to<S: Store + Drop, O: Origin>(
     alloc: Global,
     intermediary: &Intermediary,
     client: &mut Client<S>,
@@ -140,9 +140,9 @@ where
     ensures cause { IfErr result (IsCause ⟦<WholeOrigin<O> as Origin>⟧.sent origin.old origin.new
         intermediary.now request.now) }
     ensures kept { OnErr result (HasKept ⟦<WholeOrigin<O> as Origin>⟧.sent origin.old origin.new
-        intermediary.now (S.stored client.old.shelf) (S.next_id client.old.shelf)
-        (S.stored client.new.shelf) (S.next_id client.new.shelf) request.now) }
-    ensures unstored { time.now ≡ None → S.next_id client.new.shelf ≡ S.next_id client.old.shelf }
+        intermediary.now (S.stored client.old.store) (S.next_id client.old.store)
+        (S.stored client.new.store) (S.next_id client.new.store) request.now) }
+    ensures unstored { time.now ≡ None → S.next_id client.new.store ≡ S.next_id client.old.store }
 {
     if let Some(refusal) = intermediary.refusal(request, false) {
         return Err(Failure::Refused(refusal));

@@ -9,7 +9,7 @@ use bytes::Bytes;
 use http::Request;
 use http_cache_client::{Client, Origin};
 use http_cache_intermediary::Intermediary;
-use http_cache_shelf::Shelf;
+use http_cache_memory_store::Store;
 use http_server::{Response, Service};
 use std::alloc::{AllocError, Global};
 
@@ -28,7 +28,7 @@ pub struct Proxy<S: Drop, O, C> {
     pub intermediary: Intermediary,
 }
 
-impl<S: Shelf + Drop, O: Origin + Drop, C: TimeSource + Drop> Proxy<S, O, C> {
+impl<S: Store + Drop, O: Origin + Drop, C: TimeSource + Drop> Proxy<S, O, C> {
     /// Returns a proxy with a client's name, over that client and an origin server.
     ///
     /// # Errors
@@ -55,7 +55,7 @@ impl<S: Shelf + Drop, O: Origin + Drop, C: TimeSource + Drop> Proxy<S, O, C> {
     }
 }
 
-impl<S: Shelf + Drop, O: Origin, C: TimeSource> Service for Proxy<S, O, C>
+impl<S: Store + Drop, O: Origin, C: TimeSource> Service for Proxy<S, O, C>
 where
     O::Error: Drop,
 {
@@ -63,8 +63,8 @@ where
 
     ghost answers = { λ old request response new. IsProxied
         ⟦<WholeOrigin<O> as Origin>⟧.sent old.origin new.origin old.intermediary
-        (S.stored old.client.shelf) (S.next_id old.client.shelf)
-        (S.stored new.client.shelf) (S.next_id new.client.shelf)
+        (S.stored old.client.store) (S.next_id old.client.store)
+        (S.stored new.client.store) (S.next_id new.client.store)
         C.shown old.clock new.clock request response };
 
     fn call(

@@ -5,8 +5,8 @@ use Rattle.http_cache_errands.specs.Void.{is_void}
 use Rattle.http_cache_session.specs.declared.session.Session.{Session}
 
 module _ {S : Type 0} where
-  abbrev pub shelf_of : Session S → S
-  shelf_of s = s.client.shelf
+  abbrev pub store_of : Session S → S
+  store_of s = s.client.store
 
   -- the token of the next request that the caller is asked to send
   abbrev pub next_token : Session S → ℕ

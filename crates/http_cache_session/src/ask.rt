@@ -1,6 +1,6 @@
 //! What is replied to a request: an answer, or a request to send.
 ghost use Rattle.std.specs.Prelude.{◌≡◌, true, Some, None, option_map, is_some, IfOk, IfSome, OnErr};
-ghost use Rattle.http_cache_storage.specs.Shelf.{KeepsAll};
+ghost use Rattle.http_cache_store.specs.Store.{KeepsAll};
 ghost use Rattle.http_cache_wire.specs.Wire.{IsPlain, IsReplyFor, given_token, waits_for};
 ghost use Rattle.http_cache_errands.specs.UnderWay.{id_at, are_validating, validated_at};
 ghost use Rattle.http_cache_session.specs.Session.{AddsGiven, KeepsUnderWay, IsOnlyCheck};
@@ -13,7 +13,7 @@ use http_cache_client::{Decision, Forwarded, Validation};
 use http_cache_errands::{Errand, UnderWay};
 use http_cache_frames::{Frame, Notice, Reason, Reply, is_true_under, number_under};
 use http_cache_messages::asking::is_looked_up;
-use http_cache_storage::{Shelf, Target};
+use http_cache_store::{Store, Target};
 use http_cache_wire::fault::Fault;
 use http_cache_wire::message::{BodyLocation, request_in, time_of};
 use http_cache_wire::parts::{Written, with_body, written_check, written_own, written_own_request};
@@ -58,7 +58,7 @@ fn wait(id: u64, token: u64) -> Reply
     Reply::Notice(Notice::Wait { id, token })
 }
 
-impl<S: Shelf + Drop> Session<S> {
+impl<S: Store + Drop> Session<S> {
     // Returns the request for the client, as the intermediary forwards it.
     fn asked_request(
         &self,
@@ -143,7 +143,7 @@ impl<S: Shelf + Drop> Session<S> {
         now: Timestamp,
         is_answered: bool,
     ) -> Result<(u64, Written), Fault>
-        ensures kept { self.new.client.shelf ≡ self.old.client.shelf }
+        ensures kept { self.new.client.store ≡ self.old.client.store }
         ensures checks { IfOk result (λ sent.
             validated_at self.new.under_way.by_token sent.0 ≡ option_map (λ one. one.0) check.id) }
         ensures given { IfOk result (λ sent. AddsGiven (Some sent.0) id
@@ -178,7 +178,7 @@ impl<S: Shelf + Drop> Session<S> {
     ) -> Result<Reply, Fault>
         ensures reply { IfOk result (IsReplyFor id) }
         ensures plain { IfOk result IsPlain }
-        ensures kept { self.new.client.shelf ≡ self.old.client.shelf }
+        ensures kept { self.new.client.store ≡ self.old.client.store }
         ensures given { IfOk result (λ reply. AddsGiven (given_token reply) id
             self.old.under_way self.new.under_way) }
         ensures ungiven { OnErr result (KeepsUnderWay self.old.under_way self.new.under_way) }
@@ -202,7 +202,7 @@ impl<S: Shelf + Drop> Session<S> {
     ) -> Result<Reply, Fault>
         ensures reply { IfOk result (IsReplyFor id) }
         ensures plain { IfOk result IsPlain }
-        ensures kept { self.new.client.shelf ≡ self.old.client.shelf }
+        ensures kept { self.new.client.store ≡ self.old.client.store }
         ensures given { IfOk result (λ reply. AddsGiven (given_token reply) id
             self.old.under_way self.new.under_way) }
         ensures ungiven { OnErr result (KeepsUnderWay self.old.under_way self.new.under_way) }
@@ -237,7 +237,7 @@ impl<S: Shelf + Drop> Session<S> {
         now: Timestamp,
     ) -> Result<Reply, Fault>
         ensures reply { IfOk result (IsReplyFor id) }
-        ensures kept { self.new.client.shelf ≡ self.old.client.shelf }
+        ensures kept { self.new.client.store ≡ self.old.client.store }
         ensures no_wait { IfOk result (λ reply. waits_for reply ≡ None) }
         ensures only { IfOk result (λ reply. IsOnlyCheck reply
             (λ id. are_validating id self.old.under_way.by_token)
@@ -266,7 +266,7 @@ impl<S: Shelf + Drop> Session<S> {
     ) -> Result<Reply, Fault>
         ensures reply { IfOk result (IsReplyFor id) }
         ensures plain { IfOk result IsPlain }
-        ensures kept { self.new.client.shelf ≡ self.old.client.shelf }
+        ensures kept { self.new.client.store ≡ self.old.client.store }
         ensures given { IfOk result (λ reply. AddsGiven (given_token reply) id
             self.old.under_way self.new.under_way) }
         ensures ungiven { OnErr result (KeepsUnderWay self.old.under_way self.new.under_way) }
@@ -293,8 +293,8 @@ impl<S: Shelf + Drop> Session<S> {
         ensures only { IfOk result (λ reply. IsOnlyCheck reply
             (λ id. are_validating id self.old.under_way.by_token)
             (validated_at self.new.under_way.by_token)) }
-        ensures kept { KeepsAll (S.stored self.old.client.shelf) (S.next_id self.old.client.shelf)
-            (S.stored self.new.client.shelf) (S.next_id self.new.client.shelf) }
+        ensures kept { KeepsAll (S.stored self.old.client.store) (S.next_id self.old.client.store)
+            (S.stored self.new.client.store) (S.next_id self.new.client.store) }
         ensures given { IfOk result (λ reply. AddsGiven (given_token reply) id
             self.old.under_way self.new.under_way) }
         ensures ungiven { OnErr result (KeepsUnderWay self.old.under_way self.new.under_way) }
@@ -334,8 +334,8 @@ impl<S: Shelf + Drop> Session<S> {
         ensures only { IfOk result (λ reply. IsOnlyCheck reply
             (λ id. are_validating id self.old.under_way.by_token)
             (validated_at self.new.under_way.by_token)) }
-        ensures kept { KeepsAll (S.stored self.old.client.shelf) (S.next_id self.old.client.shelf)
-            (S.stored self.new.client.shelf) (S.next_id self.new.client.shelf) }
+        ensures kept { KeepsAll (S.stored self.old.client.store) (S.next_id self.old.client.store)
+            (S.stored self.new.client.store) (S.next_id self.new.client.store) }
         ensures given { IfOk result (λ reply. AddsGiven (given_token reply) id
             self.old.under_way self.new.under_way) }
         ensures ungiven { OnErr result (KeepsUnderWay self.old.under_way self.new.under_way) }

@@ -1,7 +1,7 @@
 //! Bodies in pieces: of responses that are stored once they are whole, and of stored responses.
 ghost use Rattle.std.specs.Prelude.{◌≡◌, true, false, None, IfOk, IfErr, IfSome, OnErr};
 ghost use Rattle.serde_json.specs.View.{view};
-ghost use Rattle.http_cache_storage.specs.Shelf.{KeepsAll};
+ghost use Rattle.http_cache_store.specs.Store.{KeepsAll};
 ghost use Rattle.http_cache_wire.specs.Wire.{IsRefused, IsRefusal, IsReplyFor, IsPlain, HasRest, asks_for_body, given_token};
 ghost use Rattle.http_cache_errands.specs.UnderWay.{id_at};
 ghost use Rattle.http_cache_errands.specs.Void.{is_void};
@@ -14,7 +14,7 @@ use http_cache_client::{Body, Coming as Announced, Times};
 use http_cache_errands::{Coming, Errand, Rest, UnderWay};
 use http_cache_fields::headers::copy_of_map;
 use http_cache_frames::{Frame, Notice, Reason, Reply, number_under};
-use http_cache_storage::Shelf;
+use http_cache_store::Store;
 use http_cache_wire::fault::Fault;
 use http_cache_wire::message::BodyLocation;
 use http_cache_wire::parts::{Written, with_body};
@@ -29,7 +29,7 @@ fn copy_of(response: &Response<Body>) -> Result<response::Parts, AllocError> {
     })
 }
 
-impl<S: Shelf + Drop> Session<S> {
+impl<S: Store + Drop> Session<S> {
     // Returns the answer to a response whose body is on its way, if it is stored once that is
     // whole.
     fn announced(
@@ -40,8 +40,8 @@ impl<S: Shelf + Drop> Session<S> {
         length: Option<u64>,
         times: &Times,
     ) -> Result<Option<Announced>, Fault>
-        ensures kept { KeepsAll (S.stored self.old.client.shelf) (S.next_id self.old.client.shelf)
-            (S.stored self.new.client.shelf) (S.next_id self.new.client.shelf) }
+        ensures kept { KeepsAll (S.stored self.old.client.store) (S.next_id self.old.client.store)
+            (S.stored self.new.client.store) (S.next_id self.new.client.store) }
         ensures under_way { self.new.under_way ≡ self.old.under_way }
         ensures invalidations { self.new.invalidations ≡ self.old.invalidations }
     {
@@ -92,8 +92,8 @@ impl<S: Shelf + Drop> Session<S> {
         response: &Response<Body>,
         times: &Times,
     ) -> Result<Option<Reply>, Fault>
-        ensures kept { KeepsAll (S.stored self.old.client.shelf) (S.next_id self.old.client.shelf)
-            (S.stored self.new.client.shelf) (S.next_id self.new.client.shelf) }
+        ensures kept { KeepsAll (S.stored self.old.client.store) (S.next_id self.old.client.store)
+            (S.stored self.new.client.store) (S.next_id self.new.client.store) }
         ensures as_outdated { is_void self.new.invalidations self.new.under_way.by_token token
             ≡ is_void self.old.invalidations self.old.under_way.by_token token }
         ensures under_way { KeepsUnderWay self.old.under_way self.new.under_way }
@@ -176,16 +176,16 @@ impl<S: Shelf + Drop> Session<S> {
         frame: Frame,
     ) -> Result<Reply, Fault>
         ensures kept { IfErr result (λ fault. IsRefused fault
-            → KeepsAll (S.stored self.old.client.shelf) (S.next_id self.old.client.shelf)
-            (S.stored self.new.client.shelf) (S.next_id self.new.client.shelf)) }
+            → KeepsAll (S.stored self.old.client.store) (S.next_id self.old.client.store)
+            (S.stored self.new.client.store) (S.next_id self.new.client.store)) }
         ensures under_way { IfErr result (λ fault. IsRefused fault
             → KeepsUnderWay self.old.under_way self.new.under_way) }
         ensures next { IfOk result (λ reply. GivesNext (given_token reply)
             self.old.under_way.next_token self.new.under_way.next_token) }
         ensures rest { HasRest (view frame.line)
-            → S.next_id self.new.client.shelf ≡ S.next_id self.old.client.shelf }
+            → S.next_id self.new.client.store ≡ S.next_id self.old.client.store }
         ensures outdated { is_void self.old.invalidations self.old.under_way.by_token token ≡ true
-            → S.next_id self.new.client.shelf ≡ S.next_id self.old.client.shelf }
+            → S.next_id self.new.client.store ≡ S.next_id self.old.client.store }
         ensures reply { IfOk result (λ reply. ¬ (IsRefusal reply)) }
         ensures ends { IfOk result (λ reply. asks_for_body reply ≡ false) }
         ensures over { IfOk result (λ reply. Ends token reply

@@ -3,8 +3,8 @@ ghost use Rattle.std.specs.Prelude.{◌≡◌, ◌≤◌, true, false, None, All
 ghost use Rattle.http.specs.Response.{body_of};
 ghost use Rattle.serde_json.specs.View.{view};
 ghost use Rattle.http_cache_plans.specs.Plan.{IsElsewhere};
-ghost use Rattle.http_cache_storage.specs.Shelf.{KeepsAll};
-ghost use Rattle.http_cache_storage.specs.Target.{text_of};
+ghost use Rattle.http_cache_store.specs.Store.{KeepsAll};
+ghost use Rattle.http_cache_store.specs.Target.{text_of};
 ghost use Rattle.http_cache_wire.specs.Wire.{IsRefused, IsRefusal, IsReplyFor, asks_for_body, given_token, HasRest};
 ghost use Rattle.http_cache_errands.specs.UnderWay.{id_at};
 ghost use Rattle.http_cache_errands.specs.Void.{is_void, last_invalidation, IsUnstorableAt};
@@ -19,7 +19,7 @@ use http_cache_frames::{Frame, Notice, Reason, Reply, is_true_under, number_unde
 use http_cache_messages::complete::is_complete;
 use http_cache_plans::invalidate::invalidated;
 use http_cache_plans::plan::Change;
-use http_cache_storage::{Shelf, Target};
+use http_cache_store::{Store, Target};
 use http_cache_wire::fault::Fault;
 use http_cache_wire::message::{response_in, time_of, time_under};
 use http_cache_wire::parts::{done, with_body, written_own};
@@ -28,7 +28,7 @@ use serde_json::Value;
 use std::alloc::Global;
 use std::mem;
 
-impl<S: Shelf + Drop> Session<S> {
+impl<S: Store + Drop> Session<S> {
     // Forbids to store the response to a request that is older than an invalidation of its target
     // (RFC 9111, section 4.4).
     pub(crate) fn forbid_if_invalidated(&mut self, token: u64)
@@ -58,13 +58,13 @@ impl<S: Shelf + Drop> Session<S> {
         response: Response<Body>,
         times: Times,
     ) -> Result<Received, Fault>
-        ensures kept { OnErr result (KeepsAll (S.stored self.old.client.shelf)
-            (S.next_id self.old.client.shelf)
-            (S.stored self.new.client.shelf) (S.next_id self.new.client.shelf)) }
+        ensures kept { OnErr result (KeepsAll (S.stored self.old.client.store)
+            (S.next_id self.old.client.store)
+            (S.stored self.new.client.store) (S.next_id self.new.client.store)) }
         ensures rest { IsElsewhere (body_of response)
-            → S.next_id self.new.client.shelf ≡ S.next_id self.old.client.shelf }
+            → S.next_id self.new.client.store ≡ S.next_id self.old.client.store }
         ensures outdated { IsUnstorableAt self.old.under_way.by_token token
-            → S.next_id self.new.client.shelf ≡ S.next_id self.old.client.shelf }
+            → S.next_id self.new.client.store ≡ S.next_id self.old.client.store }
         ensures under_way { KeepsUnderWay self.old.under_way self.new.under_way }
     {
         let Some(under_way) = self.under_way.by_token.get_mut(&token) else {
@@ -138,7 +138,7 @@ impl<S: Shelf + Drop> Session<S> {
         pieces: Option<u64>,
     ) -> Result<Reply, Fault>
         ensures reply { IfOk result (IsReplyFor under_way.id) }
-        ensures kept { self.new.client.shelf ≡ self.old.client.shelf }
+        ensures kept { self.new.client.store ≡ self.old.client.store }
         ensures given { IfOk result (λ reply. AddsGiven (given_token reply) under_way.id
             self.old.under_way self.new.under_way) }
         ensures ungiven { OnErr result (KeepsUnderWay self.old.under_way self.new.under_way) }
@@ -194,12 +194,12 @@ impl<S: Shelf + Drop> Session<S> {
         pieces: Option<u64>,
     ) -> Result<Reply, Fault>
         ensures kept { IfErr result (λ fault. IsRefused fault
-            → KeepsAll (S.stored self.old.client.shelf) (S.next_id self.old.client.shelf)
-            (S.stored self.new.client.shelf) (S.next_id self.new.client.shelf)) }
+            → KeepsAll (S.stored self.old.client.store) (S.next_id self.old.client.store)
+            (S.stored self.new.client.store) (S.next_id self.new.client.store)) }
         ensures rest { IsElsewhere (body_of response)
-            → S.next_id self.new.client.shelf ≡ S.next_id self.old.client.shelf }
+            → S.next_id self.new.client.store ≡ S.next_id self.old.client.store }
         ensures outdated { is_void self.old.invalidations self.old.under_way.by_token token ≡ true
-            → S.next_id self.new.client.shelf ≡ S.next_id self.old.client.shelf }
+            → S.next_id self.new.client.store ≡ S.next_id self.old.client.store }
         ensures under_way { IfErr result (λ fault. IsRefused fault
             → KeepsUnderWay self.old.under_way self.new.under_way) }
         ensures next { IfOk result (λ reply. GivesNext (given_token reply)
@@ -237,12 +237,12 @@ impl<S: Shelf + Drop> Session<S> {
         frame: Frame,
     ) -> Result<Reply, Fault>
         ensures kept { IfErr result (λ fault. IsRefused fault
-            → KeepsAll (S.stored self.old.client.shelf) (S.next_id self.old.client.shelf)
-            (S.stored self.new.client.shelf) (S.next_id self.new.client.shelf)) }
+            → KeepsAll (S.stored self.old.client.store) (S.next_id self.old.client.store)
+            (S.stored self.new.client.store) (S.next_id self.new.client.store)) }
         ensures rest { HasRest (view frame.line)
-            → S.next_id self.new.client.shelf ≡ S.next_id self.old.client.shelf }
+            → S.next_id self.new.client.store ≡ S.next_id self.old.client.store }
         ensures outdated { is_void self.old.invalidations self.old.under_way.by_token token ≡ true
-            → S.next_id self.new.client.shelf ≡ S.next_id self.old.client.shelf }
+            → S.next_id self.new.client.store ≡ S.next_id self.old.client.store }
         ensures under_way { IfErr result (λ fault. IsRefused fault
             → KeepsUnderWay self.old.under_way self.new.under_way) }
         ensures next { IfOk result (λ reply. GivesNext (given_token reply)
@@ -277,8 +277,8 @@ impl<S: Shelf + Drop> Session<S> {
         token: u64,
         now: Timestamp,
     ) -> Result<Option<Response<Bytes>>, Fault>
-        ensures kept { KeepsAll (S.stored self.old.client.shelf) (S.next_id self.old.client.shelf)
-            (S.stored self.new.client.shelf) (S.next_id self.new.client.shelf) }
+        ensures kept { KeepsAll (S.stored self.old.client.store) (S.next_id self.old.client.store)
+            (S.stored self.new.client.store) (S.next_id self.new.client.store) }
         ensures under_way { KeepsUnderWay self.old.under_way self.new.under_way }
     {
         let Some(under_way) = self.under_way.by_token.get_mut(&token) else {
@@ -344,8 +344,8 @@ impl<S: Shelf + Drop> Session<S> {
         is_invalid: bool,
         now: Timestamp,
     ) -> Result<Reply, Fault>
-        ensures kept { KeepsAll (S.stored self.old.client.shelf) (S.next_id self.old.client.shelf)
-            (S.stored self.new.client.shelf) (S.next_id self.new.client.shelf) }
+        ensures kept { KeepsAll (S.stored self.old.client.store) (S.next_id self.old.client.store)
+            (S.stored self.new.client.store) (S.next_id self.new.client.store) }
         ensures under_way { IfErr result (λ fault. IsRefused fault
             → KeepsUnderWay self.old.under_way self.new.under_way) }
         ensures next { IfOk result (λ reply. GivesNext (given_token reply)
@@ -367,8 +367,8 @@ impl<S: Shelf + Drop> Session<S> {
 
     // Replies to the failure of a request under way.
     pub(crate) fn failed(&mut self, alloc: Global, token: u64, line: &Value) -> Result<Reply, Fault>
-        ensures kept { KeepsAll (S.stored self.old.client.shelf) (S.next_id self.old.client.shelf)
-            (S.stored self.new.client.shelf) (S.next_id self.new.client.shelf) }
+        ensures kept { KeepsAll (S.stored self.old.client.store) (S.next_id self.old.client.store)
+            (S.stored self.new.client.store) (S.next_id self.new.client.store) }
         ensures under_way { IfErr result (λ fault. IsRefused fault
             → KeepsUnderWay self.old.under_way self.new.under_way) }
         ensures next { IfOk result (λ reply. GivesNext (given_token reply)

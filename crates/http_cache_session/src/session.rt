@@ -2,14 +2,14 @@
 ghost use Rattle.std.specs.Prelude.{◌≡◌, ◌⊎◌, ℕ, true, false, Some, None, codes, IfOk, IfErr, OnErr};
 ghost use Rattle.serde_json.specs.View.{view};
 ghost use Rattle.http_cache_frames.specs.Line.{number_under};
-ghost use Rattle.http_cache_storage.specs.Shelf.{KeepsAll};
+ghost use Rattle.http_cache_store.specs.Store.{KeepsAll};
 ghost use Rattle.http_cache_wire.specs.Wire.{IsRefused, IsRefusal, IsReplyFor, given_token, reply_id};
 ghost use Rattle.http_cache_wire.specs.Wire.{HandsOver, HasRest, IsPlain, asks_for_body};
 ghost use Rattle.http_cache_session.specs.Session.{GivesNext, KeepsUnderWay, Ends};
 ghost use Rattle.http_cache_session.specs.Session.{IsOnlyCheck, NamesUnderWay};
 ghost use Rattle.http_cache_errands.specs.UnderWay.{id_at, are_validating, validated_at};
 ghost use Rattle.http_cache_errands.specs.Void.{is_void};
-ghost use Rattle.http_cache_session.specs.State.{shelf_of, next_token, id_under_way};
+ghost use Rattle.http_cache_session.specs.State.{store_of, next_token, id_under_way};
 ghost use Rattle.http_cache_session.specs.State.{is_being_validated, is_outdated, validated_under_way};
 
 use http::{Method, Response};
@@ -17,7 +17,7 @@ use http_cache_client::{Body, Client};
 use http_cache_errands::{Invalidations, UnderWays};
 use http_cache_frames::{Counts, Frame, Lost, Notice, Reason, Reply, Turn, text_under};
 use http_cache_intermediary::Intermediary;
-use http_cache_storage::Shelf;
+use http_cache_store::Store;
 use http_cache_wire::fault::Fault;
 use http_cache_wire::message::time_of;
 use http_cache_wire::operation::{Operation, id_of, token_of};
@@ -40,16 +40,18 @@ pub struct Settings {
     pub stored_body: u64,
 }
 
-/// The amount that a shelf stores.
+/// The amount that a store stores.
 #[derive(Clone, Copy, Debug, PartialEq, Eq)]
 pub struct Stored {
     /// The number of responses.
     pub responses: u64,
-    /// The bytes of their fields and bodies.
+    /// What they count for the limit of bytes.
     pub bytes: u64,
+    /// The number of removed responses whose files couldn't be removed, if the store is failing.
+    pub failing: Option<u64>,
 }
 
-/// A caching client over a shelf, and the requests under way.
+/// A caching client over a store, and the requests under way.
 #[derive(Drop)]
 pub struct Session<S: Drop> {
     pub(crate) client: Client<S>,
@@ -63,10 +65,10 @@ pub(crate) fn more(count: &mut u64) {
     *count = count.saturating_add(1);
 }
 
-impl<S: Shelf + Drop> Session<S> {
+impl<S: Store + Drop> Session<S> {
     /// Returns a session with nothing under way.
     pub fn new(alloc: Global, client: Client<S>, settings: Settings) -> Session<S>
-        ensures shelf { shelf_of result ≡ client.shelf }
+        ensures store { store_of result ≡ client.store }
         ensures next { next_token result ≡ 1 }
         ensures none { (token : ℕ) → id_under_way result token ≡ None }
     {
@@ -79,12 +81,12 @@ impl<S: Shelf + Drop> Session<S> {
         }
     }
 
-    /// Returns the shelf, and drops the session.
-    pub fn into_shelf(self) -> S
-        ensures { result ≡ shelf_of self }
+    /// Returns the store, and drops the session.
+    pub fn into_store(self) -> S
+        ensures { result ≡ store_of self }
     {
         let Session { client, .. } = self;
-        client.into_shelf()
+        client.into_store()
     }
 
     pub(crate) fn written(
@@ -100,17 +102,17 @@ impl<S: Shelf + Drop> Session<S> {
     fn remove(&mut self, alloc: Global, id: u64, line: &Value) -> Result<Reply, Fault>
         ensures reply { IfOk result (IsReplyFor id) }
         ensures none { IfOk result (λ reply. given_token reply ≡ None) }
-        ensures kept { OnErr result (KeepsAll (S.stored self.old.client.shelf)
-            (S.next_id self.old.client.shelf)
-            (S.stored self.new.client.shelf) (S.next_id self.new.client.shelf)) }
-        ensures next_id { S.next_id self.new.client.shelf ≡ S.next_id self.old.client.shelf }
+        ensures kept { OnErr result (KeepsAll (S.stored self.old.client.store)
+            (S.next_id self.old.client.store)
+            (S.stored self.new.client.store) (S.next_id self.new.client.store)) }
+        ensures next_id { S.next_id self.new.client.store ≡ S.next_id self.old.client.store }
         ensures under_way { self.new.under_way ≡ self.old.under_way }
     {
         let Some(text) = text_under(line, "target") else {
             return Err(Fault::Refused(Reason::NoTarget));
         };
         let targets = targets_of(alloc, text)?;
-        let responses = self.client.remove(alloc, &targets)? as u64;
+        let responses = self.client.remove(&targets) as u64;
         self.invalidate(alloc, &targets);
         Ok(Reply::Notice(Notice::Removed { id, responses }))
     }
@@ -118,13 +120,13 @@ impl<S: Shelf + Drop> Session<S> {
     fn sweep(&mut self, id: u64, line: &Value) -> Result<Reply, Fault>
         ensures reply { IfOk result (IsReplyFor id) }
         ensures none { IfOk result (λ reply. given_token reply ≡ None) }
-        ensures kept { OnErr result (KeepsAll (S.stored self.old.client.shelf)
-            (S.next_id self.old.client.shelf)
-            (S.stored self.new.client.shelf) (S.next_id self.new.client.shelf)) }
-        ensures next_id { S.next_id self.new.client.shelf ≡ S.next_id self.old.client.shelf }
+        ensures kept { OnErr result (KeepsAll (S.stored self.old.client.store)
+            (S.next_id self.old.client.store)
+            (S.stored self.new.client.store) (S.next_id self.new.client.store)) }
+        ensures next_id { S.next_id self.new.client.store ≡ S.next_id self.old.client.store }
         ensures under_way { self.new.under_way ≡ self.old.under_way }
     {
-        let removed = self.client.sweep(time_of(line)?)? as u64;
+        let removed = self.client.sweep(time_of(line)?) as u64;
         Ok(Reply::Notice(Notice::Swept { id, removed }))
     }
 
@@ -132,6 +134,7 @@ impl<S: Shelf + Drop> Session<S> {
         Counts {
             responses: stored.responses,
             bytes: stored.bytes,
+            failing: stored.failing,
             under_way: self.under_way.len() as u64,
             ..self.counts
         }
@@ -145,10 +148,10 @@ impl<S: Shelf + Drop> Session<S> {
         stored: Stored,
     ) -> Result<Reply, Fault>
         ensures kept { IfErr result (λ fault. IsRefused fault
-            → KeepsAll (S.stored self.old.client.shelf) (S.next_id self.old.client.shelf)
-            (S.stored self.new.client.shelf) (S.next_id self.new.client.shelf)) }
+            → KeepsAll (S.stored self.old.client.store) (S.next_id self.old.client.store)
+            (S.stored self.new.client.store) (S.next_id self.new.client.store)) }
         ensures rest { HasRest (view frame.line)
-            → S.next_id self.new.client.shelf ≡ S.next_id self.old.client.shelf }
+            → S.next_id self.new.client.store ≡ S.next_id self.old.client.store }
         ensures under_way { IfErr result (λ fault. IsRefused fault
             → KeepsUnderWay self.old.under_way self.new.under_way) }
         ensures next { IfOk result (λ reply. GivesNext (given_token reply)
@@ -167,7 +170,7 @@ impl<S: Shelf + Drop> Session<S> {
             ⊎ (operation ≡ Operation.Failed (Some token))
             ⊎ (operation ≡ Operation.Complete (Some token))
             → is_void self.old.invalidations self.old.under_way.by_token token ≡ true
-            → S.next_id self.new.client.shelf ≡ S.next_id self.old.client.shelf }
+            → S.next_id self.new.client.store ≡ S.next_id self.old.client.store }
         ensures over { (token : ℕ)
             → (operation ≡ Operation.Received (Some token))
             ⊎ (operation ≡ Operation.Failed (Some token))
@@ -215,14 +218,14 @@ impl<S: Shelf + Drop> Session<S> {
         }
     }
 
-    /// Returns the shelf.
-    pub fn shelf(&self) -> &S
-        ensures { result.now ≡ shelf_of self.now }
+    /// Returns the store.
+    pub fn store(&self) -> &S
+        ensures { result.now ≡ store_of self.now }
     {
-        self.client.shelf()
+        self.client.store()
     }
 
-    /// Returns the reply to a frame. `stored` is what the shelf stores now, for `stats`.
+    /// Returns the reply to a frame. `stored` is what the store stores now, for `stats`.
     ///
     /// A reply that refuses the frame (any `error` but "no response") leaves what is stored and
     /// under way as it was. Any other reply to `received`, `failed` or `complete` ends the request
@@ -236,8 +239,8 @@ impl<S: Shelf + Drop> Session<S> {
         ensures given { IfOk result (λ turn. GivesNext (given_token turn.reply)
             (next_token self.old) (next_token self.new)) }
         ensures kept { IfOk result (λ turn. IsRefusal turn.reply
-            → KeepsAll (S.stored (shelf_of self.old)) (S.next_id (shelf_of self.old))
-            (S.stored (shelf_of self.new)) (S.next_id (shelf_of self.new))) }
+            → KeepsAll (S.stored (store_of self.old)) (S.next_id (store_of self.old))
+            (S.stored (store_of self.new)) (S.next_id (store_of self.new))) }
         ensures under_way { IfOk result (λ turn. IsRefusal turn.reply → (token : ℕ)
             → id_under_way self.new token ≡ id_under_way self.old token) }
         ensures over { IfOk result (λ turn. ¬ (IsRefusal turn.reply) → (token : ℕ)
@@ -254,10 +257,10 @@ impl<S: Shelf + Drop> Session<S> {
             → IsOnlyCheck turn.reply (is_being_validated self.old)
             (validated_under_way self.new)) }
         ensures rest { HasRest (view frame.line)
-            → S.next_id (shelf_of self.new) ≡ S.next_id (shelf_of self.old) }
+            → S.next_id (store_of self.new) ≡ S.next_id (store_of self.old) }
         ensures outdated { (token : ℕ) → HandsOver (view frame.line) token
             → is_outdated self.old token ≡ true
-            → S.next_id (shelf_of self.new) ≡ S.next_id (shelf_of self.old) }
+            → S.next_id (store_of self.new) ≡ S.next_id (store_of self.old) }
     {
         more(&mut self.counts.frames);
         let id = id_of(&frame.line);

@@ -1,6 +1,2 @@
--- Lemmas about a store.
-pub mod StoreLemmas
-pub mod TargetLemmas
-pub mod TargetLaws
-pub mod ShowingLemmas
-pub mod LoadLemmas
+-- Lemmas on texts and lists.
+pub mod EndingLemmas

@@ -1,7 +1,3 @@
--- What a store writes to its file, and what it reads from it.
-pub mod Text
+-- What a client stores, and under which text.
+pub mod Store
 pub mod Target
-pub mod Row
-pub mod Showing
-pub mod Loaded
-pub mod Statements

@@ -1,45 +1,57 @@
--- The texts from which a target is read.
-use Rattle.std.specs.Prelude.{◌≡◌, ◌≤◌, ℕ, ◌==◌, List, [], ◌∷◌, ◌++◌, length, drop, codes, Option, Some, None}
-use Rattle.std.specs.List.{before_first}
-use Rattle.http_uri.specs.Uri.{Spells}
+-- The text under which the responses of a target are stored (RFC 9110, section 7.1).
+use Rattle.std.specs.Prelude.{◌≡◌, ℕ, ◌-◌, List, [], ◌∷◌, ◌++◌, Option, Some, None, codes, bytes_eq, drop, length, string_bytes, take, unwrap_or, if◌then◌else◌}
+use Rattle.http_uri.specs.ByteClasses.{lowercase, framed_text}
+use Rattle.http_uri.specs.Uri.{uri_scheme, uri_authority, uri_path, uri_query}
 use Rattle.http_uri.specs.declared.uri.Uri.{Uri}
-use Rattle.http_cache_semantics.specs.Headers.{Headers, first_text}
-use Rattle.http_cache_storage.specs.Target.{text_of, target_text}
-use Rattle.http_cache_storage.specs.declared.target.Target.{Target}
+use Rattle.http_cache_fields.specs.Headers.{Headers, first_text}
+use Rattle.http_cache_store.specs.declared.target.Target.{Target}
 
--- the text is cut at its first `//`
-pub record IsCut (text front rest : List ℕ) : Type 0 where
-  pub is : text ≡ front ++ (codes "//" ++ rest)
-  pub first : (xs ys : List ℕ) → text ≡ xs ++ (codes "//" ++ ys) → length front ≤ length xs
+abbrev pub text_of : Target → List ℕ
+text_of t = string_bytes t.text
 
--- HOST of `HOST/PATH`
-abbrev pub host_in : List ℕ → List ℕ
-host_in rest = before_first (λ b. b == 47) rest
+-- the text without the ending, if it has it
+abbrev pub without_ending : List ℕ → List ℕ → List ℕ
+without_ending ending text =
+    if bytes_eq (drop (length text - length ending) text) ending then take (length text - length ending) text else text
 
--- the path of `HOST/PATH`, with its `/`, or nothing
-abbrev pub path_in : List ℕ → List ℕ
-path_in rest = drop (length (host_in rest)) rest
+-- an authority without the default port of its scheme (RFC 9110, section 4.2.3)
+abbrev pub without_default_port : List ℕ → List ℕ → List ℕ
+without_default_port scheme authority =
+    if bytes_eq scheme (codes "http") then without_ending (codes ":80") authority
+    else if bytes_eq scheme (codes "https") then without_ending (codes ":443") authority
+    else authority
 
--- the request for `SCHEME//REST` has the URI `SCHEME://REST` and no Host; the request for
--- `//HOST/PATH` has the URI `/PATH` and the Host HOST
-abbrev pub IsAskedAs : List ℕ → List ℕ → Uri → Option (List ℕ) → Type 0
-IsAskedAs [] rest uri host = Spells (path_in rest) uri × (host ≡ Some (host_in rest))
-IsAskedAs (b ∷ bs) rest uri host = Spells ((b ∷ bs) ++ (codes "://" ++ rest)) uri × (host ≡ None)
+abbrev pub scheme_of : Uri → List ℕ
+scheme_of uri = unwrap_or (uri_scheme uri) []
 
--- the request that is made up from the text has this URI and Host
-pub record IsMadeUp (text : List ℕ) (uri : Uri) (host : Option (List ℕ)) : Type 0 where
-  pub front : List ℕ
-  pub rest : List ℕ
-  pub cut : IsCut text front rest
-  pub asked : IsAskedAs front rest uri host
+-- the authority of the request target, or else Host
+abbrev pub named_authority : Option (List ℕ) → Headers → List ℕ
+named_authority (Some authority) headers = authority
+named_authority None headers = unwrap_or (first_text headers (codes "host")) []
 
-abbrev pub IsFound : Option Target → Uri → Headers → Type 0
-IsFound None uri headers = ⊥
-IsFound (Some target) uri headers = text_of target ≡ target_text uri headers
+abbrev pub authority_of : Uri → Headers → List ℕ
+authority_of uri headers =
+    without_default_port (scheme_of uri) (named_authority (uri_authority uri) headers)
 
--- a target has the text: the request that is made up from the text has that target
-pub record IsTargetText (text : List ℕ) : Type 0 where
-  pub uri : Uri
-  pub headers : Headers
-  pub made_up : IsMadeUp text uri (first_text headers (codes "host"))
-  pub text_is : target_text uri headers ≡ text
+-- an empty path is `/` (RFC 9110, section 4.2.3)
+abbrev pub path_or_root : List ℕ → List ℕ
+path_or_root [] = codes "/"
+path_or_root (b ∷ bs) = b ∷ bs
+
+-- the text before the path in lower case, the path and the query
+abbrev pub text_after : List ℕ → List ℕ → Option (List ℕ) → List ℕ
+text_after before path query = lowercase before ++ path_or_root path ++ framed_text (codes "?") query []
+
+-- the text is that of a path and a query after the scheme and the authority
+pub record IsAfter (before text : List ℕ) : Type 0 where
+  pub path : List ℕ
+  pub query : Option (List ℕ)
+  pub is : text ≡ text_after before path query
+
+-- the scheme and the authority of a request, as the texts of its origin begin
+abbrev pub origin_text : Uri → Headers → List ℕ
+origin_text uri headers = scheme_of uri ++ codes "//" ++ authority_of uri headers
+
+unfoldable pub target_text : Uri → Headers → List ℕ
+target_text uri headers =
+    text_after (origin_text uri headers) (uri_path uri) (uri_query uri)

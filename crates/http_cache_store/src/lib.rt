@@ -1,23 +1,12 @@
-//! Stored responses that outlive the process: a [`Store`] is a shelf of `http_cache_shelf` with a
-//! journal in a sqlite file.
+//! The interface between a caching client and a store of responses: the trait [`Store`], and the
+//! [`Target`] under which a response is stored (RFC 9111, section 2).
 //!
-//! Look-ups are answered from memory. Each change is written to the file before it is made in
-//! memory. So `format`, `statements` and `journal` know only the file, and `load` and `store` both.
+//! It stores nothing itself: `http_cache_memory_store` keeps responses in memory,
+//! `http_cache_disk_store` in a directory.
 #![tactic(auto)]
 
-pub(crate) mod convert;
-pub mod error;
-pub(crate) mod format;
-pub(crate) mod journal;
-pub(crate) mod load;
-pub mod options;
-pub(crate) mod record;
-pub(crate) mod row;
-pub(crate) mod statements;
 pub mod store;
-pub(crate) mod target;
-pub(crate) mod text;
+pub mod target;
 
-pub use error::StoreError;
-pub use options::{Durability, StoreOptions};
-pub use store::Store;
+pub use store::{ResponseId, Store, StoreError, StoredResponse};
+pub use target::Target;

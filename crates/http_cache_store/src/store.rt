@@ -1,247 +1,237 @@
-//! A shelf in memory with a journal in a file. In each method of the shelf the journal writes the
-//! change, then memory gets it. The trait's clauses are about what is in memory.
-ghost use Rattle.std.specs.Prelude.{◌≡◌, ℕ, List, [], IfOk};
-ghost use Rattle.sqlite.specs.Held.{state};
-ghost use Rattle.sqlite.specs.State.{HasCleanDisk};
-ghost use Rattle.sqlite.specs.Files.{over_files};
-ghost use Rattle.sqlite.specs.Steps.{over_memory};
-ghost use Rattle.http_cache_store.specs.Loaded.{AreOfFile};
+//! The trait of a store, stored responses and their ids, and the errors.
+//!
+//! No code here knows how responses are stored. Every clause is about ghost members: what is stored
+//! for each target's text, what is seen of a body, and the next id. So a client is proved once for
+//! all stores.
+ghost use Rattle.std.specs.Prelude.{◌≡◌, false, None, ℕ, List, map, IfOk, OnOk, IsErrOf};
+ghost use Rattle.http_cache_policy.specs.Exchange.{Exchange};
+ghost use Rattle.http_cache_store.specs.declared.store.StoreError.TheVariants.{Memory};
 
-use crate::error::StoreError;
-use crate::format::prepare;
-use crate::journal::Journal;
-use crate::load::{last_id, last_use, load};
-use crate::options::StoreOptions;
+use crate::target::Target;
 use bytes::Bytes;
-use http_cache_semantics::CachePolicy;
-use http_cache_shelf::{
-    Limits, MemoryShelf, ResponseId, Shelf, ShelfError, StoredResponse, Target,
-};
+use http_cache_policy::policy::CachePolicy;
 use jiff::Timestamp;
-use sqlite::{Alter, Connection, File, FileStore, MemStore};
-use std::alloc::Global;
-use std::hash::RandomState;
+use std::alloc::{AllocError, AllocFailed, Global};
+use thiserror::Error;
 
-/// Stored responses that outlive the process.
+/// The id of a stored response. A store assigns each id once and in rising order: of two responses
+/// the newer one has the greater id.
+#[derive(Clone, Copy, Debug, PartialEq, Eq, PartialOrd, Ord, Hash)]
+pub struct ResponseId(u64);
+
+impl ResponseId {
+    /// Returns the id with a number. Only a store makes ids.
+    pub fn new(number: u64) -> ResponseId
+        ensures { result.0 ≡ number }
+    {
+        ResponseId(number)
+    }
+
+    /// Returns the number of the id, which a store may write to a file.
+    pub fn number(self) -> u64
+        ensures { result ≡ self.0 }
+    {
+        self.0
+    }
+}
+
+/// A stored response, as a look-up finds it.
+#[derive(Debug, Drop)]
+pub struct StoredResponse {
+    /// The id that `put` returned.
+    pub id: ResponseId,
+    /// The request, the head of the response, and the times of both.
+    pub policy: CachePolicy,
+    /// The body, if the store has it in memory. Otherwise `Store::body` reads it.
+    pub body: Option<Bytes>,
+}
+
+/// The reason why a call of a store failed.
+#[derive(Clone, Copy, Debug, PartialEq, Eq, Error)]
+pub enum StoreError {
+    /// There is not enough memory. What is stored is then as it was.
+    #[error("out of memory")]
+    Memory,
+    /// The store's storage failed, for instance its disc. What is stored for the target is then as
+    /// it was, or some of it is gone.
+    #[error("the store failed")]
+    Failed,
+}
+
+impl From<AllocError> for StoreError {
+    ghost from_gives = { λ _ e. e ≡ Memory };
+
+    fn from(_e: AllocError) -> StoreError {
+        StoreError::Memory
+    }
+}
+
+impl<T: Drop> From<AllocFailed<T>> for StoreError {
+    ghost from_gives = { λ _ e. e ≡ Memory };
+
+    fn from(_e: AllocFailed<T>) -> StoreError {
+        StoreError::Memory
+    }
+}
+
+/// A store of responses (RFC 9111, section 2). It has a list of stored responses for each target,
+/// newest first, and a next id, which is above every stored id.
 ///
-///     let mut store = Store::open(rt, "responses.db", StoreOptions::default())?;
+/// Removing never fails, whatever becomes of the storage. Storing may fail, and a body may turn out
+/// to be lost. A call for one target changes no other target, except that `put` and `renew` may
+/// evict others because of a limit, and that each change removes what is lost.
 ///
-/// All that is stored is in memory too, and look-ups are answered from there. A changing call is
-/// written to the file first, so after an error of the file the shelf stores what it stored before.
-#[derive(Drop)]
-pub struct Store<S: Alter> {
-    journal: Journal<S>,
-    memory: MemoryShelf,
-    limits: Limits,
-}
+/// A client makes at most one changing call for each request, as its last step. So a request
+/// changes all or nothing if each call of the store does.
+///
+/// To store responses elsewhere than `http_cache_memory_store::MemoryStore` does, implement this
+/// trait: define the ghost members over the fields, and prove each method and the law at the end.
+pub trait Store {
+    ghost use Rattle.http_cache_store.specs.Store.{StoredSeen, ShowsAll, IsInserted, renewed, without, has_id, IsTakenFor, LosesAtMost};
+    ghost use Rattle.http_cache_store.specs.Store.{AreNewestOf, KeepsOthers, KeepsAllOthers, KeepsAll, LosesSome, RemovesThese, removed_count, IsSwept, AreIdsBelow};
+    ghost use Rattle.http_cache_store.specs.Target.{text_of};
 
-fn empty_shelf(rt: &HostRuntime, limits: Limits) -> Result<MemoryShelf, StoreError>
-    ensures { IfOk result (λ shelf. (text : List ℕ)
-        → ⟦<MemoryShelf as Shelf>⟧.stored shelf text ≡ []) }
-{
-    let Ok(hasher) = RandomState::new(rt) else {
-        return Err(StoreError::NoKeys);
-    };
-    Ok(MemoryShelf::new(rt.alloc(), hasher, limits)?)
-}
+    // What is seen of a body. Two bodies of which the same is seen are taken for each other.
+    ghost mark: { List ℕ → List ℕ };
 
-fn journal_over<S: Alter + Drop>(
-    alloc: Global,
-    mut conn: Connection<S>,
-    options: &StoreOptions,
-) -> Result<Journal<S>, StoreError>
-    ensures { IfOk result (λ journal. HasCleanDisk (state S.Store journal.conn)
-        → HasCleanDisk (state S.Store conn)) }
-{
-    let next_id = last_id(&mut conn)?.saturating_add(1);
-    let next_use = last_use(&mut conn)?.saturating_add(1);
-    Ok(Journal::new(alloc, conn, options, next_id, next_use))
-}
+    // What is stored for the text of a target, newest first.
+    ghost stored: { Self → List ℕ → List StoredSeen };
 
-impl<S: Alter + Drop> Store<S> {
-    // Returns a store over a connection, in which it makes missing tables.
-    fn over(
-        rt: &HostRuntime,
-        mut conn: Connection<S>,
-        options: StoreOptions,
-    ) -> Result<Store<S>, StoreError>
-        ensures stored { IfOk result (λ store. AreOfFile S.Store store.journal.conn
-            (⟦<Store<S> as Shelf>⟧.stored store)) }
-        ensures limits { IfOk result (λ store. store.limits ≡ options.limits) }
-    {
-        prepare(rt.alloc(), &mut conn)?;
-        let mut memory = empty_shelf(rt, options.limits)?;
-        load(rt.alloc(), &mut conn, &mut memory)?;
-        let journal = journal_over(rt.alloc(), conn, &options)?;
-        memory.skip_ids_below(journal.next_number());
-        Ok(Store {
-            journal,
-            memory,
-            limits: options.limits,
-        })
-    }
-}
+    // What the next change leaves of it: all but the responses whose bodies are lost.
+    ghost lasting: { Self → List ℕ → List StoredSeen };
 
-impl Store<FileStore<File>> {
-    /// Opens the file at a path, or makes it, and reads all that is stored into memory.
-    ///
-    /// Each stored response is then from a row of the file: it has the row's id, target, policy and
-    /// body. Rows that can't be read or exceed a limit are removed from the file. A file of the
-    /// first format is converted.
+    // The id that `put` returns next.
+    ghost next_id: { Self → ℕ };
+
+    // The last look-up was of the target that has this text.
+    ghost is_read: { Self → List ℕ → Type 0 };
+
+    // A call on this store may return `Failed`.
+    ghost can_fail: { Self → Type 0 };
+
+    /// Reads what is stored for a target, so that `found` shows it. Counts as a use of the target.
     ///
     /// # Errors
     ///
-    /// - `Format` if the file is a database, but no store, or has the format of a later version.
-    /// - `NoKeys` if the system has no random bytes.
-    /// - `Memory` if there is not enough memory.
-    /// - Otherwise the error of sqlite: `DatabaseBusy` if another process has the file open,
-    ///   `CannotOpen` if it can't be opened or made, and `NotADatabase` or `DatabaseCorrupt` if it
-    ///   is no database or a damaged one; `DiskFull` or `SystemIoFailure` if the disk failed.
-    ///
-    /// A refused file stays as it is.
-    pub fn open(
-        rt: &HostRuntime,
-        path: &str,
-        options: StoreOptions,
-    ) -> Result<Store<FileStore<File>>, StoreError>
-        ensures stored { IfOk result (λ store. AreOfFile over_files store.journal.conn
-            (⟦<Store<FileStore<File>> as Shelf>⟧.stored store)) }
-        ensures limits { IfOk result (λ store. store.limits ≡ options.limits) }
-    {
-        Store::over(rt, Connection::open_with_sums(rt, path)?, options)
-    }
+    /// `Memory` if there is not enough memory, and `Failed` if the storage can't be read.
+    fn look_up(&mut self, alloc: Global, target: &Target) -> Result<(), StoreError>
+        ensures kept { KeepsAll (stored self.old) (next_id self.old)
+            (stored self.new) (next_id self.new) }
+        ensures lasting { lasting self.new ≡ lasting self.old }
+        ensures read { OnOk result (is_read self.new (text_of target.now)) }
+        ensures can_fail { IsErrOf result StoreError.Failed → can_fail self.old };
 
-    /// Commits what isn't committed yet, and closes the file.
+    /// Returns what the last look-up read, newest first. For a target other than the one looked up,
+    /// the list may be empty.
+    fn found(&self, target: &Target) -> &[StoredResponse]
+        ensures { is_read self.now (text_of target.now)
+            → ShowsAll mark result.now (stored self.now (text_of target.now)) };
+
+    /// Returns the body of the response with an id, or `None` if no such response is stored or its
+    /// body is lost. The next change removes a response whose body is lost.
     ///
     /// # Errors
     ///
-    /// The error of sqlite if the disk failed, and `Memory` if there is not enough memory.
-    pub fn close(self) -> Result<(), StoreError> {
-        let Store {
-            journal,
-            memory,
-            ..
-        } = self;
-        let conn = journal.into_connection(memory.evicted())?;
-        Ok(conn.close()?)
-    }
-}
-
-impl Store<MemStore> {
-    /// Returns an empty store in memory, for tests. It is lost when the process ends.
-    ///
-    /// # Errors
-    ///
-    /// `Memory` if there is not enough memory.
-    pub fn open_in_memory(
-        rt: &HostRuntime,
-        options: StoreOptions,
-    ) -> Result<Store<MemStore>, StoreError>
-        ensures stored { IfOk result (λ store. AreOfFile over_memory store.journal.conn
-            (⟦<Store<MemStore> as Shelf>⟧.stored store)) }
-        ensures limits { IfOk result (λ store. store.limits ≡ options.limits) }
-    {
-        Store::over(rt, Connection::open_in_memory(rt.alloc())?, options)
-    }
-}
-
-impl<S: Alter> Store<S> {
-    /// Returns the number of stored responses.
-    pub fn len(&self) -> usize {
-        self.memory.len()
-    }
-
-    /// Returns whether no response is stored.
-    pub fn is_empty(&self) -> bool {
-        self.memory.is_empty()
-    }
-
-    /// Returns the number of bytes of all stored heads and bodies.
-    pub fn size(&self) -> u64 {
-        self.memory.size()
-    }
-
-    /// Returns the limits, as set by the options of `open`.
-    pub fn limits(&self) -> Limits
-        ensures { result ≡ self.now.limits }
-    {
-        self.limits
-    }
-
-    /// Returns the error of the last call that the file refused, or `None` if it refused none.
-    pub fn fault(&self) -> Option<StoreError> {
-        self.journal.fault()
-    }
-}
-
-impl<S: Alter> Shelf for Store<S> {
-    ghost use Rattle.http_cache_shelf.specs.contracts.memory.MemoryShelfShelf.TheImpl.Laws.{ids_below-law};
-
-    ghost stored = { λ s. ⟦<MemoryShelf as Shelf>⟧.stored s.memory };
-
-    ghost next_id = { λ s. ⟦<MemoryShelf as Shelf>⟧.next_id s.memory };
-
-    ghost is_read = { λ s. ⟦<MemoryShelf as Shelf>⟧.is_read s.memory };
-
-    ghost ids_below = { λ s. ids_below-law s.memory };
-
-    fn look_up(&mut self, alloc: Global, target: &Target) -> Result<(), ShelfError> {
-        self.memory.look_up(alloc, target)
-    }
-
-    fn found(&self, target: &Target) -> &[StoredResponse] {
-        self.memory.found(target)
-    }
-
+    /// `Memory` if there is not enough memory, and `Failed` if the body can't be read now, for
+    /// instance because too many files are open.
     fn body(
         &mut self,
         alloc: Global,
         target: &Target,
         id: ResponseId,
-    ) -> Result<Option<Bytes>, ShelfError> {
-        self.memory.body(alloc, target, id)
-    }
+    ) -> Result<Option<Bytes>, StoreError>
+        ensures body { IfOk result (IsTakenFor mark id.0 (stored self.old (text_of target.now))) }
+        ensures kept { KeepsAll (stored self.old) (next_id self.old)
+            (stored self.new) (next_id self.new) }
+        ensures lost { IfOk result (λ body. body ≡ None
+            → has_id id.0 (lasting self.new (text_of target.now)) ≡ false) }
+        ensures lasting { LosesAtMost (text_of target.now) id
+            (lasting self.old) (lasting self.new) }
+        ensures can_fail { IsErrOf result StoreError.Failed → can_fail self.old };
 
+    /// Stores a response as the newest of a target, and returns its id. In the same step removes
+    /// the responses that it supersedes (RFC 9111, section 4.3.3).
+    ///
+    /// Returns `None`, and doesn't store it, if the response alone exceeds a limit of the store or
+    /// no id is left. The superseded responses are removed even then. To keep its limits the store
+    /// evicts what can't be used again, the target's oldest responses, and whole other targets.
+    ///
+    /// # Errors
+    ///
+    /// `Memory` if there is not enough memory. `Failed` if the response can't be written; the
+    /// superseded responses are then removed.
     fn put(
         &mut self,
         target: &Target,
         superseded: &[ResponseId],
         policy: CachePolicy,
         body: Bytes,
-    ) -> Result<Option<ResponseId>, ShelfError> {
-        let evicted = self.memory.evicted();
-        self.journal
-            .put(target, superseded, evicted, &policy, body.as_slice())?;
-        let stored = self.memory.put(target, superseded, policy, body);
-        self.journal.settle(&stored);
-        stored
-    }
+    ) -> Result<Option<ResponseId>, StoreError>
+        ensures put { IfOk result (IsInserted
+            (without superseded.now (lasting self.old (text_of target.now)))
+            (stored self.new (text_of target.now)) (next_id self.old) (next_id self.new)
+            policy (mark body)) }
+        ensures others { OnOk result
+            (KeepsOthers (lasting self.old) (stored self.new) (text_of target.now)) }
+        ensures failed { IsErrOf result StoreError.Failed
+            → LosesSome (text_of target.now) (lasting self.old) (stored self.new) }
+        ensures can_fail { IsErrOf result StoreError.Failed → can_fail self.old }
+        ensures kept { IsErrOf result StoreError.Memory
+            → KeepsAll (stored self.old) (next_id self.old) (stored self.new) (next_id self.new) };
 
+    /// Replaces the policy of the response with an id, for instance after a 304 (RFC 9111, section
+    /// 4.3.4), and returns whether there is one. In the same step removes superseded responses.
+    ///
+    /// The response keeps its id and its body. Eviction is as in `put`.
+    ///
+    /// # Errors
+    ///
+    /// `Memory` if there is not enough memory. `Failed` if the change can't be written; the
+    /// response and the superseded ones are then removed.
     fn renew(
         &mut self,
         target: &Target,
         superseded: &[ResponseId],
         id: ResponseId,
         policy: CachePolicy,
-    ) -> Result<bool, ShelfError> {
-        let evicted = self.memory.evicted();
-        self.journal
-            .renew(target, superseded, evicted, id, &policy)?;
-        self.memory.renew(target, superseded, id, policy)
-    }
+    ) -> Result<bool, StoreError>
+        ensures renewed { OnOk result (AreNewestOf (stored self.new (text_of target.now))
+            (renewed id.0 policy
+            (without superseded.now (lasting self.old (text_of target.now))))) }
+        ensures was_stored { IfOk result (λ was_stored. was_stored
+            ≡ has_id id.0 (without superseded.now (lasting self.old (text_of target.now)))) }
+        ensures next { next_id self.new ≡ next_id self.old }
+        ensures others { OnOk result
+            (KeepsOthers (lasting self.old) (stored self.new) (text_of target.now)) }
+        ensures failed { IsErrOf result StoreError.Failed
+            → LosesSome (text_of target.now) (lasting self.old) (stored self.new) }
+        ensures can_fail { IsErrOf result StoreError.Failed → can_fail self.old }
+        ensures kept { IsErrOf result StoreError.Memory
+            → KeepsAll (stored self.old) (next_id self.old) (stored self.new) (next_id self.new) };
 
-    fn remove(&mut self, target: &Target, ids: &[ResponseId]) -> Result<(), ShelfError> {
-        self.journal.remove(target, ids)?;
-        self.memory.remove(target, ids)
-    }
+    /// Removes responses of a target by their ids. Ignores an id that isn't stored.
+    fn remove(&mut self, target: &Target, ids: &[ResponseId])
+        ensures removed { stored self.new (text_of target.now)
+            ≡ without ids.now (lasting self.old (text_of target.now)) }
+        ensures next { next_id self.new ≡ next_id self.old }
+        ensures others { KeepsAllOthers (lasting self.old) (stored self.new) (text_of target.now) }
+        ensures lasting { KeepsAllOthers (lasting self.old) (lasting self.new) (text_of target.now) };
 
-    fn remove_targets(&mut self, targets: &[Target]) -> Result<(), ShelfError> {
-        self.journal.remove_targets(targets)?;
-        self.memory.remove_targets(targets)
-    }
+    /// Removes all that is stored for some targets in one step, for instance if an unsafe method
+    /// invalidates them (RFC 9111, section 4.4). Returns the number of removed responses.
+    fn remove_targets(&mut self, targets: &[Target]) -> usize
+        ensures count { result ≡ removed_count (lasting self.old) (map text_of targets.now) }
+        ensures removed { RemovesThese (map text_of targets.now)
+            (lasting self.old) (stored self.new) }
+        ensures next { next_id self.new ≡ next_id self.old };
 
-    fn sweep(&mut self, now: Timestamp) -> Result<usize, ShelfError> {
-        self.journal.sweep(now)?;
-        self.memory.sweep(now)
-    }
+    /// Removes exactly the responses that can't be used again at `now` or later, and returns their
+    /// number. `http_cache_messages::worth::can_be_used_again` is the rule.
+    fn sweep(&mut self, now: Timestamp) -> usize
+        ensures swept { IsSwept now.nanosecond (lasting self.old) (stored self.new) }
+        ensures next { next_id self.new ≡ next_id self.old };
+
+    // Each stored id is below the next one, and below those of the target's newer responses, so no
+    // two are equal. As `put` returns the next id and raises it, no id is assigned twice.
+    ghost ids_below: { (s : Self) (text : List ℕ) → AreIdsBelow (next_id s) (stored s text) };
 }

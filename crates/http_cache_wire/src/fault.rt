@@ -1,7 +1,6 @@
 //! The reasons why a frame isn't answered as it asks.
 use http_cache_fields::CacheError;
 use http_cache_frames::Reason;
-use http_cache_storage::ShelfError;
 use http_heads::HeadError;
 use std::alloc::AllocError;
 
@@ -35,15 +34,6 @@ impl From<HeadError> for Fault {
             HeadError::Memory => Reason::Memory,
             HeadError::Malformed => Reason::MalformedHead,
             HeadError::HeaderMapFull => Reason::FullHead,
-        })
-    }
-}
-
-impl From<ShelfError> for Fault {
-    fn from(e: ShelfError) -> Fault {
-        Fault::Refused(match e {
-            ShelfError::Memory => Reason::Memory,
-            ShelfError::Failed => Reason::StoreFailed,
         })
     }
 }

@@ -3,7 +3,7 @@ use crate::fault::Fault;
 use http::header::{HOST, HeaderValueError};
 use http::{HeaderMap, HeaderValue, Uri};
 use http_cache_frames::Reason;
-use http_cache_storage::Target;
+use http_cache_store::Target;
 use http_uri::UriError;
 use std::alloc::Global;
 

@@ -1,16 +1,14 @@
-//! Tests what a shelf in memory stores within its limits, which responses it evicts, and what a
+//! Tests what a store in memory stores within its limits, which responses it evicts, and what a
 //! sweep leaves.
 //!
 //! A case has a limit in its first line, and a step in each line after it: the call, the path of a
 //! target, the headers of a response, its body, and the outcome. For `put` that is the id of the
 //! response or `no`, and for `find` the ids found. For `sweep` it is the number of removed
 //! responses, for `count` of stored ones, and for `evicted` the ids that the last call evicted.
-//! `restore` and `skip` have a number in a sixth field. The outcome of `restore` is whether the
-//! response is stored, and of `skip` the same number.
 use bytes::Bytes;
 use http::{HeaderMap, Uri};
-use http_cache_shelf::{
-    Limits, MemoryShelf, ResponseId, Shelf, ShelfError, StoredResponse, Target,
+use http_cache_memory_store::{
+    Limits, MemoryStore, ResponseId, Store, StoreError, StoredResponse, Target,
 };
 use std::alloc::Global;
 use std::hash::RandomState;
@@ -18,7 +16,7 @@ use std::process::Abort;
 use std::test::Fail;
 use test_cases::fixtures::{after, field, policy, with, with_mut};
 
-fn cases() -> [&'static str; 9] {
+fn cases() -> [&'static str; 8] {
     [
         "responses 2
          put|/1|Cache-Control: max-age=100|x|0
@@ -38,13 +36,14 @@ fn cases() -> [&'static str; 9] {
          put|/3|Cache-Control: max-age=100|x|2
          find|/2|||
          find|/1|||0",
-        // A head here has 24 bytes, the name and the value of its one field, so a response has 34.
-        "bytes 67
+        // A response here counts 3,300: 3,072, its one field line with 24 + 192, the path with 2, and
+        // its body.
+        "bytes 6599
          put|/1|Cache-Control: max-age=100|0123456789|0
          put|/2|Cache-Control: max-age=100|0123456789|1
          count||||1
          find|/1|||",
-        "bytes 68
+        "bytes 6600
          put|/1|Cache-Control: max-age=100|0123456789|0
          put|/2|Cache-Control: max-age=100|0123456789|1
          count||||2
@@ -83,19 +82,6 @@ fn cases() -> [&'static str; 9] {
          evicted||||1 0
          put|/2|Cache-Control: max-age=100|x|3
          evicted||||",
-        // A restored response keeps its id, and ids rise.
-        "body 3
-         restore|/1|Cache-Control: max-age=100|x|true|5
-         restore|/2|Cache-Control: max-age=100|x|false|5
-         restore|/2|Cache-Control: max-age=100|four|false|6
-         restore|/2|Cache-Control: max-age=100|x|true|8
-         find|/1|||5
-         find|/2|||8
-         put|/1|Cache-Control: max-age=100|x|9
-         skip||||20|20
-         skip||||3|3
-         put|/1|Cache-Control: max-age=100|x|20
-         restore|/1|Cache-Control: max-age=100|x|false|18446744073709551615",
     ]
 }
 
@@ -128,39 +114,25 @@ fn target_of(alloc: Global, step: &str) -> Result<Target, Fail> {
     Ok(Target::of(alloc, &uri, &HeaderMap::new(alloc))?)
 }
 
-fn done<T: Drop>(outcome: Result<T, ShelfError>) -> Result<T, Fail> {
+fn done<T: Drop>(outcome: Result<T, StoreError>) -> Result<T, Fail> {
     match outcome {
         Ok(value) => Ok(value),
-        Err(_) => Err("the shelf failed")?,
+        Err(_) => Err("the store failed")?,
     }
 }
 
 fn put(
     alloc: Global,
-    shelf: &mut MemoryShelf,
+    store: &mut MemoryStore,
     target: &Target,
     step: &str,
 ) -> Result<String, Fail> {
     let body = Bytes::copy_from_slice(alloc, field(step, 3)?.as_bytes())?;
     let policy = policy(alloc, field(step, 2)?)?;
-    match done(shelf.put(target, &[], policy, body))? {
+    match done(store.put(target, &[], policy, body))? {
         Some(id) => Ok(format!(in alloc; "{}", id.number())?),
         None => Ok(String::from_str(alloc, "no")?),
     }
-}
-
-// The step has the id.
-fn restore(
-    alloc: Global,
-    shelf: &mut MemoryShelf,
-    target: &Target,
-    step: &str,
-) -> Result<String, Fail> {
-    let body = Bytes::copy_from_slice(alloc, field(step, 3)?.as_bytes())?;
-    let policy = policy(alloc, field(step, 2)?)?;
-    let id = ResponseId::new(field(step, 5)?.parse::<u64>()?);
-    let is_stored = done(shelf.restore(target, id, policy, body))?;
-    Ok(format!(in alloc; "{is_stored}")?)
 }
 
 fn push_id(text: &mut String, id: ResponseId) -> Result<(), Fail> {
@@ -179,64 +151,53 @@ fn ids_of(alloc: Global, found: &[StoredResponse]) -> Result<String, Fail> {
     Ok(text)
 }
 
-fn ids_evicted(alloc: Global, shelf: &MemoryShelf) -> Result<String, Fail> {
+fn ids_evicted(alloc: Global, store: &MemoryStore) -> Result<String, Fail> {
     let mut text = String::new(alloc);
-    for id in shelf.evicted() {
+    for id in store.evicted() {
         push_id(&mut text, *id)?;
     }
     Ok(text)
 }
 
-fn skip(alloc: Global, shelf: &mut MemoryShelf, step: &str) -> Result<String, Fail> {
-    let next = field(step, 5)?.parse::<u64>()?;
-    shelf.skip_ids_below(next);
-    Ok(format!(in alloc; "{next}")?)
-}
-
-fn outcome_of(alloc: Global, shelf: &mut MemoryShelf, step: &str) -> Result<String, Fail> {
+fn outcome_of(alloc: Global, store: &mut MemoryStore, step: &str) -> Result<String, Fail> {
     match field(step, 0)? {
         "put" => with(
             target_of(alloc, step),
-            |target| put(alloc, shelf, target, step),
+            |target| put(alloc, store, target, step),
         ),
-        "restore" => with(
-            target_of(alloc, step),
-            |target| restore(alloc, shelf, target, step),
-        ),
-        "skip" => skip(alloc, shelf, step),
-        "evicted" => ids_evicted(alloc, shelf),
+        "evicted" => ids_evicted(alloc, store),
         "find" => with(target_of(alloc, step), |target| {
-            done(shelf.look_up(alloc, target))?;
-            ids_of(alloc, shelf.found(target))
+            done(store.look_up(alloc, target))?;
+            ids_of(alloc, store.found(target))
         }),
         "sweep" => {
-            let removed = done(shelf.sweep(after(10_000_000_000)?))?;
+            let removed = store.sweep(after(10_000_000_000)?);
             Ok(format!(in alloc; "{removed}")?)
         }
-        _ => Ok(format!(in alloc; "{}", shelf.len())?),
+        _ => Ok(format!(in alloc; "{}", store.len())?),
     }
 }
 
 fn check_step(
     rt: &impl Abort,
     alloc: Global,
-    shelf: &mut MemoryShelf,
+    store: &mut MemoryStore,
     step: &str,
 ) -> Result<(), Fail> {
-    let outcome = outcome_of(alloc, shelf, step)?;
+    let outcome = outcome_of(alloc, store, step)?;
     assert_eq!(rt; outcome.as_str(), field(step, 4)?, "at {step}");
     Ok(())
 }
 
 #[test]
-fn shelves_within_limits(rt: HostRuntime) -> Result<(), Fail> {
+fn stores_within_limits(rt: HostRuntime) -> Result<(), Fail> {
     for case in cases() {
         let mut lines = case.lines();
         let limits = limits_of(lines.next().ok_or("no limits")?)?;
-        let shelf = MemoryShelf::new(rt.alloc(), RandomState::new(&rt)?, limits);
-        with_mut(shelf.map_err(Fail::from), |shelf| {
+        let store = MemoryStore::new(rt.alloc(), RandomState::new(&rt)?, limits);
+        with_mut(store.map_err(Fail::from), |store| {
             for step in lines {
-                check_step(&rt, rt.alloc(), shelf, step)?;
+                check_step(&rt, rt.alloc(), store, step)?;
             }
             Ok(())
         })?;

@@ -1,6 +1,6 @@
 //! Tests the texts of targets, and the targets of references in a response.
 use http::{HeaderMap, Uri};
-use http_cache_shelf::Target;
+use http_cache_memory_store::Target;
 use std::alloc::Global;
 use std::test::Fail;
 use test_cases::fixtures::{field, headers};

@@ -13,7 +13,7 @@ returns-in-Ok-clause-back c = λ f.
       method = c.stored_method.ensures i;
       status = c.stored_status.ensures i;
       request_headers = c.stored_request_headers.ensures i;
-      response_headers = c.stored_headers.ensures i;
+      response_headers = c.stored_headers.ensures.headers i;
       options = c.stored_options.ensures i;
       response_time = c.stored_response_time.ensures i;
     })

@@ -11,7 +11,7 @@ pub returns-clause-value : goal.returns-clause-value
 unfolding validating
 returns-clause-value c =
     c.in_ok-add_validators.ensures
-    ∙ (λ i. with_validators (c.stored_headers.ensures i)
+    ∙ (λ i. with_validators (c.stored_headers.ensures.headers i)
     ((c.remove_all.ensures
     ∙ ap (without_named removed_fields)
     (c.in_ok-headers.ensures ∙ ap (λ m. forwarded_headers (headers_of m)) c.headers.ensures)) i))

@@ -1,4 +1,4 @@
--- A request that bypasses the shelf has no answer because it has no response.
+-- A request that bypasses the store has no answer because it has no response.
 use Rattle.std.proofs.Common.{sym, subst}
 use Rattle.http_cache_proxy.specs.Proxy.{IsFetchFailure}
 use Rattle.http_cache_proxy.proofs.CauseLemmas.{failure-past}

@@ -1,6 +1,6 @@
 use Rattle.std.proofs.Common.{arith, below_more, subst, ◌≤◌, ◌∙◌, ℕ, List, slice_index_or}
 use Rattle.std.proofs.lemmas.List.{get_or_default}
-use Rattle.http_cache_storage.specs.Target.{text_of}
+use Rattle.http_cache_store.specs.Target.{text_of}
 use Rattle.http_cache_errands.specs.Invalidations.{last_of}
 use Rattle.http_cache_errands.proofs.invalidations.Invalidations.add_all.Goals as goal
 

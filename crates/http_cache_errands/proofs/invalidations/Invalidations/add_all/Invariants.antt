@@ -1,7 +1,7 @@
 -- The targets so far are recorded, and no token gets lower.
 use Rattle.std.proofs.Common.{◌≤◌, ◌<◌, ℕ, List, slice_index_or}
-use Rattle.http_cache_storage.specs.Target.{text_of}
-use Rattle.http_cache_storage.specs.declared.target.Target.{Target}
+use Rattle.http_cache_store.specs.Target.{text_of}
+use Rattle.http_cache_store.specs.declared.target.Target.{Target}
 use Rattle.http_cache_errands.specs.Invalidations.{last_of}
 use Rattle.http_cache_errands.proofs.invalidations.Invalidations.add_all.Given as goal
 

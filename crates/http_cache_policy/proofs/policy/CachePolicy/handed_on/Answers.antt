@@ -13,7 +13,7 @@ returns-else-dated-clause-beside c =
     IfOk-weaker c.filter.result (λ out. headers_of out ≡ filtered_headers h)
     (λ out. fin.remove (headers_of out) (codes "date") ≡ filtered_headers c.args.self.now.response_headers)
     (λ out is. remove-absent (headers_of out) (codes "date") (filtered-no_date h (headers_of out) is)
-    ∙ is ∙ ap filtered_headers c.stored_headers-else-dated.ensures)
+    ∙ is ∙ ap filtered_headers c.stored_headers-else-dated.ensures.headers)
     c.filter.ensures.ok
 
 pub returns-else-dated-clause-undated : goal.returns-else-dated-clause-undated

@@ -17,7 +17,7 @@ returns c =
     let lines =
     ap bytes_of c.get_all.ensures.value
     ∙ sym (values-headers_of c.stored_headers.result.now (codes "vary"))
-    ∙ ap (λ h. values h (codes "vary")) c.stored_headers.ensures in
+    ∙ ap (λ h. values h (codes "vary")) c.stored_headers.ensures.headers in
     let names = c.get_all_comma.ensures ∙ ap pieces_of_values lines in
     all_from_yields_List (agrees_on e.request_headers asked) _ _ _ c.all.ensures.ran
     (YieldsList-from_first (λ x. x.now) (λ s. s) (varied_names e) names) (λ x b q k. search (rules, tests))

@@ -1,0 +1,8 @@
+-- What a client keeps of the targets of other requests.
+use Rattle.std.specs.Prelude.{◌≡◌, ◌≢◌, ◌⊎◌, ℕ, List}
+use Rattle.http_cache_store.specs.Store.{StoredByTarget}
+
+-- each other target keeps all its responses, or all but the lost ones, and no more of them are lost
+abbrev pub KeepsLasting : StoredByTarget → StoredByTarget → StoredByTarget → StoredByTarget → List ℕ → Type 0
+KeepsLasting old lasting new lasting_new own = (other : List ℕ) → other ≢ own
+    → (lasting_new other ≡ lasting other) × ((new other ≡ old other) ⊎ (new other ≡ lasting other))

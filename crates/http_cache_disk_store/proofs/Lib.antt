@@ -1,0 +1,5 @@
+-- Lemmas on what the store stores, and on what its parts promise.
+pub mod LoadLemmas
+mod LostLemmas
+pub mod PackedLemmas
+pub mod SumLemmas

@@ -1,0 +1,22 @@
+-- The ids are removed from what is left without the lost ones.
+use Rattle.std.proofs.Common.{subst}
+use Rattle.http_cache_store.specs.Store.{StoredByTarget, without}
+use Rattle.http_cache_memory_store.specs.Index.{HasUnder}
+use Rattle.http_cache_memory_store.proofs.IdLemmas.{below-removed_ids}
+use Rattle.http_cache_disk_store.specs.Disk.{stored_in}
+use Rattle.http_cache_disk_store.proofs.store.DiskStore.drop_ids.Goals as goal
+
+pub invariant_of-self : goal.invariant_of-self
+invariant_of-self g c =
+    let self = c.begin.new.self in
+    record {
+      ids_below = below-removed_ids self.next_id c.args.text.now c.args.ids.now (stored_in self.index.kept.entries)
+          (stored_in c.remove_ids.new.self.kept.entries) c.remove_ids.ensures.removed self.ids_below;
+      lost_below = self.lost_below;
+    }
+
+pub returns-clause-removed : goal.returns-clause-removed
+returns-clause-removed g c =
+    let text = c.args.text.now in
+    subst (λ (f : StoredByTarget). HasUnder text (without c.args.ids.now (f text)) f (stored_in c.remove_ids.new.self.kept.entries))
+    c.begin.ensures.stored c.remove_ids.ensures.removed

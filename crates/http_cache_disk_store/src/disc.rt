@@ -1,0 +1,148 @@
+//! The directory with its lock: files are written and removed, and those that can be neither
+//! removed nor emptied are remembered.
+use crate::error::{DiskError, Fault};
+use crate::folder::Folder;
+use crate::lock::{Left, Lock, TryLock};
+use crate::name::Name;
+use http_cache_memory_store::entry::Removed;
+use http_cache_store::ResponseId;
+use std::rt::Files;
+
+/// The directory, and what became of the calls on it.
+#[derive(Drop)]
+pub(crate) struct Disc<F: Files + Drop> {
+    pub(crate) folder: Folder<F>,
+    pub(crate) lock: Lock<F::File>,
+    // The responses whose files are still there.
+    stuck: Vec<u64>,
+    // The number of such responses for which there was no memory in `stuck`.
+    unlisted: u64,
+    // Whether each change waits until it outlives a power failure.
+    is_synced: bool,
+    // Whether the last change couldn't be made to outlive it.
+    is_unsynced: bool,
+}
+
+impl<F: Files + Drop> Disc<F>
+where
+    F::File: TryLock,
+{
+    /// Returns the directory without files that are stuck.
+    pub(crate) fn new(
+        folder: Folder<F>,
+        lock: Lock<F::File>,
+        stuck: Vec<u64>,
+        is_synced: bool,
+    ) -> Disc<F> {
+        Disc {
+            folder,
+            lock,
+            stuck,
+            unlisted: 0,
+            is_synced,
+            is_unsynced: false,
+        }
+    }
+
+    /// Returns how many responses were removed whose files are still there.
+    pub(crate) fn stuck(&self) -> u64 {
+        (self.stuck.len() as u64).saturating_add(self.unlisted)
+    }
+
+    /// Returns whether something that was removed may be there when the directory is opened.
+    pub(crate) fn is_failing(&self) -> bool {
+        self.stuck() > 0 || self.is_unsynced
+    }
+
+    /// Writes a file, and returns whether it was written.
+    pub(crate) fn write(&mut self, name: Name, id: u64, parts: [&[u8]; 2]) -> Result<(), Fault> {
+        self.folder.write(name, id, parts, self.is_synced)
+    }
+
+    /// Waits until what was changed outlives a power failure, if that is wanted.
+    pub(crate) fn settle(&mut self) {
+        if !self.is_synced {
+            return;
+        }
+        let was_unsynced = self.is_unsynced;
+        self.is_unsynced = self.folder.sync().is_err();
+        if self.is_unsynced {
+            let _said = self.lock.say(Left::Failed);
+        } else if was_unsynced {
+            self.recover();
+        }
+    }
+
+    /// Says that a process uses the directory, unless it is failing.
+    fn recover(&mut self) {
+        if !self.is_failing() {
+            let _said = self.open();
+        }
+    }
+
+    /// Says that a process uses the directory. If each change is synced, so is what is there.
+    pub(crate) fn open(&mut self) -> Result<(), DiskError> {
+        if self.is_synced {
+            self.folder.sync()?;
+            return self.lock.say(Left::Synced);
+        }
+        self.lock.say(Left::Opened)
+    }
+
+    // Remembers that the files of a removed response are still there. The directory says so too, so
+    // that the next process drops everything.
+    fn remember(&mut self, id: u64) {
+        if self.stuck.push(id).is_err() {
+            self.unlisted = self.unlisted.saturating_add(1);
+        }
+        let _said = self.lock.say(Left::Failed);
+    }
+
+    // Tries again to remove one, and returns whether it is gone.
+    fn retry_one(&mut self) -> bool {
+        let Some(id) = self.stuck.pop() else {
+            return false;
+        };
+        if self.folder.remove(id) {
+            return true;
+        }
+        if self.stuck.push(id).is_err() {
+            self.unlisted = self.unlisted.saturating_add(1);
+        }
+        false
+    }
+
+    /// Tries again to remove what is stuck.
+    pub(crate) fn retry(&mut self) {
+        let was_stuck = self.stuck() > 0;
+        for _ in 0..self.stuck.len() {
+            if !self.retry_one() {
+                break;
+            }
+        }
+        if was_stuck {
+            self.recover();
+        }
+    }
+
+    /// Says that all is as it should be, as the last step of a process.
+    pub(crate) fn close(mut self) -> Result<(), DiskError> {
+        self.retry();
+        if self.stuck() > 0 {
+            return Err(DiskError::Stuck);
+        }
+        self.folder.sync()?;
+        self.lock.say(Left::Closed)
+    }
+}
+
+impl<F: Files + Drop> Removed for Disc<F>
+where
+    F::File: TryLock,
+{
+    fn removed(&mut self, id: ResponseId) {
+        if !self.folder.remove(id.number()) {
+            self.remember(id.number());
+        }
+    }
+}

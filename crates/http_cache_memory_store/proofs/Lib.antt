@@ -1,0 +1,17 @@
+-- Lemmas on what is stored.
+pub mod BoundsLemmas
+mod FitLemmas
+mod Fronts
+mod HeldLemmas
+pub mod IdLemmas
+pub mod ListLemmas
+mod Lookups
+mod MapLemmas
+mod Outcomes
+mod RoomLemmas
+mod ShownLemmas
+mod SizeLemmas
+mod Sums
+mod SweepLemmas
+mod TextLemmas
+pub mod Totals

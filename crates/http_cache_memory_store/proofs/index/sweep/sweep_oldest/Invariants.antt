@@ -1,0 +1,12 @@
+-- The last entries are swept, and the buffer has room for each text.
+use Rattle.std.proofs.Common.{◌-◌, length, string_capacity}
+use Rattle.http_cache_memory_store.specs.Index.{AreTextsWithin, IsHeld, AreOldestSwept}
+use Rattle.http_cache_memory_store.specs.Size.{IsAtMost}
+use Rattle.http_cache_memory_store.proofs.index.sweep.sweep_oldest.Given as goal
+
+abbrev pub invariant-loop-swept : goal.invariant-loop-swept
+invariant-loop-swept g l =
+    AreOldestSwept g.E.Entry.seen l.now.nanosecond (length l.fn.kept.entries - l._swept) l.fn.kept.entries l.kept.entries
+    × AreTextsWithin (string_capacity l.buffer) l.kept.entries
+    × IsHeld g.E.Entry.cost l.held l.kept
+    × IsAtMost l.held l.fn.held

@@ -1,0 +1,2 @@
+-- Lemmas on what is found among stored responses.
+pub mod FindLemmas

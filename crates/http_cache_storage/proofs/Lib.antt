@@ -1,2 +1,0 @@
--- Lemmas on texts and lists.
-pub mod EndingLemmas

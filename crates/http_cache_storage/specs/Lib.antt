@@ -1,3 +1,0 @@
--- What a client stores, and under which text.
-pub mod Shelf
-pub mod Target
