@@ -1,2 +1,3 @@
--- Lemmas on what is found among stored responses.
+-- Lemmas on what is found among stored responses, and on what a response removes.
 pub mod FindLemmas
+pub mod InvalidateLemmas

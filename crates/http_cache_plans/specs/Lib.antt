@@ -1,4 +1,5 @@
 -- What a client answers with stored responses, and what it stores of received ones.
+pub mod Invalidate
 pub mod Judge
 pub mod Plan
 pub mod Renewal

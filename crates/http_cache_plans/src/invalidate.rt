@@ -1,5 +1,9 @@
 //! Decides what the response to an unsafe request removes.
 ghost use Rattle.std.specs.Prelude.{◌≡◌, true, false, ℕ, List, IfOk};
+ghost use Rattle.std.specs.Prelude.{◌++◌, All, OnOk, option_copied};
+ghost use Rattle.http_cache_store.specs.Target.{text_of};
+ghost use Rattle.http_cache_store.specs.declared.target.Target.{Target};
+ghost use Rattle.http_cache_plans.specs.Invalidate.{is_no_error, invalidates, MayBeNamedBy, RemovesInvalidated};
 ghost use Rattle.http_cache_plans.specs.Plan.{Stores, IsChangeOf, is_failure};
 
 use crate::plan::Change;
@@ -12,7 +16,8 @@ use std::alloc::{AllocError, Global};
 
 // Returns whether a status is a 2xx or 3xx (RFC 9111, section 4.4).
 fn is_no_error(status: StatusCode) -> bool
-    ensures { is_failure status ≡ true → result ≡ false }
+    ensures value { result ≡ is_no_error status }
+    ensures failure { is_failure status ≡ true → result ≡ false }
 {
     status.is_success() || status.is_redirection()
 }
@@ -23,7 +28,12 @@ fn add_named(
     targets: &mut Vec<Target>,
     request: &Request<Bytes>,
     reference: Option<&str>,
-) -> Result<(), AllocError> {
+) -> Result<(), AllocError>
+    ensures { OnOk result ((named : List Target)
+        × (targets.new.items ≡ targets.old.items ++ named)
+        × All (λ target. MayBeNamedBy request.now (option_copied reference.entry) (text_of target))
+        named) }
+{
     let Some(reference) = reference else {
         return Ok(());
     };
@@ -41,6 +51,10 @@ pub fn invalidated(
     request: &Request<Bytes>,
     head: &response::Parts,
 ) -> Result<Change, AllocError>
+    ensures removed { invalidates request.now head.now.status ≡ true
+        → IfOk result (RemovesInvalidated request.now head.now) }
+    ensures nothing { invalidates request.now head.now.status ≡ false
+        → IfOk result (λ change. change ≡ Change.Nothing) }
     ensures stored { IfOk result (λ change. ¬ (Stores change)) }
     ensures target { (own : List ℕ) → IfOk result (IsChangeOf own) }
     ensures failure { is_failure head.now.status ≡ true
