@@ -2,4 +2,5 @@
 pub mod Ask
 pub mod Fetch
 pub mod Keep
+pub mod Make
 pub mod Receive

@@ -4,6 +4,8 @@ ghost use Rattle.http_cache_store.specs.Store.{KeepsAll, KeepsMost, KeepsAllOthe
 ghost use Rattle.http_cache_store.specs.Store.{RemovesThese, removed_count, IsSwept};
 ghost use Rattle.http_cache_store.specs.Target.{text_of};
 ghost use Rattle.http_cache_plans.specs.Plan.{Stores, IsChangeOf};
+ghost use Rattle.std.specs.Prelude.{OnOk};
+ghost use Rattle.http_cache_client.specs.Make.{IsMade, HasFailed};
 
 use bytes::Bytes;
 use http_cache_plans::plan::{Change, Settled};
@@ -126,6 +128,11 @@ impl<S: Store + Drop> Client<S> {
 
     // Makes a change in one call of the store.
     fn make(&mut self, change: Change) -> Result<Settled, StoreError>
+        ensures made { OnOk result (IsMade S.mark (S.stored self.old.store)
+            (S.lasting self.old.store) (S.next_id self.old.store)
+            (S.stored self.new.store) (S.next_id self.new.store) change) }
+        ensures lost { IsErrOf result StoreError.Failed
+            → HasFailed (S.lasting self.old.store) (S.stored self.new.store) change }
         ensures kept { IsErrOf result StoreError.Memory
             → KeepsAll (S.stored self.old.store) (S.next_id self.old.store)
             (S.stored self.new.store) (S.next_id self.new.store) }
@@ -185,6 +192,12 @@ impl<S: Store + Drop> Client<S> {
 
     // Makes a change as the last step of a call. A store that failed stores nothing new.
     pub(crate) fn commit(&mut self, change: Change) -> Result<Settled, AllocError>
+        ensures made { IfOk result (λ settled. settled ≢ Settled.Failed
+            → IsMade S.mark (S.stored self.old.store) (S.lasting self.old.store)
+            (S.next_id self.old.store) (S.stored self.new.store) (S.next_id self.new.store)
+            change) }
+        ensures lost { IfOk result (λ settled. settled ≡ Settled.Failed
+            → HasFailed (S.lasting self.old.store) (S.stored self.new.store) change) }
         ensures kept { OnErr result (KeepsAll (S.stored self.old.store) (S.next_id self.old.store)
             (S.stored self.new.store) (S.next_id self.new.store)) }
         ensures failed { IfOk result (λ settled. settled ≡ Settled.Failed
