@@ -6,6 +6,10 @@ use Rattle.http.specs.declared.request.Request.{Request}
 use Rattle.http.specs.declared.response.Response.{Response}
 use Rattle.http_cache_messages.specs.Outgoing.{IsClean}
 use Rattle.http_cache_fields.specs.Headers.{Headers, headers_of}
+use Rattle.std.specs.Prelude.{true, false, None}
+use Rattle.http_cache_store.specs.Store.{StoredByTarget}
+use Rattle.http_cache_plans.specs.Invalidate.{invalidates}
+use Rattle.http_cache_client.specs.Receive.{own_text}
 use Rattle.http_cache_client.specs.declared.origin.FetchError.{FetchError}
 use Rattle.http_cache_client.specs.declared.origin.FetchError.TheVariants.{Memory, Lost, Origin}
 
@@ -56,6 +60,20 @@ module _ {O : Type 0} (sent : Sends O) (before after : O) (request : Request (Li
   HasSentFor304 =
       (between : O) × (response : Response (List ℕ)) × (received : ℤ)
       × (sent between request (Some (response, received)) after × ((head_of response).status ≡ 304))
+
+-- what is stored after a request that isn't looked up: of its target nothing, if the response invalidates; else all as before
+abbrev pub IsStoredAfter : Request (List ℕ) → StoredByTarget → StoredByTarget → Outcome → Type 0
+IsStoredAfter request old new None = new ≡ old
+IsStoredAfter request old new (Some received) =
+    (invalidates request (head_of received.0).status ≡ true → new (own_text request) ≡ [])
+    × (invalidates request (head_of received.0).status ≡ false → new ≡ old)
+
+-- the client's own request was sent, and what is stored is as its outcome leaves it
+pub record HasPassedOn {O : Type 0} (sent : Sends O) (before after : O) (request : Request (List ℕ))
+    (old new : StoredByTarget) : Type 0 where
+  pub outcome : Outcome
+  pub own : HasSentOwn sent before after request outcome
+  pub stored : IsStoredAfter request old new outcome
 
 -- `Origin` is returned only if `reason` holds
 abbrev pub HasNoResponse : {E : Type 0} → Type 0 → FetchError E → Type 0

@@ -9,6 +9,12 @@ use Rattle.http_cache_fields.specs.Headers.{headers_of}
 use Rattle.http_cache_store.specs.Target.{target_text}
 use Rattle.http_cache_plans.specs.Plan.{IsElsewhere, IsWholeBody, HasCondition}
 use Rattle.http_cache_plans.specs.declared.body.Body.{Body}
+use Rattle.std.specs.Prelude.{map}
+use Rattle.http.specs.declared.response.Parts.{Parts}
+use Rattle.http_cache_store.specs.Store.{StoredByTarget, RemovesThese}
+use Rattle.http_cache_store.specs.Target.{text_of}
+use Rattle.http_cache_store.specs.declared.target.Target.{Target}
+use Rattle.http_cache_plans.specs.Invalidate.{AreInvalidated}
 use Rattle.http_cache_client.specs.declared.tokens.Received.{Received}
 use Rattle.http_cache_client.specs.declared.tokens.Received.TheVariants.{Answer, Again}
 
@@ -44,3 +50,9 @@ IsAgain (Again _) = ⊤
 abbrev pub HasBodyHere : Received → Type 0
 HasBodyHere (Answer answer) = ¬ (IsElsewhere (body_of answer))
 HasBodyHere (Again _) = ⊤
+
+-- exactly the responses of invalidated targets are gone, all of them (RFC 9111, section 4.4)
+pub record HasInvalidated (request : Request (List ℕ)) (head : Parts) (lasting after : StoredByTarget) : Type 0 where
+  pub targets : List Target
+  pub invalidated : AreInvalidated request head targets
+  pub removed : RemovesThese (map text_of targets) lasting after

@@ -9,6 +9,7 @@ ghost use Rattle.http_cache_client.specs.Ask.{IsConditionalDecision, IsAnswer, I
 ghost use Rattle.http_cache_plans.specs.Plan.{IsElsewhere, HasCondition};
 ghost use Rattle.http_cache_client.specs.Fetch.{Outcome, HasSentOwn, HasSentValidation, HasSentBoth, HasSent};
 ghost use Rattle.http_cache_client.specs.Fetch.{HasSentTwiceAtMost, HasSentFor304, HasNoResponse, IsUnsent};
+ghost use Rattle.http_cache_client.specs.Fetch.{HasPassedOn};
 
 use crate::client::Client;
 use crate::origin::{FetchError, Origin};
@@ -108,6 +109,9 @@ impl<S: Store + Drop> Client<S> {
         ensures lost { IfErr result (IsUnsent ⊥) }
         ensures conditional { IfOk result (λ answer. (head_of answer).status ≡ 304
             → HasCondition request.now ⊎ HasSentFor304 O.sent origin.old origin.new request.now) }
+        ensures invalidated { is_looked_up request.now ≡ false
+            → OnOk result (HasPassedOn O.sent origin.old origin.new request.now
+            (S.stored self.old.store) (S.stored self.new.store)) }
         ensures others { KeepsMost (S.stored self.old.store) (S.lasting self.old.store)
             (S.stored self.new.store) (own_text request.now) }
         ensures kept { OnErr result (KeepsAll (S.stored self.old.store) (S.next_id self.old.store)
@@ -192,6 +196,10 @@ impl<S: Store + Drop> Client<S> {
         ensures conditional { IsConditionalDecision (fields_of request.now) decision
             → IfOk result (λ answer. (head_of answer).status ≡ 304
             → HasCondition request.now ⊎ HasSentFor304 O.sent origin.old origin.new request.now) }
+        ensures invalidated { (IsOfStore decision → is_looked_up request.now ≡ true)
+            → is_looked_up request.now ≡ false
+            → OnOk result (HasPassedOn O.sent origin.old origin.new request.now
+            (S.stored self.old.store) (S.stored self.new.store)) }
         ensures others { KeepsMost (S.stored self.old.store) (S.lasting self.old.store)
             (S.stored self.new.store) (own_text request.now) }
         ensures kept { OnErr result (KeepsAll (S.stored self.old.store) (S.next_id self.old.store)
@@ -240,6 +248,9 @@ impl<S: Store + Drop> Client<S> {
             → IsOnlyIfCached (fields_of request.now) → origin.new ≡ origin.old }
         ensures conditional { IfOk result (λ answer. (head_of answer).status ≡ 304
             → HasCondition request.now ⊎ HasSentFor304 O.sent origin.old origin.new request.now) }
+        ensures invalidated { is_looked_up request.now ≡ false
+            → OnOk result (HasPassedOn O.sent origin.old origin.new request.now
+            (S.stored self.old.store) (S.stored self.new.store)) }
         ensures others { KeepsMost (S.stored self.old.store) (S.lasting self.old.store)
             (S.stored self.new.store) (own_text request.now) }
         ensures kept { OnErr result (KeepsAll (S.stored self.old.store) (S.next_id self.old.store)
@@ -263,6 +274,7 @@ impl<S: Store + Drop> Client<S> {
     ) -> Result<Option<Response<Bytes>>, AllocError>
         ensures only_if_cached { IfOk result (λ answer. is_looked_up request.now ≡ true
             → IsOnlyIfCached (fields_of request.now) → IsSome answer) }
+        ensures looked_up { IfOk result (λ answer. IsSome answer → is_looked_up request.now ≡ true) }
     {
         if is_looked_up(request) && says(request.headers(), "only-if-cached") {
             return Ok(Some(self.not_cached(alloc)?));
@@ -283,6 +295,9 @@ impl<S: Store + Drop> Client<S> {
         ensures no_response { IfErr result
             (HasNoResponse (HasSentOwn O.sent origin.old origin.new request.now None)) }
         ensures lost { IfErr result (IsUnsent ⊥) }
+        ensures invalidated { is_looked_up request.now ≡ false
+            → OnOk result (HasPassedOn O.sent origin.old origin.new request.now
+            (S.stored self.old.store) (S.stored self.new.store)) }
         ensures others { KeepsMost (S.stored self.old.store) (S.lasting self.old.store)
             (S.stored self.new.store) (own_text request.now) }
         ensures stored { S.next_id self.new.store ≡ S.next_id self.old.store }
@@ -327,6 +342,9 @@ impl<S: Store + Drop> Client<S> {
         ensures unsent { IfErr result (IsUnsent (origin.new ≡ origin.old)) }
         ensures only_if_cached { is_looked_up request.now ≡ true
             → IsOnlyIfCached (fields_of request.now) → origin.new ≡ origin.old }
+        ensures invalidated { is_looked_up request.now ≡ false
+            → OnOk result (HasPassedOn O.sent origin.old origin.new request.now
+            (S.stored self.old.store) (S.stored self.new.store)) }
         ensures others { KeepsMost (S.stored self.old.store) (S.lasting self.old.store)
             (S.stored self.new.store) (own_text request.now) }
         ensures stored { S.next_id self.new.store ≡ S.next_id self.old.store }

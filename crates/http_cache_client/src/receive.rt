@@ -10,6 +10,11 @@ ghost use Rattle.http_cache_client.specs.Receive.{IsWholeResponse, MayBeStored, 
 ghost use Rattle.http_cache_client.specs.Receive.{own_text, KeepsBodyLocation};
 ghost use Rattle.http_cache_client.specs.Receive.{HasBodyHere, IsAfterA304, IsAgain};
 ghost use Rattle.http_cache_client.specs.Keep.{KeepsLasting};
+ghost use Rattle.std.specs.Prelude.{[], OnOk};
+ghost use Rattle.http_cache_messages.specs.Asking.{is_looked_up};
+ghost use Rattle.http_cache_plans.specs.Invalidate.{invalidates};
+ghost use Rattle.http_cache_client.specs.Make.{IsMade, HasFailed};
+ghost use Rattle.http_cache_client.specs.Receive.{HasInvalidated};
 
 use crate::client::Client;
 use crate::tokens::{Forwarded, Received, Validation};
@@ -83,6 +88,10 @@ impl<S: Store + Drop> Client<S> {
         cache_statuses: CacheStatuses,
         plan: Plan,
     ) -> Result<Response<Body>, AllocError>
+        ensures made { OnOk result (IsMade S.mark (S.stored self.old.store)
+            (S.lasting self.old.store) (S.next_id self.old.store)
+            (S.stored self.new.store) (S.next_id self.new.store) plan.change
+            ⊎ HasFailed (S.lasting self.old.store) (S.stored self.new.store) plan.change) }
         ensures kept { OnErr result (KeepsAll (S.stored self.old.store) (S.next_id self.old.store)
             (S.stored self.new.store) (S.next_id self.new.store)) }
         ensures stored { Stores plan.change ⊎ (S.next_id self.new.store ≡ S.next_id self.old.store) }
@@ -116,6 +125,10 @@ impl<S: Store + Drop> Client<S> {
         receipt: &Receipt<'_>,
         plan: Plan,
     ) -> Result<Response<Body>, AllocError>
+        ensures made { OnOk result (IsMade S.mark (S.stored self.old.store)
+            (S.lasting self.old.store) (S.next_id self.old.store)
+            (S.stored self.new.store) (S.next_id self.new.store) plan.change
+            ⊎ HasFailed (S.lasting self.old.store) (S.stored self.new.store) plan.change) }
         ensures kept { OnErr result (KeepsAll (S.stored self.old.store) (S.next_id self.old.store)
             (S.stored self.new.store) (S.next_id self.new.store)) }
         ensures stored { Stores plan.change ⊎ (S.next_id self.new.store ≡ S.next_id self.old.store) }
@@ -493,6 +506,15 @@ impl<S: Store + Drop> Client<S> {
         response: Response<Body>,
         times: Times,
     ) -> Result<Response<Body>, AllocError>
+        ensures invalidated { invalidates request.now (head_of response).status ≡ true
+            → OnOk result (S.stored self.new.store (own_text request.now) ≡ []) }
+        ensures removed { invalidates request.now (head_of response).status ≡ true
+            → OnOk result (HasInvalidated request.now (head_of response)
+            (S.lasting self.old.store) (S.stored self.new.store)) }
+        ensures unchanged { is_looked_up request.now ≡ false
+            → invalidates request.now (head_of response).status ≡ false
+            → KeepsAll (S.stored self.old.store) (S.next_id self.old.store)
+            (S.stored self.new.store) (S.next_id self.new.store) }
         ensures kept { OnErr result (KeepsAll (S.stored self.old.store) (S.next_id self.old.store)
             (S.stored self.new.store) (S.next_id self.new.store)) }
         ensures others { KeepsMost (S.stored self.old.store) (S.lasting self.old.store)
@@ -528,6 +550,14 @@ impl<S: Store + Drop> Client<S> {
         response: Response<Body>,
         received: Timestamp,
     ) -> Result<Response<Body>, AllocError>
+        ensures invalidated { invalidates request.now (head_of response).status ≡ true
+            → OnOk result (S.stored self.new.store (own_text request.now) ≡ []) }
+        ensures removed { invalidates request.now (head_of response).status ≡ true
+            → OnOk result (HasInvalidated request.now (head_of response)
+            (S.lasting self.old.store) (S.stored self.new.store)) }
+        ensures unchanged { invalidates request.now (head_of response).status ≡ false
+            → KeepsAll (S.stored self.old.store) (S.next_id self.old.store)
+            (S.stored self.new.store) (S.next_id self.new.store) }
         ensures kept { OnErr result (KeepsAll (S.stored self.old.store) (S.next_id self.old.store)
             (S.stored self.new.store) (S.next_id self.new.store)) }
         ensures others { KeepsMost (S.stored self.old.store) (S.lasting self.old.store)
