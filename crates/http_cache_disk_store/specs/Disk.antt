@@ -1,13 +1,16 @@
 -- What a store in a directory stores, read from its fields: the heads in memory, and the responses whose bodies are lost.
 -- Nothing here is read from the disc. A file that was removed and is still there is no response; the lock says that it may be
 -- there, and the next process drops all files.
-use Rattle.std.specs.Prelude.{◌≡◌, ◌++◌, ◌&&◌, ℕ, Bool, List, [], ◌∷◌, Option, Some, None, not, nat_eq, bytes_eq, string_bytes}
+use Rattle.std.specs.Prelude.{◌≡◌, ◌≤◌, ◌+◌, ◌++◌, ◌&&◌, ℕ, Bool, List, [], ◌∷◌, Option, Some, None, not, nat_eq, bytes_eq, string_bytes}
 use Rattle.std.specs.List.{filter, list_any}
 use Rattle.std.specs.declared.string.String.{String}
 use Rattle.http_cache_policy.specs.Exchange.{Exchange}
+use Rattle.http_cache_store.specs.declared.store.ResponseId.{ResponseId}
 use Rattle.http_cache_store.specs.Store.{StoredSeen, StoredByTarget, ShowsAll}
 use Rattle.http_cache_memory_store.specs.declared.index.list.StoredList.{StoredList}
-use Rattle.http_cache_memory_store.specs.Index.{stored_under}
+use Rattle.http_cache_memory_store.specs.Index.{all_entries, stored_under}
+use Rattle.http_cache_memory_store.specs.Removal.{AreAllGone, AreGone, AreOnceBelow, TellsRemoved, stored_as, told_as}
+use Rattle.http_cache_memory_store.specs.Stored.{AreAllBelow}
 use Rattle.http_cache_disk_store.specs.declared.head.Head.{Head}
 use Rattle.http_cache_disk_store.specs.declared.head.Packed.{Packed}
 use Rattle.http_cache_disk_store.specs.declared.mark.Sum.{Sum}
@@ -59,6 +62,28 @@ left_by lost stored text = filter (λ r. not (is_lost lost text r.id)) (stored t
 -- what the next change leaves: all but the responses whose bodies are lost
 abbrev pub lasting_in : {Y : Type 0} → List Lost → List (String Y × StoredList Head) → StoredByTarget
 lasting_in lost es = left_by lost (stored_in es)
+
+-- the ids are below the next one, those of each target in falling order, and no two are equal
+pub record HaveIdsBelow {Y : Type 0} (next : ℕ) (es : List (String Y × StoredList Head)) : Type 0 where
+  pub under : AreAllBelow next (stored_in es)
+  pub once : AreOnceBelow seen_of next (all_entries es)
+
+-- each id is stored or was removed, and once at most; so no id of a removed response is stored
+pub record AreApart (next : ℕ) (stored : List Head) (removed : List ResponseId) : Type 0 where
+  pub once : (id : ℕ) → stored_as seen_of id stored + told_as id removed ≤ 1
+  pub below : (id : ℕ) → next ≤ id → stored_as seen_of id stored + told_as id removed ≡ 0
+
+-- of exactly the removed responses the files were to be removed, each as often as it was stored
+abbrev pub UnlinksRemoved : {Y : Type 0} → List (String Y × StoredList Head) → List (String Y × StoredList Head)
+    → List ResponseId → List ResponseId → Type 0
+UnlinksRemoved old new = TellsRemoved seen_of (all_entries old) (all_entries new)
+
+-- in a call the files of exactly the responses were to be removed that were stored before and aren't stored now
+pub record UnlinksExactly (before after : List Head) (unlinked_before unlinked_after : List ResponseId) : Type 0 where
+  pub unlinked : List ResponseId
+  pub added : unlinked_after ≡ unlinked_before ++ unlinked
+  pub gone : AreGone seen_of unlinked before after
+  pub all : AreAllGone seen_of unlinked before after
 
 -- what a look-up of a text read, where these responses are stored for it
 abbrev pub is_shown : Option LookedUp → List ℕ → List StoredSeen → Type 0

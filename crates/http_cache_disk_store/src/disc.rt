@@ -1,10 +1,13 @@
 //! The directory with its lock: files are written and removed, and those that can be neither
 //! removed nor emptied are remembered.
+ghost use Rattle.std.specs.Prelude.{◌≡◌, []};
+
 use crate::error::{DiskError, Fault};
 use crate::folder::Folder;
 use crate::lock::{Left, Lock, TryLock};
 use crate::name::Name;
 use http_cache_memory_store::entry::Removed;
+use http_cache_memory_store::told::Told;
 use http_cache_store::ResponseId;
 use std::rt::Files;
 
@@ -21,6 +24,8 @@ pub(crate) struct Disc<F: Files + Drop> {
     is_synced: bool,
     // Whether the last change couldn't be made to outlive it.
     is_unsynced: bool,
+    // The stored responses whose files were to be removed since the directory was read.
+    pub(crate) told: Told<ResponseId>,
 }
 
 impl<F: Files + Drop> Disc<F>
@@ -41,7 +46,15 @@ where
             unlisted: 0,
             is_synced,
             is_unsynced: false,
+            told: Told::new(),
         }
+    }
+
+    /// Begins the account of removed responses, once the directory was read.
+    pub(crate) fn begin_account(&mut self)
+        ensures { self.new.told.items ≡ [] }
+    {
+        self.told = Told::new();
     }
 
     /// Returns how many responses were removed whose files are still there.
@@ -55,12 +68,16 @@ where
     }
 
     /// Writes a file, and returns whether it was written.
-    pub(crate) fn write(&mut self, name: Name, id: u64, parts: [&[u8]; 2]) -> Result<(), Fault> {
+    pub(crate) fn write(&mut self, name: Name, id: u64, parts: [&[u8]; 2]) -> Result<(), Fault>
+        ensures told { self.new.told ≡ self.old.told }
+    {
         self.folder.write(name, id, parts, self.is_synced)
     }
 
     /// Waits until what was changed outlives a power failure, if that is wanted.
-    pub(crate) fn settle(&mut self) {
+    pub(crate) fn settle(&mut self)
+        ensures told { self.new.told ≡ self.old.told }
+    {
         if !self.is_synced {
             return;
         }
@@ -74,14 +91,18 @@ where
     }
 
     /// Says that a process uses the directory, unless it is failing.
-    fn recover(&mut self) {
+    fn recover(&mut self)
+        ensures told { self.new.told ≡ self.old.told }
+    {
         if !self.is_failing() {
             let _said = self.open();
         }
     }
 
     /// Says that a process uses the directory. If each change is synced, so is what is there.
-    pub(crate) fn open(&mut self) -> Result<(), DiskError> {
+    pub(crate) fn open(&mut self) -> Result<(), DiskError>
+        ensures told { self.new.told ≡ self.old.told }
+    {
         if self.is_synced {
             self.folder.sync()?;
             return self.lock.say(Left::Synced);
@@ -91,7 +112,9 @@ where
 
     // Remembers that the files of a removed response are still there. The directory says so too, so
     // that the next process drops everything.
-    fn remember(&mut self, id: u64) {
+    fn remember(&mut self, id: u64)
+        ensures told { self.new.told ≡ self.old.told }
+    {
         if self.stuck.push(id).is_err() {
             self.unlisted = self.unlisted.saturating_add(1);
         }
@@ -99,7 +122,9 @@ where
     }
 
     // Tries again to remove one, and returns whether it is gone.
-    fn retry_one(&mut self) -> bool {
+    fn retry_one(&mut self) -> bool
+        ensures told { self.new.told ≡ self.old.told }
+    {
         let Some(id) = self.stuck.pop() else {
             return false;
         };
@@ -112,8 +137,19 @@ where
         false
     }
 
+    /// Removes the files of a response.
+    pub(crate) fn unlink(&mut self, id: ResponseId)
+        ensures told { self.new.told ≡ self.old.told }
+    {
+        if !self.folder.remove(id.number()) {
+            self.remember(id.number());
+        }
+    }
+
     /// Tries again to remove what is stuck.
-    pub(crate) fn retry(&mut self) {
+    pub(crate) fn retry(&mut self)
+        ensures told { self.new.told ≡ self.old.told }
+    {
         let was_stuck = self.stuck() > 0;
         for _ in 0..self.stuck.len() {
             if !self.retry_one() {
@@ -140,9 +176,10 @@ impl<F: Files + Drop> Removed for Disc<F>
 where
     F::File: TryLock,
 {
+    ghost told = { λ disc. disc.told.items };
+
     fn removed(&mut self, id: ResponseId) {
-        if !self.folder.remove(id.number()) {
-            self.remember(id.number());
-        }
+        self.unlink(id);
+        self.told = self.told.and(&id);
     }
 }

@@ -1,8 +1,7 @@
 //! Reads the heads of all files when the directory is opened. A file that isn't as it was written
 //! costs its response only.
 ghost use Rattle.std.specs.Prelude.{◌≡◌, ◌+◌, ℕ, IfOk, IfSome, OnOk};
-ghost use Rattle.http_cache_memory_store.specs.Stored.{AreAllBelow};
-ghost use Rattle.http_cache_disk_store.specs.Disk.{stored_in};
+ghost use Rattle.http_cache_disk_store.specs.Disk.{HaveIdsBelow};
 
 use crate::disc::Disc;
 use crate::error::{DiskError, Fault};
@@ -122,8 +121,8 @@ where
 
     // Takes a response, unless it alone exceeds a limit.
     fn keep(&mut self, index: &mut Index<Head>, text: &str, head: Head) -> Result<(), DiskError>
-        ensures { OnOk result (AreAllBelow head.id.0 (stored_in index.old.kept.entries)
-            → AreAllBelow (head.id.0 + 1) (stored_in index.new.kept.entries)) }
+        ensures { OnOk result (HaveIdsBelow head.id.0 index.old.kept.entries
+            → HaveIdsBelow (head.id.0 + 1) index.new.kept.entries) }
     {
         let length = head.place.mark.length;
         if !index.limits().fit(head.cost(), length) {
@@ -137,8 +136,8 @@ where
     }
 
     fn take(&mut self, index: &mut Index<Head>, read: ReadHead) -> Result<(), DiskError>
-        ensures { OnOk result (AreAllBelow read.head.id.0 (stored_in index.old.kept.entries)
-            → AreAllBelow (read.head.id.0 + 1) (stored_in index.new.kept.entries)) }
+        ensures { OnOk result (HaveIdsBelow read.head.id.0 index.old.kept.entries
+            → HaveIdsBelow (read.head.id.0 + 1) index.new.kept.entries) }
     {
         let ReadHead {
             text,
@@ -162,8 +161,8 @@ where
     }
 
     fn load_one(&mut self, index: &mut Index<Head>, id: u64) -> Result<(), DiskError>
-        ensures { OnOk result (AreAllBelow id (stored_in index.old.kept.entries)
-            → AreAllBelow (id + 1) (stored_in index.new.kept.entries)) }
+        ensures { OnOk result (HaveIdsBelow id index.old.kept.entries
+            → HaveIdsBelow (id + 1) index.new.kept.entries) }
     {
         match self.read_one(id) {
             Ok(Some(read)) => self.take(index, read),
@@ -179,8 +178,8 @@ where
     // Reads the response with an id that is at least `below`. Returns the number below which all
     // ids are then. No response is written with the greatest id, and none has two files.
     fn load_next(&mut self, index: &mut Index<Head>, id: u64, below: u64) -> Result<u64, DiskError>
-        ensures { IfOk result (λ next. AreAllBelow below (stored_in index.old.kept.entries)
-            → AreAllBelow next (stored_in index.new.kept.entries)) }
+        ensures { IfOk result (λ next. HaveIdsBelow below index.old.kept.entries
+            → HaveIdsBelow next index.new.kept.entries) }
     {
         if id == u64::MAX {
             self.lose(id);
@@ -195,8 +194,8 @@ where
 
     // Returns a number below which all ids are.
     fn load_all(&mut self, index: &mut Index<Head>, ids: &[u64]) -> Result<u64, DiskError>
-        ensures { IfOk result (λ next. AreAllBelow 0 (stored_in index.old.kept.entries)
-            → AreAllBelow next (stored_in index.new.kept.entries)) }
+        ensures { IfOk result (λ next. HaveIdsBelow 0 index.old.kept.entries
+            → HaveIdsBelow next index.new.kept.entries) }
     {
         let mut below = 0;
         for id in ids {
@@ -206,8 +205,8 @@ where
     }
 
     fn remove_superseded(&mut self, index: &mut Index<Head>)
-        ensures { (next : ℕ) → AreAllBelow next (stored_in index.old.kept.entries)
-            → AreAllBelow next (stored_in index.new.kept.entries) }
+        ensures { (next : ℕ) → HaveIdsBelow next index.old.kept.entries
+            → HaveIdsBelow next index.new.kept.entries }
     {
         for one in self.superseded.as_slice() {
             let ids = one.ids.as_slice();
@@ -242,8 +241,8 @@ pub(crate) fn load<F: Files + Drop>(
 ) -> Result<(Found, u64), DiskError>
 where
     F::File: TryLock,
-    ensures { IfOk result (λ loaded. AreAllBelow 0 (stored_in index.old.kept.entries)
-        → AreAllBelow loaded.1 (stored_in index.new.kept.entries)) }
+    ensures { IfOk result (λ loaded. HaveIdsBelow 0 index.old.kept.entries
+        → HaveIdsBelow loaded.1 index.new.kept.entries) }
 {
     let listed = disc.folder.list()?;
     let (ids, apart) = sorted(alloc, listed.names.as_slice())?;

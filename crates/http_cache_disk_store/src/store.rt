@@ -5,11 +5,12 @@ ghost use Rattle.std.specs.Prelude.{nat_eq, IsTrue, IfOk, IfSome, OnOk, OnErr, I
 ghost use Rattle.std.specs.List.{list_any};
 ghost use Rattle.http_cache_store.specs.Store.{IsInserted, IsShownAs, KeepsAll, KeepsOthers};
 ghost use Rattle.http_cache_store.specs.Store.{LosesSome, ShowsAll, has_id, stored_mark, without};
-ghost use Rattle.http_cache_memory_store.specs.Index.{HasUnder};
+ghost use Rattle.http_cache_memory_store.specs.Index.{all_entries, HasUnder};
 ghost use Rattle.http_cache_memory_store.specs.Size.{FitTogether};
 ghost use Rattle.http_cache_memory_store.specs.Stored.{AreAllBelow, AreAllBelow-prop};
 ghost use Rattle.http_cache_disk_store.specs.Sum.{mark_seen, mark_text};
-ghost use Rattle.http_cache_disk_store.specs.Disk.{IsLostToo, cost_of, exchange_of, is_lost};
+ghost use Rattle.http_cache_disk_store.specs.Disk.{AreApart, IsLostToo, cost_of, exchange_of, is_lost};
+ghost use Rattle.http_cache_disk_store.specs.Disk.{UnlinksExactly, UnlinksRemoved};
 ghost use Rattle.http_cache_disk_store.specs.Disk.{is_shown, lanes_in, lasting_in, seen_of, stored_in};
 
 use crate::disc::Disc;
@@ -80,6 +81,7 @@ pub struct DiskStore<F: Files + Drop> {
     damaged: u64,
     ghost ids_below: { AreAllBelow next_id (stored_in index.kept.entries) } by { AreAllBelow-prop next_id (stored_in index.kept.entries) },
     ghost lost_below: { All (λ one. one.id.0 < next_id) lost.items },
+    ghost apart: { AreApart next_id (all_entries index.kept.entries) disc.told.items },
 }
 
 fn failed(fault: Fault) -> StoreError {
@@ -128,7 +130,10 @@ fn look_up(alloc: Global, text: &str, heads: &[Head]) -> Result<Option<LookedUp>
 
 // Removes the lost responses.
 fn remove_lost<G: Removed>(index: &mut Index<Head>, lost: &[Lost], gone: &mut G)
-    ensures { stored_in index.new.kept.entries ≡ lasting_in lost.now index.old.kept.entries }
+    ensures stored { stored_in index.new.kept.entries
+        ≡ lasting_in lost.now index.old.kept.entries }
+    ensures told { UnlinksRemoved index.old.kept.entries index.new.kept.entries
+        (G.told gone.old) (G.told gone.new) }
 {
     for one in lost {
         let ids = [one.id];
@@ -169,6 +174,7 @@ fn write_file<'a, F: Files + Drop>(
 ) -> Result<(), Fault>
 where
     F::File: TryLock,
+    ensures { disc.new.told ≡ disc.old.told }
 {
     disc.write(name, id.number(), [head, body])
 }
@@ -185,7 +191,8 @@ fn write_head<F: Files + Drop>(
 ) -> Result<Packed, Fault>
 where
     F::File: TryLock,
-    ensures { IfOk result (λ written. exchange_of written ≡ exchange_of head) }
+    ensures exchange { IfOk result (λ written. exchange_of written ≡ exchange_of head) }
+    ensures told { disc.new.told ≡ disc.old.told }
 {
     let head = write_renewed(buffer, text, superseded, id, head, place)?;
     match write_file(disc, Name::Head(id.number()), id, buffer.as_slice(), &[]) {
@@ -248,6 +255,7 @@ where
             }
             disc.open()?;
         }
+        disc.begin_account();
         Ok(DiskStore {
             alloc,
             disc,
@@ -313,6 +321,8 @@ where
             ≡ lasting_in self.old.lost.items self.old.index.kept.entries }
         ensures lost { self.new.lost.items ≡ [] }
         ensures next { self.new.next_id ≡ self.old.next_id }
+        ensures unlinked { UnlinksRemoved self.old.index.kept.entries self.new.index.kept.entries
+            self.old.disc.told.items self.new.disc.told.items }
     {
         self.looked_up = None;
         remove_lost(&mut self.index, self.lost.as_slice(), &mut self.disc);
@@ -328,6 +338,8 @@ where
             (stored_in self.new.index.kept.entries) }
         ensures lost { self.new.lost.items ≡ [] }
         ensures next { self.new.next_id ≡ self.old.next_id }
+        ensures unlinked { UnlinksRemoved self.old.index.kept.entries self.new.index.kept.entries
+            self.old.disc.told.items self.new.disc.told.items }
     {
         self.begin();
         self.index.remove_ids(text, ids, &mut self.disc);
@@ -340,6 +352,8 @@ where
             (stored_in self.new.index.kept.entries) }
         ensures lost { self.new.lost.items ≡ [] }
         ensures next { self.new.next_id ≡ self.old.next_id }
+        ensures unlinked { UnlinksRemoved self.old.index.kept.entries self.new.index.kept.entries
+            self.old.disc.told.items self.new.disc.told.items }
     {
         self.drop_ids(text, ids);
         self.disc.settle();
@@ -351,6 +365,8 @@ where
             (lasting_in self.old.lost.items self.old.index.kept.entries)
             (stored_in self.new.index.kept.entries) }
         ensures next { self.new.next_id ≡ self.old.next_id }
+        ensures unlinked { UnlinksRemoved self.old.index.kept.entries self.new.index.kept.entries
+            self.old.disc.told.items self.new.disc.told.items }
     {
         self.drop_ids(text, superseded);
         self.remove_ids(text, &[id]);
@@ -366,6 +382,8 @@ where
             (stored_in self.old.index.kept.entries) self.old.next_id
             (stored_in self.new.index.kept.entries) self.new.next_id }
         ensures next { self.new.next_id ≡ self.old.next_id }
+        ensures unlinked { UnlinksRemoved self.old.index.kept.entries self.new.index.kept.entries
+            self.old.disc.told.items self.new.disc.told.items }
     {
         if fault == Fault::Memory {
             return StoreError::Memory;
@@ -432,6 +450,9 @@ where
         ensures kept { IsErrOf result StoreError.Memory → KeepsAll
             (stored_in self.old.index.kept.entries) self.old.next_id
             (stored_in self.new.index.kept.entries) self.new.next_id }
+        ensures unlinked { UnlinksExactly (all_entries self.old.index.kept.entries)
+            (all_entries self.new.index.kept.entries)
+            self.old.disc.told.items self.new.disc.told.items }
     {
         let id = ResponseId::new(self.next_id);
         let mark = mark_of(body);
@@ -454,7 +475,8 @@ where
                 Ok(Some(id))
             }
             Err(_) => {
-                self.disc.removed(id);
+                // Only its file was there.
+                self.disc.unlink(id);
                 Err(StoreError::Memory)
             }
         }

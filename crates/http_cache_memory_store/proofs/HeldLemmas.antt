@@ -162,7 +162,7 @@ module _ {Y E : Type 0} (cost : E → ℕ) where
       ∙ ap (λ (xs : List E). sum_by g xs + sum_by g (all_entries (remove_entry test c.entries))) spent
       ∙ (let z : sum_by g [] + sum_by g (all_entries (remove_entry test c.entries)) ≡ sum_by g (all_entries (remove_entry test c.entries)) = omega arith in z)))
 
-  first-counts : (g : E → ℕ) (es : List (String Y × StoredList E)) → IfSome (slice_get es 0) (λ e. e.1.entries.items ≡ [])
+  pub first-counts : (g : E → ℕ) (es : List (String Y × StoredList E)) → IfSome (slice_get es 0) (λ e. e.1.entries.items ≡ [])
       → sum_by g (all_entries (drop 1 es)) ≡ sum_by g (all_entries es)
   first-counts g [] h = refl
   first-counts g (e ∷ es) h =
@@ -174,16 +174,21 @@ module _ {Y E : Type 0} (cost : E → ℕ) where
       → IfSome (slice_get c.entries 0) (λ e. e.1.entries.items ≡ []) → IsHeld cost held (lru_cache (drop 1 c.entries) c.cap)
   held-first held c counted spent = held-same held c (drop 1 c.entries) counted (λ g. first-counts g c.entries spent)
 
+  -- a new key is the first
+  pub first-put : (c : LruCache (String Y) (StoredList E)) (key : String Y) (list : StoredList E) → c.cap ≡ 2 ^ 64 - 1
+      → lookup (string_eq key) c.entries ≡ None → length c.entries < 2 ^ 63 → put_entries string_eq c key list ≡ (key, list) ∷ c.entries
+  first-put c key list unbounded none few =
+      let room : take (c.cap - 1) c.entries ≡ c.entries = take-all (c.cap - 1) c.entries (omega arith) in
+      ap (λ o. option_map_or (λ e. (e.0, list) ∷ remove_entry (string_eq key) c.entries) o ((key, list) ∷ take (c.cap - 1) c.entries))
+      (no-entry (string_eq key) c.entries none)
+      ∙ ap (λ (l : List (String Y × StoredList E)). (key, list) ∷ l) room
+
   -- a new key adds the amount of its list
   pub held-put : (held b : Amount) (c : LruCache (String Y) (StoredList E)) (key : String Y) (list : StoredList E) → IsHeld cost held c
       → lookup (string_eq key) c.entries ≡ None → length c.entries < 2 ^ 63 → IsAmountOf cost b (list.entries.items)
       → IsHeld cost (replaced held nothing b) (lru_cache (put_entries string_eq c key list) c.cap)
   held-put held b c key list counted none few is =
-      let room : take (c.cap - 1) c.entries ≡ c.entries = take-all (c.cap - 1) c.entries (omega (arith, counted.unbounded)) in
-      let new : put_entries string_eq c key list ≡ (key, list) ∷ c.entries =
-      ap (λ o. option_map_or (λ e. (e.0, list) ∷ remove_entry (string_eq key) c.entries) o ((key, list) ∷ take (c.cap - 1) c.entries))
-      (no-entry (string_eq key) c.entries none)
-      ∙ ap (λ (l : List (String Y × StoredList E)). (key, list) ∷ l) room in
+      let new : put_entries string_eq c key list ≡ (key, list) ∷ c.entries = first-put c key list counted.unbounded none few in
       held-replaced held nothing b c [] (list.entries.items) (put_entries string_eq c key list) c.entries counted (of-nothing cost) is
       (λ g. omega arith) (λ g. ap (λ (l : List (String Y × StoredList E)). sum_by g (all_entries l)) new ∙ total-cons g (key, list) c.entries)
 
@@ -201,7 +206,7 @@ module _ {Y E : Type 0} (cost : E → ℕ) where
         held-replaced held a nothing c (e.1.entries.items) [] (take (length c.entries - 1) c.entries) (take (length c.entries - 1) c.entries)
         counted was (of-nothing cost) last-part (λ g. omega arith)
 
-  no-last : (es : List (String Y × StoredList E)) → last_entry es ≡ None → take (length es - 1) es ≡ es
+  pub no-last : (es : List (String Y × StoredList E)) → last_entry es ≡ None → take (length es - 1) es ≡ es
   no-last [] h = refl
   no-last (e ∷ es) h =
       let split = split-last e es in

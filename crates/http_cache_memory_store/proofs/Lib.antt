@@ -7,6 +7,7 @@ pub mod IdLemmas
 pub mod ListLemmas
 mod Lookups
 mod MapLemmas
+pub mod OnceLemmas
 mod Outcomes
 mod RoomLemmas
 mod ShownLemmas
@@ -14,4 +15,5 @@ mod SizeLemmas
 mod Sums
 mod SweepLemmas
 mod TextLemmas
+pub mod ToldLemmas
 pub mod Totals

@@ -4,5 +4,6 @@ pub use Rattle.http_cache_store.specs.Target
 pub mod Contents
 pub mod Held
 pub mod Index
+pub mod Removal
 pub mod Size
 pub mod Stored

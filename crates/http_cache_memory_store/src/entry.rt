@@ -1,11 +1,15 @@
 //! What an index asks of the responses that it holds, and of what it tells of those that it
 //! removes.
-ghost use Rattle.std.specs.Prelude.{◌≡◌, ℕ};
+ghost use Rattle.std.specs.Prelude.{◌≡◌, ◌++◌, ◌∷◌, [], ℕ, List};
+ghost use Rattle.http_cache_store.specs.declared.store.ResponseId.{ResponseId as Id};
 ghost use Rattle.http_cache_store.specs.Store.{StoredSeen};
 ghost use Rattle.http_cache_messages.specs.Worth.{can_be_used_again};
+ghost use Rattle.http_cache_memory_store.specs.Removal.{AreListed};
 
+use crate::told::Told;
 use http_cache_store::ResponseId;
 use jiff::Timestamp;
+use std::alloc::Global;
 
 /// A stored response as an index holds it: its head, and its body or where the body is.
 pub trait Entry {
@@ -43,26 +47,73 @@ pub trait Entry {
 
 /// What an index tells of each response that it removes.
 pub trait Removed {
+    // The ids that were told of so far.
+    ghost told: { Self → List Id };
+
     /// A response is removed, or is about to be in the same call.
-    fn removed(&mut self, id: ResponseId);
+    fn removed(&mut self, id: ResponseId)
+        ensures { told self.new ≡ told self.old ++ id ∷ [] };
 }
 
-/// Keeps no account of what is removed.
-#[derive(Clone, Copy, Debug)]
-pub struct Unlisted;
+/// Lists nothing of what is removed.
+#[derive(Drop)]
+pub struct Unlisted {
+    told: Told<ResponseId>,
+}
+
+impl Unlisted {
+    /// Returns a value that was told of nothing.
+    pub fn new() -> Unlisted {
+        Unlisted { told: Told::new() }
+    }
+}
 
 impl Removed for Unlisted {
-    fn removed(&mut self, _id: ResponseId) {}
+    ghost told = { λ unlisted. unlisted.told.items };
+
+    fn removed(&mut self, id: ResponseId) {
+        self.told = self.told.and(&id);
+    }
 }
 
 /// The ids of removed responses. An id is missing if there was no memory to list it.
 #[derive(Drop)]
 pub struct Evicted {
     pub(crate) ids: Vec<ResponseId>,
+    // Whether no id is missing.
+    pub(crate) is_whole: bool,
+    pub(crate) told: Told<ResponseId>,
+    ghost listed: { AreListed is_whole ids.items told.items },
+}
+
+impl Evicted {
+    /// Returns an empty list.
+    pub(crate) fn new(alloc: Global) -> Evicted
+        ensures { result.told.items ≡ [] }
+    {
+        Evicted {
+            ids: Vec::new(alloc),
+            is_whole: true,
+            told: Told::new(),
+        }
+    }
+
+    /// Empties the list.
+    pub(crate) fn clear(&mut self)
+        ensures { self.new.told.items ≡ [] }
+    {
+        self.ids.clear();
+        self.is_whole = true;
+        self.told = Told::new();
+    }
 }
 
 impl Removed for Evicted {
+    ghost told = { λ evicted. evicted.told.items };
+
     fn removed(&mut self, id: ResponseId) {
-        let _listed = self.ids.push(id);
+        let is_listed = self.ids.push(id).is_ok();
+        self.is_whole &= is_listed;
+        self.told = self.told.and(&id);
     }
 }

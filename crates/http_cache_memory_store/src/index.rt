@@ -9,6 +9,7 @@ ghost use Rattle.http_cache_store.specs.Store.{RemovesThese, removed_count, IsSw
 ghost use Rattle.http_cache_store.specs.Target.{text_of};
 ghost use Rattle.http_cache_memory_store.specs.Size.{FitTogether, HasRoom, IsAllowed, IsSmall};
 ghost use Rattle.http_cache_memory_store.specs.Index.{is_last_used, AreTextsWithin, HasUnder, IsHeld, HasFirst};
+ghost use Rattle.http_cache_memory_store.specs.Removal.{HasSameIds, TellsRemoved};
 
 pub(crate) mod bounds;
 pub(crate) mod limit;
@@ -122,6 +123,7 @@ impl<E: Entry + Drop> Index<E> {
         ensures stored { stored_in E.seen self.new ≡ stored_in E.seen self.old }
         ensures first { is_last_used E.seen self.new.kept.entries text.now }
         ensures limits { limits_of self.new ≡ limits_of self.old }
+        ensures ids { HasSameIds E.seen (entries_in self.old) (entries_in self.new) }
     {
         promote(&mut self.kept, text);
     }
@@ -182,6 +184,11 @@ impl<E: Entry + Drop> Index<E> {
             (stored_in E.seen self.old) (stored_in E.seen self.new)) }
         ensures kept { OnErr result (stored_in E.seen self.new ≡ stored_in E.seen self.old) }
         ensures limits { limits_of self.new ≡ limits_of self.old }
+        ensures told { OnOk result (TellsRemoved E.seen (entry ∷ entries_in self.old)
+            (entries_in self.new) (G.told gone.old) (G.told gone.new)) }
+        ensures none_told { OnErr result (G.told gone.new ≡ G.told gone.old) }
+        ensures ids { OnErr result
+            (HasSameIds E.seen (entries_in self.old) (entries_in self.new)) }
     {
         // The amount comes with the proof that there is room to count one more response.
         let _amount = self.amount();
@@ -225,6 +232,8 @@ impl<E: Entry + Drop> Index<E> {
         ensures others { KeepsOthers (stored_in E.seen self.old) (stored_in E.seen self.new)
             text.now }
         ensures limits { limits_of self.new ≡ limits_of self.old }
+        ensures told { TellsRemoved E.seen (entries_in self.old) (entries_in self.new)
+            (G.told gone.old) (G.told gone.new) }
     {
         // The amount comes with the proof that there is room to count a longer head.
         let _amount = self.amount();
@@ -241,6 +250,8 @@ impl<E: Entry + Drop> Index<E> {
             (without ids.now (stored_in E.seen self.old text.now))
             (stored_in E.seen self.old) (stored_in E.seen self.new) }
         ensures limits { limits_of self.new ≡ limits_of self.old }
+        ensures told { TellsRemoved E.seen (entries_in self.old) (entries_in self.new)
+            (G.told gone.old) (G.told gone.new) }
     {
         remove_ids(&mut self.kept, &mut self.held, text, ids, gone);
         tidy(&mut self.kept, text);
@@ -253,6 +264,8 @@ impl<E: Entry + Drop> Index<E> {
         ensures removed { RemovesThese (map text_of targets.now)
             (stored_in E.seen self.old) (stored_in E.seen self.new) }
         ensures limits { limits_of self.new ≡ limits_of self.old }
+        ensures told { TellsRemoved E.seen (entries_in self.old) (entries_in self.new)
+            (G.told gone.old) (G.told gone.new) }
     {
         // The amount comes with the proof that the count fits.
         let _amount = self.amount();
@@ -266,6 +279,8 @@ impl<E: Entry + Drop> Index<E> {
             (stored_in E.seen self.new) }
         ensures removed { length (entries_in self.old) ≡ length (entries_in self.new) + result }
         ensures limits { limits_of self.new ≡ limits_of self.old }
+        ensures told { TellsRemoved E.seen (entries_in self.old) (entries_in self.new)
+            (G.told gone.old) (G.told gone.new) }
     {
         let before = self.amount().responses;
         sweep_all(&mut self.kept, &mut self.held, &mut self.buffer, now, gone);

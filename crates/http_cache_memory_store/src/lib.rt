@@ -10,6 +10,7 @@ pub mod entry;
 pub mod index;
 pub mod memory;
 pub(crate) mod response;
+pub mod told;
 
 pub use http_cache_store::{ResponseId, Store, StoreError, StoredResponse, Target};
 pub use index::Limits;

@@ -4,7 +4,8 @@ ghost use Rattle.std.specs.Prelude.{◌≡◌, ◌≤◌, ◌<◌, ◌==◌, ◌
 ghost use Rattle.std.specs.List.{sum_by};
 ghost use Rattle.http_cache_memory_store.specs.Size.{FitsAlone, response_cost};
 ghost use Rattle.http_cache_memory_store.specs.Stored.{seen_of, cost_of, AreFitting, AreAllFitting, AreAllBelow, AreAllBelow-prop};
-ghost use Rattle.http_cache_memory_store.specs.Index.{stored_under};
+ghost use Rattle.http_cache_memory_store.specs.Index.{all_entries, stored_under};
+ghost use Rattle.http_cache_memory_store.specs.Removal.{AreOnceBelow};
 
 use crate::entry::{Evicted, Unlisted};
 use crate::index::{Index, Limits};
@@ -43,14 +44,15 @@ fn body_of(stored: &StoredResponse) -> Result<Bytes, AllocError>
 pub struct MemoryStore {
     pub(crate) index: Index<StoredResponse>,
     pub(crate) next_id: u64,
-    // The ids that the last `put` or `renew` removed.
+    // What the last `put` or `renew` removed.
     pub(crate) evicted: Evicted,
     ghost ids_below: { AreAllBelow next_id (stored_under seen_of index.kept.entries) } by { AreAllBelow-prop next_id (stored_under seen_of index.kept.entries) },
     ghost fitting: { AreAllFitting index.limits (stored_under seen_of index.kept.entries) },
+    ghost once: { AreOnceBelow seen_of next_id (all_entries index.kept.entries) },
 }
 
 impl MemoryStore {
-    ghost use Rattle.http_cache_memory_store.specs.Contents.{contents, limits_of};
+    ghost use Rattle.http_cache_memory_store.specs.Contents.{contents, limits_of, evicted_in, lists_all};
 
     /// Returns an empty store. The secret keys of `hasher` keep look-ups fast for hostile targets.
     ///
@@ -70,9 +72,7 @@ impl MemoryStore {
         Ok(MemoryStore {
             index: Index::new(alloc, hasher, limits)?,
             next_id: 0,
-            evicted: Evicted {
-                ids: Vec::new(alloc),
-            },
+            evicted: Evicted::new(alloc),
         })
     }
 
@@ -113,8 +113,18 @@ impl MemoryStore {
     /// Returns the ids of the responses that the last `put` or `renew` removed: those that it
     /// superseded, and those that it evicted because of a limit. An id is missing if there was no
     /// memory to list it.
-    pub fn evicted(&self) -> &[ResponseId] {
+    pub fn evicted(&self) -> &[ResponseId]
+        ensures { result.now ≡ evicted_in self.now }
+    {
         self.evicted.ids.as_slice()
+    }
+
+    /// Returns whether `evicted` lists all that the last `put` or `renew` removed, so that no id is
+    /// missing.
+    pub fn lists_all_evicted(&self) -> bool
+        ensures { result ≡ lists_all self.now }
+    {
+        self.evicted.is_whole
     }
 
     // Returns whether a response may be stored now.
@@ -131,13 +141,15 @@ impl MemoryStore {
 }
 
 impl Store for MemoryStore {
-    ghost use Rattle.std.specs.Prelude.{◌≡◌, ◌+◌, None, length, IfOk, OnOk, OnErr, OnSome, IsErrOf};
-    ghost use Rattle.http_cache_store.specs.Store.{IsSwept, IsInserted, KeepsAll, KeepsOthers, without};
+    ghost use Rattle.std.specs.Prelude.{◌≡◌, ◌+◌, None, true, length, IfOk, OnOk, OnErr, OnSome, IsOk, IsErrOf};
+    ghost use Rattle.http_cache_store.specs.Store.{AreNewestOf, IsSwept, IsInserted, KeepsAll, KeepsOthers};
+    ghost use Rattle.http_cache_store.specs.Store.{has_id, renewed, without};
     ghost use Rattle.http_cache_store.specs.Target.{text_of};
     ghost use Rattle.http_cache_memory_store.specs.Index.{stored_under, is_last_used, HasUnder};
     ghost use Rattle.http_cache_memory_store.specs.Size.{FitsAlone, HasRoom, response_cost};
     ghost use Rattle.http_cache_memory_store.specs.Stored.{seen_of, cost_of, put_first};
-    ghost use Rattle.http_cache_memory_store.specs.Contents.{contents, limits_of};
+    ghost use Rattle.http_cache_memory_store.specs.Contents.{contents, limits_of, evicted_in, lists_all};
+    ghost use Rattle.http_cache_memory_store.specs.Removal.{AreGone, AreAllGone};
 
     ghost mark = { λ body. body };
 
@@ -177,7 +189,7 @@ impl Store for MemoryStore {
     }
 
     // Beyond the trait's clauses, these say when a response isn't stored, that only memory can be
-    // missing, and that nothing is evicted while there is room.
+    // missing, that nothing is evicted while there is room, and what `evicted` lists then.
     fn put(
         &mut self,
         target: &Target,
@@ -208,10 +220,15 @@ impl Store for MemoryStore {
             (⟦<MemoryStore as Store>⟧.stored self.old (text_of target.now)))
             (⟦<MemoryStore as Store>⟧.stored self.old)
             (⟦<MemoryStore as Store>⟧.stored self.new))) }
+        ensures evicted { AreGone seen_of (evicted_in self.new)
+            (contents self.old) (contents self.new) }
+        ensures all_evicted { lists_all self.new ≡ true → AreAllGone seen_of (evicted_in self.new)
+            (contents self.old) (contents self.new) }
     {
-        self.evicted.ids.clear();
+        self.evicted.clear();
         if !self.takes(&policy, &body) {
-            self.remove(target, superseded);
+            self.index
+                .remove_ids(target.as_str(), superseded, &mut self.evicted);
             return Ok(None);
         }
         let id = ResponseId::new(self.next_id);
@@ -234,19 +251,37 @@ impl Store for MemoryStore {
         superseded: &[ResponseId],
         id: ResponseId,
         policy: CachePolicy,
-    ) -> Result<bool, StoreError> {
+    ) -> Result<bool, StoreError>
+        ensures renewed { OnOk result (AreNewestOf
+            (⟦<MemoryStore as Store>⟧.stored self.new (text_of target.now))
+            (renewed id.0 policy (without superseded.now
+            (⟦<MemoryStore as Store>⟧.stored self.old (text_of target.now))))) }
+        ensures was_stored { IfOk result (λ was_stored. was_stored
+            ≡ has_id id.0 (without superseded.now
+            (⟦<MemoryStore as Store>⟧.stored self.old (text_of target.now)))) }
+        ensures next { ⟦<MemoryStore as Store>⟧.next_id self.new
+            ≡ ⟦<MemoryStore as Store>⟧.next_id self.old }
+        ensures others { OnOk result (KeepsOthers (⟦<MemoryStore as Store>⟧.stored self.old)
+            (⟦<MemoryStore as Store>⟧.stored self.new) (text_of target.now)) }
+        ensures succeeds { IsOk result }
+        ensures evicted { AreGone seen_of (evicted_in self.new)
+            (contents self.old) (contents self.new) }
+        ensures all_evicted { lists_all self.new ≡ true → AreAllGone seen_of (evicted_in self.new)
+            (contents self.old) (contents self.new) }
+    {
         let text = target.as_str();
-        self.evicted.ids.clear();
+        self.evicted.clear();
         self.index.remove_ids(text, superseded, &mut self.evicted);
         Ok(self.index.renew(text, id, policy, &mut self.evicted))
     }
 
     fn remove(&mut self, target: &Target, ids: &[ResponseId]) {
-        self.index.remove_ids(target.as_str(), ids, &mut Unlisted);
+        self.index
+            .remove_ids(target.as_str(), ids, &mut Unlisted::new());
     }
 
     fn remove_targets(&mut self, targets: &[Target]) -> usize {
-        self.index.remove_targets(targets, &mut Unlisted)
+        self.index.remove_targets(targets, &mut Unlisted::new())
     }
 
     // Beyond the trait's clauses, the result counts the removed responses.
@@ -257,6 +292,6 @@ impl Store for MemoryStore {
         ensures next { ⟦<MemoryStore as Store>⟧.next_id self.new
             ≡ ⟦<MemoryStore as Store>⟧.next_id self.old }
     {
-        self.index.sweep(now, &mut Unlisted)
+        self.index.sweep(now, &mut Unlisted::new())
     }
 }

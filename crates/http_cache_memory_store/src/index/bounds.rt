@@ -2,7 +2,8 @@
 //! oldest responses are evicted first. Then the targets that were used longest ago are.
 ghost use Rattle.std.specs.Prelude.{◌≡◌, ◌≤◌, ◌-◌, ◌⊎◌, length, take};
 ghost use Rattle.http_cache_memory_store.specs.Size.{IsAtMost, IsAllowed};
-ghost use Rattle.http_cache_memory_store.specs.Index.{stored_under, AreFewer, KeepsTexts, IsFront, IsBounded, IsHeld, IsFirstText, IsFirstShortened, CanStay};
+ghost use Rattle.http_cache_memory_store.specs.Index.{all_entries, stored_under, AreFewer, KeepsTexts, IsFront, IsBounded, IsHeld, IsFirstText, IsFirstShortened, CanStay};
+ghost use Rattle.http_cache_memory_store.specs.Removal.{TellsRemoved};
 
 use crate::entry::{Entry, Removed};
 use crate::index::limit::Limits;
@@ -16,6 +17,8 @@ fn evict_one<E: Entry + Drop, G: Removed>(kept: &mut Kept<E>, held: &mut Amount,
     ensures entries { kept.new.entries ≡ take (length kept.old.entries - 1) kept.old.entries }
     ensures held { IsHeld E.cost held.new kept.new }
     ensures less { IsAtMost held.new held.old }
+    ensures told { TellsRemoved E.seen (all_entries kept.old.entries) (all_entries kept.new.entries)
+        (G.told gone.old) (G.told gone.new) }
 {
     match kept.pop_lru() {
         Some((text, list)) => {
@@ -42,6 +45,8 @@ fn evict<E: Entry + Drop, G: Removed>(
     ensures less { IsAtMost held.new held.old }
     ensures allowed { (length kept.new.entries ≤ 1) ⊎ IsAllowed limits.now held.new }
     ensures whole { IsAllowed limits.now held.old → kept.new.entries ≡ kept.old.entries }
+    ensures told { TellsRemoved E.seen (all_entries kept.old.entries) (all_entries kept.new.entries)
+        (G.told gone.old) (G.told gone.new) }
 {
     while kept.len() > 1 && !limits.allow(*held) {
         evict_one(kept, held, gone);
@@ -66,6 +71,8 @@ fn shorten<E: Entry + Drop, G: Removed>(
     ensures held { IsHeld E.cost held.new kept.new }
     ensures less { IsAtMost held.new held.old }
     ensures texts { KeepsTexts kept.old.entries kept.new.entries }
+    ensures told { TellsRemoved E.seen (all_entries kept.old.entries) (all_entries kept.new.entries)
+        (G.told gone.old) (G.told gone.new) }
 {
     match kept.get_mut(text) {
         Some(list) => {
@@ -100,6 +107,8 @@ pub(crate) fn keep_limits<E: Entry + Drop, G: Removed>(
     ensures whole { IsAllowed limits.now held.old
         → length (stored_under E.seen kept.old.entries text.now) ≤ limits.now.variants
         → stored_under E.seen kept.new.entries ≡ stored_under E.seen kept.old.entries }
+    ensures told { TellsRemoved E.seen (all_entries kept.old.entries) (all_entries kept.new.entries)
+        (G.told gone.old) (G.told gone.new) }
 {
     shorten(kept, held, limits, text, stay, gone);
     evict(kept, held, limits, gone);

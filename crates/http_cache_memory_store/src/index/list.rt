@@ -8,6 +8,7 @@ ghost use Rattle.http_cache_messages.specs.Worth.{can_be_used_again};
 ghost use Rattle.http_cache_store.specs.Store.{without, renewed, has_id};
 ghost use Rattle.http_cache_memory_store.specs.Size.{IsAmountOf, IsOfList, FitTogether};
 ghost use Rattle.http_cache_memory_store.specs.Index.{AreLeft, IsRenewedAt};
+ghost use Rattle.http_cache_memory_store.specs.Removal.{HasSameIds, TellsRemoved};
 
 use crate::entry::{Entry, Removed};
 use crate::index::limit::Limits;
@@ -50,7 +51,11 @@ fn drop_unusable<E: Entry + Drop>(entries: &mut Vec<E>, now: Timestamp)
 }
 
 // Tells of those that have one of the ids.
-fn tell_ids<E: Entry, G: Removed>(entries: &[E], ids: &[ResponseId], gone: &mut G) {
+fn tell_ids<E: Entry, G: Removed>(entries: &[E], ids: &[ResponseId], gone: &mut G)
+    ensures { TellsRemoved E.seen entries.now
+        (filter (λ e. not (list_any (λ one. nat_eq (E.seen e).id one.0) ids.now)) entries.now)
+        (G.told gone.old) (G.told gone.new) }
+{
     for entry in entries {
         if is_among(ids, entry.id()) {
             gone.removed(entry.id());
@@ -59,7 +64,11 @@ fn tell_ids<E: Entry, G: Removed>(entries: &[E], ids: &[ResponseId], gone: &mut 
 }
 
 // Tells of those that can't be used again.
-fn tell_unusable<E: Entry, G: Removed>(entries: &[E], now: Timestamp, gone: &mut G) {
+fn tell_unusable<E: Entry, G: Removed>(entries: &[E], now: Timestamp, gone: &mut G)
+    ensures { TellsRemoved E.seen entries.now
+        (filter (λ e. can_be_used_again (E.seen e).exchange now.nanosecond) entries.now)
+        (G.told gone.old) (G.told gone.new) }
+{
     for entry in entries {
         if !entry.can_be_used_again(now) {
             gone.removed(entry.id());
@@ -69,7 +78,9 @@ fn tell_unusable<E: Entry, G: Removed>(entries: &[E], now: Timestamp, gone: &mut
 
 fn drop_oldest<E: Entry + Drop, G: Removed>(entries: &mut Vec<E>, gone: &mut G)
     requires { 0 < length entries.old.items }
-    ensures { entries.new.items ≡ take (length entries.old.items - 1) entries.old.items }
+    ensures left { entries.new.items ≡ take (length entries.old.items - 1) entries.old.items }
+    ensures told { TellsRemoved E.seen entries.old.items entries.new.items
+        (G.told gone.old) (G.told gone.new) }
 {
     if let Some(entry) = entries.pop() {
         gone.removed(entry.id());
@@ -90,6 +101,8 @@ fn drop_until<E: Entry + Drop, G: Removed>(
         → FitTogether E.cost limits.now entries.new.items }
     ensures whole { FitTogether E.cost limits.now entries.old.items
         → entries.new.items ≡ entries.old.items }
+    ensures told { TellsRemoved E.seen entries.old.items entries.new.items
+        (G.told gone.old) (G.told gone.new) }
 {
     while entries.len() > stay && !limits.fit_together(entries.as_slice()) {
         drop_oldest(entries, gone);
@@ -137,6 +150,7 @@ fn renew_at<E: Entry>(entries: &mut Vec<E>, at: usize, head: E::Head)
 
 impl<E: Entry + Drop> StoredList<E> {
     ghost use Rattle.http_cache_memory_store.specs.Index.{all_seen};
+    ghost use Rattle.http_cache_memory_store.specs.Removal.{HasSameIds, TellsRemoved};
     ghost use Rattle.http_cache_store.specs.Store.{usable};
 
     /// Returns the amount of the listed responses.
@@ -158,6 +172,8 @@ impl<E: Entry + Drop> StoredList<E> {
             self.old.entries.items }
         ensures length { vec_len self.new.entries ≤ vec_len self.old.entries }
         ensures capacity { vec_capacity self.new.entries ≡ vec_capacity self.old.entries }
+        ensures told { TellsRemoved E.seen self.old.entries.items self.new.entries.items
+            (G.told gone.old) (G.told gone.new) }
     {
         tell_ids(self.entries.as_slice(), ids, gone);
         drop_ids(&mut self.entries, ids);
@@ -170,6 +186,8 @@ impl<E: Entry + Drop> StoredList<E> {
         ensures entries { self.new.entries.items
             ≡ filter (λ e. can_be_used_again (E.seen e).exchange now.nanosecond)
             self.old.entries.items }
+        ensures told { TellsRemoved E.seen self.old.entries.items self.new.entries.items
+            (G.told gone.old) (G.told gone.new) }
     {
         tell_unusable(self.entries.as_slice(), now, gone);
         drop_unusable(&mut self.entries, now);
@@ -189,6 +207,9 @@ impl<E: Entry + Drop> StoredList<E> {
             ∷ filter (λ e. not (list_any (λ one. nat_eq (E.seen e).id one.0) superseded.now))
             self.old.entries.items) }
         ensures kept { OnErr result (self.new.entries.items ≡ self.old.entries.items) }
+        ensures told { OnOk result (TellsRemoved E.seen (entry ∷ self.old.entries.items)
+            self.new.entries.items (G.told gone.old) (G.told gone.new)) }
+        ensures none_told { OnErr result (G.told gone.new ≡ G.told gone.old) }
     {
         self.entries.reserve(1)?;
         self.remove(superseded, gone);
@@ -201,6 +222,7 @@ impl<E: Entry + Drop> StoredList<E> {
             ≡ renewed id.0 (E.exchange head) (all_seen E.seen self.old) }
         ensures was_stored { result ≡ has_id id.0 (all_seen E.seen self.old) }
         ensures kept { result ≡ false → self.new.entries.items ≡ self.old.entries.items }
+        ensures ids { HasSameIds E.seen self.old.entries.items self.new.entries.items }
     {
         let Some(at) = index_of(self.entries.as_slice(), id) else {
             drop(head);
@@ -218,12 +240,17 @@ impl<E: Entry + Drop> StoredList<E> {
             → FitTogether E.cost limits.now self.new.entries.items }
         ensures whole { FitTogether E.cost limits.now self.old.entries.items
             → self.new.entries.items ≡ self.old.entries.items }
+        ensures told { TellsRemoved E.seen self.old.entries.items self.new.entries.items
+            (G.told gone.old) (G.told gone.new) }
     {
         drop_until(&mut self.entries, stay, limits, gone);
     }
 
     /// Tells of all responses.
-    pub(crate) fn tell<G: Removed>(&self, gone: &mut G) {
+    pub(crate) fn tell<G: Removed>(&self, gone: &mut G)
+        ensures { TellsRemoved E.seen self.now.entries.items []
+            (G.told gone.old) (G.told gone.new) }
+    {
         for entry in self.entries.as_slice() {
             gone.removed(entry.id());
         }

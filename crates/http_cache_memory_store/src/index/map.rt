@@ -3,13 +3,14 @@
 //! stored.
 //!
 //! Look-ups are by `&str`, since std's lemmas on texts are about it.
-ghost use Rattle.std.specs.Prelude.{◌≡◌, ◌∷◌, [], true, false, Some, None, ◌+◌, ◌≤◌, OnOk, OnErr, IsTrue, slice_get, string_bytes, map, length, take};
+ghost use Rattle.std.specs.Prelude.{◌≡◌, ◌∷◌, ◌++◌, [], true, false, Some, None, ◌+◌, ◌≤◌, OnOk, OnErr, IsTrue, slice_get, string_bytes, map, length, take};
 ghost use Rattle.std.specs.List.{sum_by};
 ghost use Rattle.std.specs.Map.{lookup};
 ghost use Rattle.http_cache_store.specs.Store.{without, renewed, has_id, RemovesThese, removed_count};
 ghost use Rattle.http_cache_store.specs.Target.{text_of};
 ghost use Rattle.lru.specs.LruCache.{promoted};
-ghost use Rattle.http_cache_memory_store.specs.Index.{all_seen, entries_under, stored_under, is_last_used, is_text, HasUnder, IsOnTop, KeepsTexts, KeepsTextsBut, IsHeld, IsFirstText};
+ghost use Rattle.http_cache_memory_store.specs.Index.{all_entries, all_seen, entries_under, stored_under, is_last_used, is_text, HasUnder, IsOnTop, KeepsTexts, KeepsTextsBut, IsHeld, IsFirstText};
+ghost use Rattle.http_cache_memory_store.specs.Removal.{HasSameIds, TellsRemoved};
 ghost use Rattle.http_cache_memory_store.specs.Size.{IsAtMost, IsSmall};
 ghost use Rattle.http_cache_memory_store.specs.declared.index.size.Amount.{Amount as Held};
 
@@ -26,6 +27,8 @@ pub(crate) fn promote<E: Entry + Drop>(kept: &mut Kept<E>, text: &str)
     ensures moved { kept.new.entries ≡ promoted (is_text text.now) kept.old.entries }
     ensures texts { KeepsTexts kept.old.entries kept.new.entries }
     ensures held { (held : Held) → IsHeld E.cost held kept.old → IsHeld E.cost held kept.new }
+    ensures ids { HasSameIds E.seen (all_entries kept.old.entries)
+        (all_entries kept.new.entries) }
 {
     let _is_kept = kept.promote(text);
 }
@@ -70,6 +73,8 @@ pub(crate) fn remove_text<E: Entry + Drop, G: Removed>(
     ensures texts { KeepsTexts kept.old.entries kept.new.entries }
     ensures held { IsHeld E.cost held.new kept.new }
     ensures less { IsAtMost held.new held.old }
+    ensures told { TellsRemoved E.seen (all_entries kept.old.entries) (all_entries kept.new.entries)
+        (G.told gone.old) (G.told gone.new) }
 {
     // The length comes with the proof that all keys are different.
     let _length = kept.len();
@@ -102,6 +107,8 @@ pub(crate) fn remove_texts<E: Entry + Drop, G: Removed>(
     ensures texts { KeepsTexts kept.old.entries kept.new.entries }
     ensures held { IsHeld E.cost held.new kept.new }
     ensures less { IsAtMost held.new held.old }
+    ensures told { TellsRemoved E.seen (all_entries kept.old.entries) (all_entries kept.new.entries)
+        (G.told gone.old) (G.told gone.new) }
 {
     let mut count = 0usize;
     for target in targets {
@@ -124,6 +131,8 @@ pub(crate) fn tidy<E: Entry + Drop>(kept: &mut Kept<E>, text: &str)
     ensures stored { stored_under E.seen kept.new.entries ≡ stored_under E.seen kept.old.entries }
     ensures texts { KeepsTexts kept.old.entries kept.new.entries }
     ensures held { (held : Held) → IsHeld E.cost held kept.old → IsHeld E.cost held kept.new }
+    ensures ids { HasSameIds E.seen (all_entries kept.old.entries)
+        (all_entries kept.new.entries) }
 {
     // The length comes with the proof that all keys are different.
     let _length = kept.len();
@@ -147,6 +156,8 @@ pub(crate) fn remove_ids<E: Entry + Drop, G: Removed>(
     ensures texts { KeepsTexts kept.old.entries kept.new.entries }
     ensures held { IsHeld E.cost held.new kept.new }
     ensures less { IsAtMost held.new held.old }
+    ensures told { TellsRemoved E.seen (all_entries kept.old.entries) (all_entries kept.new.entries)
+        (G.told gone.old) (G.told gone.new) }
 {
     match kept.get_mut(text) {
         Some(list) => {
@@ -177,6 +188,8 @@ pub(crate) fn renew<E: Entry + Drop>(
     ensures refused { result ≡ false → IsAtMost held.new held.old }
     ensures was_stored { result ≡ has_id id.0 (stored_under E.seen kept.old.entries text.now) }
     ensures texts { KeepsTexts kept.old.entries kept.new.entries }
+    ensures ids { HasSameIds E.seen (all_entries kept.old.entries)
+        (all_entries kept.new.entries) }
 {
     match kept.get_mut(text) {
         Some(list) => {
@@ -212,6 +225,8 @@ fn put_key<E: Entry + Drop>(
     ensures added { OnOk result (held.new.responses ≡ held.old.responses + length list.entries.items) }
     ensures more { OnOk result
         (held.new.bytes ≡ held.old.bytes + sum_by E.cost list.entries.items) }
+    ensures ids { OnOk result (HasSameIds E.seen
+        (list.entries.items ++ all_entries kept.old.entries) (all_entries kept.new.entries)) }
 {
     // The length comes with the proof that the map has room for one more key.
     let _length = kept.len();
@@ -243,6 +258,8 @@ fn put_new<E: Entry + Drop>(
     ensures less { OnErr result (IsAtMost held.new held.old) }
     ensures grows { OnOk result (held.new.responses ≤ held.old.responses + 1) }
     ensures more { OnOk result (held.new.bytes ≤ held.old.bytes + E.cost entry) }
+    ensures ids { OnOk result (HasSameIds E.seen (entry ∷ all_entries kept.old.entries)
+        (all_entries kept.new.entries)) }
 {
     let list = list_of_one(alloc, entry)?;
     let key = String::from_str(alloc, text)?;
@@ -274,6 +291,11 @@ pub(crate) fn put_stored<E: Entry + Drop, G: Removed>(
     ensures less { OnErr result (IsAtMost held.new held.old) }
     ensures grows { OnOk result (held.new.responses ≤ held.old.responses + 1) }
     ensures more { OnOk result (held.new.bytes ≤ held.old.bytes + E.cost entry) }
+    ensures told { OnOk result (TellsRemoved E.seen (entry ∷ all_entries kept.old.entries)
+        (all_entries kept.new.entries) (G.told gone.old) (G.told gone.new)) }
+    ensures none_told { OnErr result (G.told gone.new ≡ G.told gone.old) }
+    ensures ids { OnErr result (HasSameIds E.seen (all_entries kept.old.entries)
+        (all_entries kept.new.entries)) }
 {
     if !kept.contains(text) {
         return put_new(kept, alloc, held, text, entry);

@@ -4,8 +4,9 @@
 //! buffer, sweeps that entry and makes it the first. The round restores the order.
 ghost use Rattle.std.specs.Prelude.{◌≡◌, ◌⊎◌, ◌<◌, ◌≤◌, ◌-◌, [], true, false, length, slice_get, string_bytes, string_capacity, IfSome, OnOk, OnErr};
 ghost use Rattle.http_cache_store.specs.Store.{IsSwept, KeepsOthers};
-ghost use Rattle.http_cache_memory_store.specs.Index.{stored_under, AreTextsWithin, IsLastText, IsTurned, IsTurnedOrRemoved, IsFirstDropped, IsHeld};
+ghost use Rattle.http_cache_memory_store.specs.Index.{all_entries, stored_under, AreTextsWithin, IsLastText, IsTurned, IsTurnedOrRemoved, IsFirstDropped, IsHeld};
 ghost use Rattle.http_cache_memory_store.specs.Index.{AreOldestSwept, IsFirstText, KeepsFirst, OthersAreSwept};
+ghost use Rattle.http_cache_memory_store.specs.Removal.{HasSameIds, TellsRemoved};
 ghost use Rattle.http_cache_memory_store.specs.Size.{IsAtMost};
 ghost use Rattle.http_cache_memory_store.specs.declared.index.size.Amount.{Amount as Held};
 
@@ -67,6 +68,8 @@ fn turn<E: Entry + Drop, G: Removed>(
     ensures turned { IsTurned E.seen now.nanosecond kept.old.entries kept.new.entries }
     ensures held { IsHeld E.cost held.new kept.new }
     ensures less { IsAtMost held.new held.old }
+    ensures told { TellsRemoved E.seen (all_entries kept.old.entries) (all_entries kept.new.entries)
+        (G.told gone.old) (G.told gone.new) }
 {
     // The length comes with the proof that all keys are different.
     let _length = kept.len();
@@ -94,6 +97,8 @@ fn tidy_first<E: Entry + Drop>(kept: &mut Kept<E>)
     ensures entries { (kept.new.entries ≡ kept.old.entries)
         ⊎ IsFirstDropped E.seen kept.old.entries kept.new.entries }
     ensures held { (held : Held) → IsHeld E.cost held kept.old → IsHeld E.cost held kept.new }
+    ensures ids { HasSameIds E.seen (all_entries kept.old.entries)
+        (all_entries kept.new.entries) }
 {
     if is_first_spent(kept) {
         drop(kept.pop_mru());
@@ -115,6 +120,8 @@ fn sweep_last<E: Entry + Drop, G: Removed>(
     ensures less { IsAtMost held.new held.old }
     ensures turned { IsTurnedOrRemoved E.seen now.nanosecond kept.old.entries kept.new.entries }
     ensures capacity { string_capacity buffer.old ≤ string_capacity buffer.new }
+    ensures told { TellsRemoved E.seen (all_entries kept.old.entries) (all_entries kept.new.entries)
+        (G.told gone.old) (G.told gone.new) }
 {
     copy_last(kept, buffer);
     turn(kept, held, buffer.as_str(), now, gone);
@@ -139,6 +146,8 @@ fn sweep_oldest<E: Entry + Drop, G: Removed>(
     ensures swept { AreOldestSwept E.seen now.nanosecond (length kept.old.entries - count)
         kept.old.entries kept.new.entries }
     ensures room { AreTextsWithin (string_capacity buffer.new) kept.new.entries }
+    ensures told { TellsRemoved E.seen (all_entries kept.old.entries) (all_entries kept.new.entries)
+        (G.told gone.old) (G.told gone.new) }
 {
     // The length comes with the proof that all keys are different.
     let _length = kept.len();
@@ -162,6 +171,8 @@ pub(crate) fn sweep_all<E: Entry + Drop, G: Removed>(
     ensures swept { IsSwept now.nanosecond (stored_under E.seen kept.old.entries)
         (stored_under E.seen kept.new.entries) }
     ensures room { AreTextsWithin (string_capacity buffer.new) kept.new.entries }
+    ensures told { TellsRemoved E.seen (all_entries kept.old.entries) (all_entries kept.new.entries)
+        (G.told gone.old) (G.told gone.new) }
 {
     let count = kept.len();
     sweep_oldest(kept, held, buffer, count, now, gone);
@@ -186,6 +197,8 @@ pub(crate) fn sweep_others<E: Entry + Drop, G: Removed>(
     ensures others { OthersAreSwept now.nanosecond text.now (stored_under E.seen kept.old.entries)
         (stored_under E.seen kept.new.entries) }
     ensures room { AreTextsWithin (string_capacity buffer.new) kept.new.entries }
+    ensures told { TellsRemoved E.seen (all_entries kept.old.entries) (all_entries kept.new.entries)
+        (G.told gone.old) (G.told gone.new) }
 {
     let count = kept.len();
     sweep_oldest(kept, held, buffer, count - 1, now, gone);
@@ -224,6 +237,8 @@ pub(crate) fn sweep_others_if<E: Entry + Drop, G: Removed>(
         (stored_under E.seen kept.new.entries) text.now }
     ensures room { AreTextsWithin (string_capacity buffer.new) kept.new.entries }
     ensures unswept { is_due ≡ false → (kept.new ≡ kept.old) × (held.new ≡ held.old) }
+    ensures told { TellsRemoved E.seen (all_entries kept.old.entries) (all_entries kept.new.entries)
+        (G.told gone.old) (G.told gone.new) }
 {
     if is_due {
         sweep_others(kept, held, buffer, text, now, gone);

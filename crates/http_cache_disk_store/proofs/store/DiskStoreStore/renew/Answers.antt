@@ -1,11 +1,15 @@
 -- The superseded and the lost responses are removed first, and then the head is replaced.
-use Rattle.std.proofs.Common.{ℕ, List, sym, subst, ◌∙◌}
+use Rattle.std.proofs.Common.{ℕ, List, sym, subst, ◌∙◌, ap}
 use Rattle.http_cache_store.specs.Store.{AreNewestOf, KeepsOthers, renewed, without}
 use Rattle.http_cache_memory_store.proofs.BoundsLemmas.{newest-same}
 use Rattle.http_cache_memory_store.proofs.IdLemmas.{below-left}
 use Rattle.http_cache_memory_store.proofs.ListLemmas.{renewed-none}
 use Rattle.http_cache_disk_store.specs.Disk.{exchange_of, lasting_in, stored_in}
 use Rattle.http_cache_disk_store.proofs.LostLemmas.{others-under}
+use Rattle.http_cache_memory_store.specs.Index.{all_entries}
+use Rattle.http_cache_disk_store.proofs.ApartLemmas.{apart-settled}
+use Rattle.http_cache_memory_store.specs.declared.told.Told.{Told}
+use Rattle.http_cache_store.specs.declared.store.ResponseId.{ResponseId}
 use Rattle.http_cache_disk_store.proofs.store.DiskStoreStore.renew.Goals as goal
 
 pub returns-in_default-clause-renewed : goal.returns-in_default-clause-renewed
@@ -26,6 +30,9 @@ invariant_of-self-in-Ok g c =
       ids_below = below-left self.next_id c.args.id.0 (exchange_of c.in-Ok.head) c.as_str-text.result.now (stored_in self.index.kept.entries)
           (stored_in c.renew-is_renewed.new.self.kept.entries) c.renew-is_renewed.ensures.renewed c.renew-is_renewed.ensures.others self.ids_below;
       lost_below = self.lost_below;
+      apart = apart-settled self.next_id (all_entries self.index.kept.entries) (all_entries c.renew-is_renewed.new.self.kept.entries) self.disc.told.items
+          c.renew-is_renewed.new.gone.told.items c.settle.new.self.told.items c.renew-is_renewed.ensures.told (ap (λ (l : Told ResponseId). l.items) c.settle.ensures.told)
+          self.apart;
     }
 
 pub returns-in-Ok-clause-others : goal.returns-in-Ok-clause-others

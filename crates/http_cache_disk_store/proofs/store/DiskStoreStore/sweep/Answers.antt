@@ -1,8 +1,12 @@
 -- What is left without the lost ones is swept.
-use Rattle.std.proofs.Common.{subst}
+use Rattle.std.proofs.Common.{subst, ap, refl}
 use Rattle.http_cache_store.specs.Store.{IsSwept, StoredByTarget}
 use Rattle.http_cache_memory_store.proofs.IdLemmas.{below-swept}
 use Rattle.http_cache_disk_store.specs.Disk.{stored_in}
+use Rattle.http_cache_memory_store.specs.Index.{all_entries}
+use Rattle.http_cache_disk_store.proofs.ApartLemmas.{apart-same, apart-settled}
+use Rattle.http_cache_memory_store.specs.declared.told.Told.{Told}
+use Rattle.http_cache_store.specs.declared.store.ResponseId.{ResponseId}
 use Rattle.http_cache_disk_store.proofs.store.DiskStoreStore.sweep.Goals as goal
 
 pub invariant_of-self : goal.invariant_of-self
@@ -12,6 +16,11 @@ invariant_of-self g c =
       ids_below = below-swept self.next_id c.args.now.nanosecond (stored_in self.index.kept.entries)
           (stored_in c.sweep-removed.new.self.kept.entries) c.sweep-removed.ensures.swept self.ids_below;
       lost_below = self.lost_below;
+      apart = apart-settled self.next_id (all_entries self.index.kept.entries) (all_entries c.sweep-removed.new.self.kept.entries)
+          c.retry.new.self.told.items c.sweep-removed.new.gone.told.items c.settle.new.self.told.items c.sweep-removed.ensures.told
+          (ap (λ (l : Told ResponseId). l.items) c.settle.ensures.told)
+          (apart-same self.next_id (all_entries self.index.kept.entries) (all_entries self.index.kept.entries) self.disc.told.items
+          c.retry.new.self.told.items (λ id. refl) (ap (λ (l : Told ResponseId). l.items) c.retry.ensures.told) self.apart);
     }
 
 pub returns-clause-swept : goal.returns-clause-swept

@@ -1,11 +1,12 @@
 -- The new response is put first and stays, and the limits hold.
 use Rattle.std.proofs.Common.{◌≡◌, ◌≤◌, arith, true, false, not, ◌∷◌, length, ap, subst, sym, inl, ◌∙◌}
 use Rattle.http_cache_store.specs.Store.{StoredByTarget, without}
-use Rattle.http_cache_memory_store.specs.Index.{stored_under}
+use Rattle.http_cache_memory_store.specs.Index.{all_entries, stored_under}
 use Rattle.http_cache_memory_store.proofs.BoundsLemmas.{inserted, stored-kept}
 use Rattle.http_cache_memory_store.specs.Size.{IsAllowed}
 use Rattle.http_cache_memory_store.proofs.MapLemmas.{stored-top}
 use Rattle.http_cache_memory_store.proofs.RoomLemmas.{left-shorter}
+use Rattle.http_cache_memory_store.proofs.ToldLemmas.{tells-then}
 use Rattle.http_cache_memory_store.proofs.index.Index.put.Goals as goal
 
 pub returns-in_err-put_stored-clause-others : goal.returns-in_err-put_stored-clause-others
@@ -52,3 +53,17 @@ returns-clause-whole g c = λ room.
       own_stored = ap (λ (f : StoredByTarget). f text) whole ∙ own_mid;
       others = λ other differ. ap (λ (f : StoredByTarget). f other) whole ∙ put.ok.others other differ;
     }
+
+pub returns-clause-told : goal.returns-clause-told
+returns-clause-told g c =
+    let seen = g.E.Entry.seen in
+    let all = c.args.entry ∷ all_entries c.args.self.now.kept.entries in
+    let put = all_entries c.put_stored.new.kept.entries in
+    let swept = all_entries c.sweep_others_if.new.kept.entries in
+    let left = all_entries c.keep_limits.new.kept.entries in
+    let t = g.G.Removed.told c.args.gone.now in
+    let u = g.G.Removed.told c.put_stored.new.gone in
+    let v = g.G.Removed.told c.sweep_others_if.new.gone in
+    let w = g.G.Removed.told c.keep_limits.new.gone in
+    tells-then seen all put left t u w c.in_ok-put_stored.ensures.told
+    (tells-then seen put swept left u v w c.sweep_others_if.ensures.told c.keep_limits.ensures.told)

@@ -1,12 +1,13 @@
 -- The first text is shortened, other texts are evicted, and an empty first text is removed.
 use Rattle.std.proofs.Common.{◌≡◌, arith, List, length, ap, inl, inr, refl, ◌∙◌}
 use Rattle.http_cache_store.specs.Store.{StoredSeen}
-use Rattle.http_cache_memory_store.specs.Index.{stored_under, all_seen}
+use Rattle.http_cache_memory_store.specs.Index.{stored_under, all_seen, all_entries}
 use Rattle.http_cache_memory_store.proofs.BoundsLemmas.{bounded, fewer, own-left, alone-allowed}
 use Rattle.http_cache_memory_store.proofs.HeldLemmas.{allowed-less}
 use Rattle.http_cache_memory_store.proofs.ListLemmas.{as_long}
 use Rattle.http_cache_memory_store.proofs.RoomLemmas.{shortened-whole}
 use Rattle.http_cache_memory_store.proofs.TextLemmas.{texts-front}
+use Rattle.http_cache_memory_store.proofs.ToldLemmas.{tells-before, tells-then}
 use Rattle.http_cache_memory_store.proofs.index.bounds.keep_limits.Goals as goal
 
 pub returns-clause-kept : goal.returns-clause-kept
@@ -52,3 +53,15 @@ returns-clause-whole g c = λ allowed few.
     ∙ ap (stored_under g.E.Entry.seen) (c.evict.ensures.whole still)
     ∙ shortened-whole g.E.Entry.seen g.E.Entry.cost l c.args.text.now c.args.stay c.args.kept.now.entries c.shorten.new.kept.entries
     c.shorten.ensures.shortened c.args.held.now c.args.kept.now refl c.requires.held allowed few
+
+pub returns-clause-told : goal.returns-clause-told
+returns-clause-told g c =
+    let seen = g.E.Entry.seen in
+    let old = all_entries c.args.kept.now.entries in
+    let short = all_entries c.shorten.new.kept.entries in
+    let left = all_entries c.evict.new.kept.entries in
+    let t = g.G.Removed.told c.args.gone.now in
+    let u = g.G.Removed.told c.shorten.new.gone in
+    let v = g.G.Removed.told c.evict.new.gone in
+    tells-before seen old left (all_entries c.tidy.new.kept.entries) t v
+    (tells-then seen old short left t u v c.shorten.ensures.told c.evict.ensures.told) c.tidy.ensures.ids

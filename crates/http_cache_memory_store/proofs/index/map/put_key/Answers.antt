@@ -6,6 +6,7 @@ use Rattle.http_cache_memory_store.specs.Size.{replaced}
 use Rattle.http_cache_memory_store.proofs.HeldLemmas.{held-as, held-put, nothing}
 use Rattle.http_cache_memory_store.proofs.MapLemmas.{new-on-top, put-list}
 use Rattle.http_cache_memory_store.proofs.TextLemmas.{texts-put}
+use Rattle.http_cache_memory_store.proofs.ToldLemmas.{same-put}
 use Rattle.http_cache_memory_store.proofs.index.map.put_key.Goals as goal
 
 pub returns-clause-ok : goal.returns-clause-ok
@@ -30,3 +31,9 @@ returns-clause-held g c =
 
 pub returns-clause-list : goal.returns-clause-list
 returns-clause-list g c = rw c.in-Ok.ensures.entries (put-list c.args.kept.now c.args.key c.args.list c.requires.none)
+
+pub returns-clause-ids : goal.returns-clause-ids
+returns-clause-ids g c =
+    let few : length c.args.kept.now.entries < 2 ^ 63 = omega (arith, c.len-length.ensures.len, c.len-length.ensures.fits) in
+    rw c.in-Ok.ensures.entries
+    (same-put g.E.Entry.seen c.args.kept.now c.args.key c.args.list c.requires.held.unbounded c.requires.none few)

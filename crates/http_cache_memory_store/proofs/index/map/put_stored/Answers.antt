@@ -1,20 +1,22 @@
 -- The list written through the look-up is on top, or unchanged.
 use Rattle.std.proofs.Common.{◌≡◌, ◌≤◌, ◌+◌, arith, not, nat_eq, ◌∷◌, [], Some, ap, sym, ◌∙◌, Option, map, slice_get}
-use Rattle.std.specs.List.{filter, list_any}
+use Rattle.std.specs.List.{filter, list_any, sum_by}
 use Rattle.std.specs.Map.{lookup, set_value}
 use Rattle.std.specs.Option.{option_copied_mut, option_map_or}
 use Rattle.lru.specs.LruCache.{promoted}
 use Rattle.http_cache_store.specs.Store.{without}
 use Rattle.http_cache_store.specs.declared.store.ResponseId.{ResponseId}
-use Rattle.http_cache_memory_store.specs.Index.{all_seen, entries_under, is_text, stored_under, IsOnTop}
+use Rattle.http_cache_memory_store.specs.Index.{all_entries, all_seen, entries_under, is_text, stored_under, IsOnTop}
 use Rattle.http_cache_memory_store.specs.declared.index.list.StoredList.{StoredList}
 use Rattle.http_cache_memory_store.specs.declared.index.size.Amount.{Amount}
+use Rattle.http_cache_memory_store.specs.Removal.{HasSameIds, TellsRemoved}
 use Rattle.http_cache_memory_store.specs.Size.{replaced, IsAtMost}
 use Rattle.http_cache_memory_store.proofs.HeldLemmas.{found-less, held-written, less-as, replaced-equal}
 use Rattle.http_cache_memory_store.proofs.MapLemmas.{written-on-top, written-same, written-list}
 use Rattle.http_cache_memory_store.proofs.Outcomes.{on-ok, on-err}
 use Rattle.http_cache_memory_store.proofs.RoomLemmas.{grows}
 use Rattle.http_cache_memory_store.proofs.TextLemmas.{texts-written}
+use Rattle.http_cache_memory_store.proofs.ToldLemmas.{has, same-written, tells-none, tells-put}
 use Rattle.http_cache_memory_store.proofs.index.map.put_stored.Goals as goal
 
 pub returns-clause-ok : goal.returns-clause-ok
@@ -125,3 +127,47 @@ returns-clause-more g c =
           c.put_first-put.new.self.entries.items before c.amount-before.ensures.amount c.amount.ensures.amount same).1,
     ))
     c.put_first-put.ensures.entries
+
+pub returns-then-not-contains-clause-told : goal.returns-then-not-contains-clause-told
+returns-then-not-contains-clause-told g c =
+    let seen = g.E.Entry.seen in
+    let old = all_entries c.args.kept.now.entries in
+    let new = all_entries c.put_new.new.kept.entries in
+    let t = g.G.Removed.told c.args.gone.now in
+    on-ok c.put_new.result (HasSameIds seen (c.args.entry ∷ old) new) (TellsRemoved seen (c.args.entry ∷ old) new t t)
+    (λ same. tells-none seen (c.args.entry ∷ old) new t same) c.put_new.ensures.ids
+
+pub returns-then-not-contains-clause-ids : goal.returns-then-not-contains-clause-ids
+returns-then-not-contains-clause-ids g c =
+    let seen = g.E.Entry.seen in
+    let map = c.args.kept.now in
+    let new = c.put_new.new.kept in
+    on-err c.put_new.result (new ≡ map) (HasSameIds seen (all_entries map.entries) (all_entries new.entries))
+    (λ same id. ap (λ k. sum_by (has seen id) (all_entries k.entries)) same) c.put_new.ensures.kept
+
+pub returns-clause-told : goal.returns-clause-told
+returns-clause-told g c =
+    let seen = g.E.Entry.seen in
+    let test = is_text c.args.text.now in
+    let es = c.args.kept.now.entries in
+    let v = c.in-Some.list.now in
+    let w = c.put_first-put.new.self in
+    let x = c.args.entry in
+    let t = g.G.Removed.told c.args.gone.now in
+    let u = g.G.Removed.told c.put_first-put.new.gone in
+    let found : lookup test es ≡ Some v = sym c.get_mut.ensures.value ∙ ap option_copied_mut c.in-Some.is in
+    on-ok c.put_first-put.result (TellsRemoved seen (x ∷ v.entries.items) w.entries.items t u)
+    (TellsRemoved seen (x ∷ all_entries es) (all_entries (set_value test (promoted test es) w)) t u)
+    (λ told. tells-put seen test es x v w t u found told) c.put_first-put.ensures.told
+
+pub returns-clause-ids : goal.returns-clause-ids
+returns-clause-ids g c =
+    let seen = g.E.Entry.seen in
+    let test = is_text c.args.text.now in
+    let es = c.args.kept.now.entries in
+    let v = c.in-Some.list.now in
+    let w = c.put_first-put.new.self in
+    let found : lookup test es ≡ Some v = sym c.get_mut.ensures.value ∙ ap option_copied_mut c.in-Some.is in
+    on-err c.put_first-put.result (w.entries.items ≡ v.entries.items)
+    (HasSameIds seen (all_entries es) (all_entries (set_value test (promoted test es) w)))
+    (λ same. same-written seen test es v w found (λ id. ap (sum_by (has seen id)) same)) c.put_first-put.ensures.kept

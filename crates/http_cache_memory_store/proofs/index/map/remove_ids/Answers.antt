@@ -1,14 +1,15 @@
 -- The list written through the look-up is what is left of the old one.
-use Rattle.std.proofs.Common.{◌≡◌, Some, not, nat_eq, ap, sym, ◌∙◌}
+use Rattle.std.proofs.Common.{◌≡◌, Some, not, nat_eq, ap, sym, ◌∙◌, refl}
 use Rattle.std.specs.List.{list_any}
 use Rattle.std.specs.Map.{lookup}
 use Rattle.std.specs.Option.{option_copied_mut}
 use Rattle.http_cache_store.specs.Store.{without}
-use Rattle.http_cache_memory_store.specs.Index.{is_text}
+use Rattle.http_cache_memory_store.specs.Index.{is_text, all_entries}
 use Rattle.http_cache_memory_store.specs.Size.{replaced, IsAtMost}
 use Rattle.http_cache_memory_store.proofs.HeldLemmas.{found-less, held-written, kept-less, less-as, replaced-less}
 use Rattle.http_cache_memory_store.proofs.MapLemmas.{stored-changed}
 use Rattle.http_cache_memory_store.proofs.TextLemmas.{texts-written}
+use Rattle.http_cache_memory_store.proofs.ToldLemmas.{tells-none, tells-written}
 use Rattle.http_cache_memory_store.proofs.index.map.remove_ids.Goals as goal
 
 pub returns-in-Some-clause-stored : goal.returns-in-Some-clause-stored
@@ -59,3 +60,17 @@ returns-in-Some-clause-less g c =
     c.amount.ensures.amount c.amount-before.ensures.amount c.remove.ensures.entries in
     less-as c.reduce.new.self (replaced held c.amount-before.result c.amount.result) held c.reduce.ensures
     (replaced-less held c.amount-before.result c.amount.result before after)
+
+pub returns-in-Some-clause-told : goal.returns-in-Some-clause-told
+returns-in-Some-clause-told g c =
+    let test = is_text c.args.text.now in
+    let es = c.args.kept.now.entries in
+    let v = c.in-Some.list.now in
+    let found : lookup test es ≡ Some v = sym c.get_mut.ensures.value ∙ ap option_copied_mut c.in-Some.is in
+    tells-written g.E.Entry.seen test es v c.remove.new.self (g.G.Removed.told c.args.gone.now) (g.G.Removed.told c.remove.new.gone) found
+    c.remove.ensures.told
+
+pub returns-in-None-clause-told : goal.returns-in-None-clause-told
+returns-in-None-clause-told g c =
+    let all = all_entries c.args.kept.now.entries in
+    tells-none g.E.Entry.seen all all (g.G.Removed.told c.args.gone.now) (λ id. refl)

@@ -4,10 +4,11 @@ use Rattle.http_cache_memory_store.specs.declared.index.size.Amount.{Amount}
 use Rattle.std.specs.Map.{lookup, remove_entry}
 use Rattle.lru.specs.LruCache.{lru_cache}
 use Rattle.http_cache_memory_store.proofs.MapLemmas.{stored-removed}
-use Rattle.http_cache_memory_store.specs.Index.{is_text}
+use Rattle.http_cache_memory_store.specs.Index.{is_text, all_entries}
 use Rattle.http_cache_memory_store.proofs.HeldLemmas.{found-less, held-removed, held-absent, held-as, less-as, nothing, nothing-less, replaced-less}
 use Rattle.http_cache_memory_store.specs.Size.{replaced}
 use Rattle.http_cache_memory_store.proofs.TextLemmas.{texts-removed}
+use Rattle.http_cache_memory_store.proofs.ToldLemmas.{same-absent, tells-none, tells-popped}
 use Rattle.http_cache_memory_store.proofs.index.map.remove_text.Goals as goal
 
 pub reduce-requires-clause-held : goal.reduce-requires-clause-held
@@ -63,3 +64,19 @@ returns-in-Some-clause-counted g c =
     let none = ap (λ (x : Amount). x.responses) c.none.ensures in
     let long : c.len-count.result ≡ length c.in-Some.list.entries.items = search rules in
     omega (arith, after, none, long, less.responses, c.amount.ensures.amount.responses)
+
+pub returns-in-Some-clause-told : goal.returns-in-Some-clause-told
+returns-in-Some-clause-told g c =
+    let test = is_text c.args.text.now in
+    let found : lookup test c.args.kept.now.entries ≡ Some c.in-Some.list = sym c.pop.ensures.value ∙ c.in-Some.is in
+    rw c.pop.ensures.entries
+    (tells-popped g.E.Entry.seen test c.args.kept.now.entries c.in-Some.list (g.G.Removed.told c.args.gone.now) (g.G.Removed.told c.tell.new.gone)
+    found c.tell.ensures)
+
+pub returns-in-None-clause-told : goal.returns-in-None-clause-told
+returns-in-None-clause-told g c =
+    let test = is_text c.args.text.now in
+    let es = c.args.kept.now.entries in
+    let none : lookup test es ≡ None = sym c.pop.ensures.value ∙ c.in-None.is in
+    rw c.pop.ensures.entries
+    (tells-none g.E.Entry.seen (all_entries es) (all_entries (remove_entry test es)) (g.G.Removed.told c.args.gone.now) (same-absent g.E.Entry.seen test es none))

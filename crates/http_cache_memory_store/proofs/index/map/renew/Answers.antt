@@ -10,6 +10,7 @@ use Rattle.http_cache_memory_store.proofs.BoundsLemmas.{first-written}
 use Rattle.http_cache_memory_store.proofs.HeldLemmas.{found-less, held-written, less-as, replaced-equal}
 use Rattle.http_cache_memory_store.specs.Size.{replaced}
 use Rattle.http_cache_memory_store.proofs.TextLemmas.{texts-written}
+use Rattle.http_cache_memory_store.proofs.ToldLemmas.{same-written}
 use Rattle.http_cache_memory_store.proofs.index.map.renew.Goals as goal
 
 pub returns-in-Some-clause-stored : goal.returns-in-Some-clause-stored
@@ -69,3 +70,11 @@ returns-in-Some-clause-refused g c = λ refused.
     less-as c.change.new.self (replaced held c.amount-before.result c.amount.result) held c.change.ensures
     (replaced-equal g.E.Entry.cost held c.amount-before.result c.amount.result v.entries.items c.renew-was_stored.new.self.entries.items before
     c.amount-before.ensures.amount c.amount.ensures.amount same)
+
+pub returns-in-Some-clause-ids : goal.returns-in-Some-clause-ids
+returns-in-Some-clause-ids g c =
+    let test = is_text c.args.text.now in
+    let es = c.args.kept.now.entries in
+    let v = c.in-Some.list.now in
+    let found : lookup test es ≡ Some v = sym c.get_mut.ensures.value ∙ ap option_copied_mut c.in-Some.is in
+    same-written g.E.Entry.seen test es v c.renew-was_stored.new.self found c.renew-was_stored.ensures.ids

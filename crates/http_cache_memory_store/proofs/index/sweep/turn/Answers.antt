@@ -7,6 +7,7 @@ use Rattle.http_cache_messages.specs.Worth.{can_be_used_again}
 use Rattle.http_cache_memory_store.specs.Size.{replaced, IsAtMost}
 use Rattle.http_cache_memory_store.proofs.HeldLemmas.{found-less, held-written, kept-less, less-as, replaced-less}
 use Rattle.http_cache_memory_store.proofs.SweepLemmas.{turned, last-found}
+use Rattle.http_cache_memory_store.proofs.ToldLemmas.{tells-written}
 use Rattle.http_cache_memory_store.proofs.index.sweep.turn.Goals as goal
 
 pub unreachable-requires : goal.unreachable-requires
@@ -62,3 +63,12 @@ returns-clause-less g c =
     c.amount.ensures.amount c.amount-before.ensures.amount c.sweep.ensures.entries in
     less-as c.reduce.new.self (replaced held c.amount-before.result c.amount.result) held c.reduce.ensures
     (replaced-less held c.amount-before.result c.amount.result before after)
+
+pub returns-clause-told : goal.returns-clause-told
+returns-clause-told g c =
+    let test = is_text c.args.text.now in
+    let es = c.args.kept.now.entries in
+    let v = c.in-Some.list.now in
+    let found : lookup test es ≡ Some v = sym c.get_mut.ensures.value ∙ ap option_copied_mut c.in-Some.is in
+    tells-written g.E.Entry.seen test es v c.sweep.new.self (g.G.Removed.told c.args.gone.now) (g.G.Removed.told c.sweep.new.gone) found
+    c.sweep.ensures.told

@@ -3,10 +3,11 @@ use Rattle.std.proofs.Common.{ℕ, List, [], length, ap, refl}
 use Rattle.std.specs.Map.{lookup}
 use Rattle.http_cache_store.specs.declared.store.StoredResponse.{StoredResponse}
 use Rattle.http_cache_memory_store.specs.Stored.{seen_of}
-use Rattle.http_cache_memory_store.specs.Index.{is_text, stored_under}
+use Rattle.http_cache_memory_store.specs.Index.{is_text, stored_under, all_entries}
 use Rattle.http_cache_memory_store.proofs.FitLemmas.{fit-same, fit-none}
 use Rattle.http_cache_memory_store.proofs.IdLemmas.{below-same, below-none}
 use Rattle.http_cache_memory_store.proofs.Totals.{none-stored}
+use Rattle.http_cache_memory_store.proofs.OnceLemmas.{once-none}
 use Rattle.http_cache_memory_store.proofs.memory.MemoryStore.new.Goals as goal
 
 pub returns-clause-empty : goal.returns-clause-empty
@@ -22,4 +23,5 @@ invariant_of-result c =
     record {
       ids_below = λ text. below-same 0 (stored_under seen_of es text) [] (none text) (below-none 0);
       fitting = λ text. fit-same c.in_ok-new.field-0.limits (stored_under seen_of es text) [] (none text) (fit-none c.in_ok-new.field-0.limits);
+      once = once-none seen_of 0 (all_entries es) c.in_ok-new.ensures.empty;
     }
