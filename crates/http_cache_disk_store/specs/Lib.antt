@@ -1,4 +1,5 @@
 -- What a store in a directory stores.
+pub mod Contents
 pub mod Cost
 pub mod Disk
 pub mod Packed

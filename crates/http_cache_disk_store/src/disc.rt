@@ -18,7 +18,8 @@ pub(crate) struct Disc<F: Files + Drop> {
     pub(crate) lock: Lock<F::File>,
     // The responses whose files are still there.
     stuck: Vec<u64>,
-    // The number of such responses for which there was no memory in `stuck`.
+    // The number of such responses that aren't in `stuck`: there was no memory, or another response
+    // may have the id.
     unlisted: u64,
     // Whether each change waits until it outlives a power failure.
     is_synced: bool,
@@ -137,12 +138,14 @@ where
         false
     }
 
-    /// Removes the files of a response.
-    pub(crate) fn unlink(&mut self, id: ResponseId)
+    /// Removes the file of a response that couldn't be stored. If that fails, it isn't tried again,
+    /// since the next response has the same id.
+    pub(crate) fn discard(&mut self, id: ResponseId)
         ensures told { self.new.told ≡ self.old.told }
     {
         if !self.folder.remove(id.number()) {
-            self.remember(id.number());
+            self.unlisted = self.unlisted.saturating_add(1);
+            let _said = self.lock.say(Left::Failed);
         }
     }
 
@@ -179,7 +182,9 @@ where
     ghost told = { λ disc. disc.told.items };
 
     fn removed(&mut self, id: ResponseId) {
-        self.unlink(id);
+        if !self.folder.remove(id.number()) {
+            self.remember(id.number());
+        }
         self.told = self.told.and(&id);
     }
 }

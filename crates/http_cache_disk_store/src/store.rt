@@ -475,8 +475,7 @@ where
                 Ok(Some(id))
             }
             Err(_) => {
-                // Only its file was there.
-                self.disc.unlink(id);
+                self.disc.discard(id);
                 Err(StoreError::Memory)
             }
         }
@@ -487,7 +486,11 @@ impl<F: Files + Drop> Store for DiskStore<F>
 where
     F::File: TryLock,
 {
-    ghost use Rattle.http_cache_disk_store.specs.Disk.{stored_in, lasting_in, is_read_in};
+    ghost use Rattle.http_cache_disk_store.specs.Contents.{heads_in, unlinked_in};
+    ghost use Rattle.http_cache_disk_store.specs.Disk.{stored_in, lasting_in, is_read_in, UnlinksExactly};
+    ghost use Rattle.http_cache_store.specs.Store.{KeepsAllOthers, RemovesThese, removed_count, IsSwept, without};
+    ghost use Rattle.http_cache_store.specs.Target.{text_of};
+    ghost use Rattle.std.specs.Prelude.{◌≡◌, map};
     ghost use Rattle.http_cache_disk_store.specs.Sum.{mark_seen};
     ghost use Rattle.std.specs.Prelude.{⊤};
 
@@ -593,18 +596,42 @@ where
         }
     }
 
-    fn remove(&mut self, target: &Target, ids: &[ResponseId]) {
+    // Beyond the trait's clauses, each call that removes says whose files are to be removed.
+    fn remove(&mut self, target: &Target, ids: &[ResponseId])
+        ensures removed { ⟦<DiskStore<F> as Store>⟧.stored self.new (text_of target.now)
+            ≡ without ids.now (⟦<DiskStore<F> as Store>⟧.lasting self.old (text_of target.now)) }
+        ensures next { ⟦<DiskStore<F> as Store>⟧.next_id self.new ≡ ⟦<DiskStore<F> as Store>⟧.next_id self.old }
+        ensures others { KeepsAllOthers (⟦<DiskStore<F> as Store>⟧.lasting self.old)
+            (⟦<DiskStore<F> as Store>⟧.stored self.new) (text_of target.now) }
+        ensures lasting { KeepsAllOthers (⟦<DiskStore<F> as Store>⟧.lasting self.old)
+            (⟦<DiskStore<F> as Store>⟧.lasting self.new) (text_of target.now) }
+        ensures unlinked { UnlinksExactly (heads_in self.old) (heads_in self.new)
+            (unlinked_in self.old) (unlinked_in self.new) }
+    {
         self.remove_ids(target.as_str(), ids);
     }
 
-    fn remove_targets(&mut self, targets: &[Target]) -> usize {
+    fn remove_targets(&mut self, targets: &[Target]) -> usize
+        ensures count { result ≡ removed_count (⟦<DiskStore<F> as Store>⟧.lasting self.old)
+            (map text_of targets.now) }
+        ensures removed { RemovesThese (map text_of targets.now)
+            (⟦<DiskStore<F> as Store>⟧.lasting self.old) (⟦<DiskStore<F> as Store>⟧.stored self.new) }
+        ensures next { ⟦<DiskStore<F> as Store>⟧.next_id self.new ≡ ⟦<DiskStore<F> as Store>⟧.next_id self.old }
+        ensures unlinked { UnlinksExactly (heads_in self.old) (heads_in self.new)
+            (unlinked_in self.old) (unlinked_in self.new) }
+    {
         self.begin();
         let removed = self.index.remove_targets(targets, &mut self.disc);
         self.disc.settle();
         removed
     }
 
-    fn sweep(&mut self, now: Timestamp) -> usize {
+    fn sweep(&mut self, now: Timestamp) -> usize
+        ensures swept { IsSwept now.nanosecond (⟦<DiskStore<F> as Store>⟧.lasting self.old) (⟦<DiskStore<F> as Store>⟧.stored self.new) }
+        ensures next { ⟦<DiskStore<F> as Store>⟧.next_id self.new ≡ ⟦<DiskStore<F> as Store>⟧.next_id self.old }
+        ensures unlinked { UnlinksExactly (heads_in self.old) (heads_in self.new)
+            (unlinked_in self.old) (unlinked_in self.new) }
+    {
         self.begin();
         self.disc.retry();
         let removed = self.index.sweep(now, &mut self.disc);

@@ -42,7 +42,7 @@ invariant_of-self-in-Err-put g c =
           c.in-Err-put.ensures.kept self.ids_below;
       lost_below = self.lost_below;
       apart = apart-same self.next_id (all_entries self.index.kept.entries) (all_entries c.put.new.self.kept.entries) self.disc.told.items
-          c.unlink.new.self.told.items c.in-Err-put.ensures.ids (ap (λ (l : Told ResponseId). l.items) c.unlink.ensures.told ∙ c.in-Err-put.ensures.none_told ∙ written) self.apart;
+          c.discard.new.self.told.items c.in-Err-put.ensures.ids (ap (λ (l : Told ResponseId). l.items) c.discard.ensures.told ∙ c.in-Err-put.ensures.none_told ∙ written) self.apart;
     }
 
 pub returns-in-Ok-clause-put : goal.returns-in-Ok-clause-put
@@ -119,6 +119,6 @@ returns-in-Err-put-clause-unlinked g c =
     let old = all_entries self.index.kept.entries in
     let new = all_entries c.put.new.self.kept.entries in
     let written : c.write_file.new.disc.told.items ≡ self.disc.told.items = ap (λ (l : Told ResponseId). l.items) c.write_file.ensures in
-    unlinks-exactly self.next_id old new self.disc.told.items c.unlink.new.self.told.items
-    (tells-as seen_of old new self.disc.told.items c.unlink.new.self.told.items c.in-Err-put.ensures.ids
-    (ap (λ (l : Told ResponseId). l.items) c.unlink.ensures.told ∙ c.in-Err-put.ensures.none_told ∙ written)) self.apart
+    unlinks-exactly self.next_id old new self.disc.told.items c.discard.new.self.told.items
+    (tells-as seen_of old new self.disc.told.items c.discard.new.self.told.items c.in-Err-put.ensures.ids
+    (ap (λ (l : Told ResponseId). l.items) c.discard.ensures.told ∙ c.in-Err-put.ensures.none_told ∙ written)) self.apart
