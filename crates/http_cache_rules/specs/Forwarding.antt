@@ -1,5 +1,6 @@
 -- The headers of a message that a proxy forwards (RFC 7230, section 6.1).
-use Rattle.std.specs.Prelude.{ℕ, not, List, [], ◌∷◌, codes}
+use Rattle.std.specs.Prelude.{ℕ, Bool, not, List, [], ◌∷◌, Option, None, codes, bytes_eq, if◌then◌else◌}
+use Rattle.std.specs.List.{list_any}
 use Rattle.std.specs.FinMap as fin
 use Rattle.http_cache_fields.specs.Headers.{Headers}
 use Rattle.http_cache_fields.specs.Pieces.{pieces_under}
@@ -23,6 +24,12 @@ connection_fields =
 
 abbrev pub without_named : List (List ℕ) → Headers → Headers
 without_named texts h = fin.retain_keys h (λ name. not (is_listed texts name))
+
+unfoldable pub is_connection_field : List ℕ → Bool
+is_connection_field name = list_any (bytes_eq name) connection_fields
+
+abbrev pub unless_of_connection : List ℕ → Option (List (List ℕ)) → Option (List (List ℕ))
+unless_of_connection name values = if is_connection_field name then None else values
 
 -- no connection-specific name, and none that Connection lists
 unfoldable pub forwarded_headers : Headers → Headers
