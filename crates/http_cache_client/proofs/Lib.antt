@@ -1,4 +1,6 @@
 -- Lemmas of a caching client.
-pub mod ContactLemmas
+pub mod CourseLemmas
+pub mod HitLemmas
 pub mod InvalidateLemmas
 pub mod KeepLemmas
+pub mod StandInLemmas

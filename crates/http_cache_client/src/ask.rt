@@ -1,16 +1,19 @@
 //! Decides what to do with a request: answer it, validate a stored response, or forward it.
-ghost use Rattle.std.specs.Prelude.{◌≡◌, true, List, IfOk, IfSome, Contains};
-ghost use Rattle.http.specs.Response.{head_of as head_of_response};
+ghost use Rattle.std.specs.Prelude.{◌≡◌, ℕ, List, [], true, None, IfOk, IfSome};
+ghost use Rattle.http.specs.Response.{head_of as head_of_response, body_of as body_of_response};
 ghost use Rattle.http_cache_messages.specs.Asking.{incoming_seen, is_looked_up, looked_up};
 ghost use Rattle.http_cache_store.specs.Store.{KeepsAll, KeepsAllOthers};
 ghost use Rattle.http_cache_store.specs.Target.{text_of};
-ghost use Rattle.http_cache_store.specs.declared.store.StoredResponse.{StoredResponse};
-ghost use Rattle.http_cache_plans.specs.Judge.{IsSelectedOf};
 ghost use Rattle.http_cache_client.specs.Ask.{fields_of, IsOfStore, IsCleanValidation, IsCleanDecision};
 ghost use Rattle.http_cache_client.specs.Ask.{IsConditionalDecision, IsCleanContact};
-ghost use Rattle.http_cache_client.specs.Ask.{IsConditionalContact};
-ghost use Rattle.http_cache_client.specs.Ask.{IsContactOf, IsContactIn, IsDecisionOf, IsAnswered};
-ghost use Rattle.http_cache_client.specs.Ask.{IsAnswer, IsGenerated, IsOnlyIfCached, IsUsed};
+ghost use Rattle.http_cache_client.specs.Ask.{IsConditionalContact, IsAnswer, IsOnlyIfCached};
+ghost use Rattle.http_cache_client.specs.Ask.{is_only_if_cached};
+ghost use Rattle.http_cache_client.specs.Contact.{IsPlainContact, IsContactBy, IsContactAfter};
+ghost use Rattle.http_cache_client.specs.Contact.{IsByReply, IsForwarding, IsLost, IsUsedWhile};
+ghost use Rattle.http_cache_client.specs.Contact.{IsCarriedOut, IsFreshReply, MayFail};
+ghost use Rattle.http_cache_plans.specs.Reply.{IsConditionalReply};
+ghost use Rattle.http_cache_client.specs.Course.{IsDecisionFor, IsForwardOf, course, course_among};
+ghost use Rattle.http_cache_client.specs.Hit.{IsHitIfAnswer};
 ghost use Rattle.http_cache_client.specs.Receive.{own_text};
 
 use crate::client::Client;
@@ -50,8 +53,7 @@ fn validation_of(
     ensures clean { IfOk result IsCleanContact }
     ensures conditional { IfOk result
         (IsConditionalContact (fields_of incoming.now.request.now)) }
-    ensures answered { IfOk result (λ contact. (all : List StoredResponse) → Contains all stored.now
-        → IsContactOf all contact) }
+    ensures plain { IfOk result (IsPlainContact incoming.now.request.now stored.now) }
 {
     if !has_validator(stored.policy.stored_headers()) {
         return Ok(OriginContact::Forward(Forwarded::of(Some(stored.id), said)));
@@ -80,8 +82,8 @@ fn matching(
     ensures clean { IfOk result IsCleanContact }
     ensures conditional { IfOk result
         (IsConditionalContact (fields_of incoming.now.request.now)) }
-    ensures answered { IfOk result (λ contact. (all : List StoredResponse) → Contains all stored.now
-        → IsContactOf all contact) }
+    ensures by { IfOk result (IsContactBy incoming.now.request.now (incoming_seen incoming.now)
+        now.nanosecond stored.now) }
 {
     let contact = validation_of(alloc, stored, incoming, why)?;
     let asking = incoming.asking(stored.policy.stored_method());
@@ -100,6 +102,22 @@ fn matching(
     }
 }
 
+// Returns the answer by a response that may be used without validation, if it can be sent.
+fn fresh_reply(
+    alloc: Global,
+    selected: Selected<'_>,
+    incoming: &Incoming<'_>,
+    now: Timestamp,
+) -> Result<Option<Reply>, AllocError>
+    ensures conditional { IfOk result (IsConditionalReply (fields_of incoming.now.request.now)) }
+    ensures reply { IfOk result (IsFreshReply incoming.now.request.now now.nanosecond selected.entry) }
+{
+    match selected {
+        Selected::Fresh(one) => Reply::of(alloc, one, incoming, now),
+        Selected::Matching(..) | Selected::Other(_) | Selected::Nothing => Ok(None),
+    }
+}
+
 // Handles a request that no stored response may answer without validation. It isn't inlined, so
 // that a hit reserves no stack for its values.
 #[inline(never)]
@@ -112,8 +130,8 @@ fn otherwise(
     ensures clean { IfOk result IsCleanContact }
     ensures conditional { IfOk result
         (IsConditionalContact (fields_of incoming.now.request.now)) }
-    ensures answered { IfOk result (λ contact. (all : List StoredResponse)
-        → IsSelectedOf all selected.entry → IsContactOf all contact) }
+    ensures after { IfOk result (IsContactAfter incoming.now.request.now
+        (incoming_seen incoming.now) now.nanosecond selected.entry) }
 {
     let forwarded = match selected {
         Selected::Matching(one, said) => {
@@ -137,7 +155,9 @@ fn why_not_looked_up(method: &Method) -> Why {
 }
 
 // Forwards the client's own request after the store failed.
-fn past_store(alloc: Global) -> Result<Forwarded, AllocError> {
+fn past_store(alloc: Global) -> Result<Forwarded, AllocError>
+    ensures { IfOk result (IsForwardOf None true) }
+{
     Ok(Forwarded {
         id: None,
         why: store_failed(alloc)?,
@@ -157,8 +177,10 @@ impl<S: Store + Drop> Client<S> {
             (S.stored self.new.store) (S.next_id self.new.store) }
         ensures lasting { KeepsAllOthers (S.lasting self.old.store) (S.lasting self.new.store)
             (text_of target.now) }
-        ensures used { IfOk result (λ answer. IfSome answer (λ sent.
-            (head_of_response sent).status ≡ reply.head.status)) }
+        ensures answer { IfOk result (λ answer. IfSome answer
+            (IsByReply S.mark (S.stored self.old.store (text_of target.now)) reply)) }
+        ensures lost { IfOk result (λ answer. answer ≡ None → IsLost (MayFail S.can_fail)
+            (S.lasting self.new.store (text_of target.now)) reply.id.0) }
     {
         let Some(body) = self.body_of(alloc, target, &mut reply)? else {
             return Ok(None);
@@ -180,7 +202,10 @@ impl<S: Store + Drop> Client<S> {
             (S.stored self.new.store) (S.next_id self.new.store) }
         ensures lasting { KeepsAllOthers (S.lasting self.old.store) (S.lasting self.new.store)
             (text_of target.now) }
-        ensures used { IfOk result (IsDecisionOf reply.head.status) }
+        ensures clean { IfOk result IsCleanDecision }
+        ensures used { IfOk result (IsUsedWhile S.mark
+            (S.stored self.old.store (text_of target.now)) (IsLost (MayFail S.can_fail)
+            (S.lasting self.new.store (text_of target.now))) reply due) }
     {
         let Some(body) = self.body_of(alloc, target, &mut reply)? else {
             return Ok(Decision::Validate(due));
@@ -196,7 +221,8 @@ impl<S: Store + Drop> Client<S> {
 
     // Returns the 504 for a request that says `only-if-cached` (RFC 9111, section 5.2.1.7).
     pub(crate) fn not_cached(&self, alloc: Global) -> Result<Response<Bytes>, AllocError>
-        ensures { IfOk result (λ answer. (head_of_response answer).status ≡ 504) }
+        ensures status { IfOk result (λ answer. (head_of_response answer).status ≡ 504) }
+        ensures body { IfOk result (λ answer. body_of_response answer ≡ []) }
     {
         let member = generated(self.name.as_str(), "only-if-cached");
         let head = response::Parts {
@@ -223,11 +249,13 @@ impl<S: Store + Drop> Client<S> {
         ensures clean { IfOk result IsCleanDecision }
         ensures conditional { IsConditionalContact (fields_of incoming.now.request.now) contact
             → IfOk result (IsConditionalDecision (fields_of incoming.now.request.now)) }
-        ensures answered { IsContactIn (S.stored self.old.store) contact → IfOk result
-            (IsAnswered (S.stored self.old.store) (fields_of incoming.now.request.now)) }
         ensures only_if_cached { IsOnlyIfCached (fields_of incoming.now.request.now)
             → IfOk result IsAnswer }
-        ensures generated { IfOk result (IsGenerated (fields_of incoming.now.request.now)) }
+        ensures idle { IsForwarding contact → self.new.store ≡ self.old.store }
+        ensures done { IfOk result (IsCarriedOut S.mark
+            (S.stored self.old.store (text_of target.now)) (IsLost (MayFail S.can_fail)
+            (S.lasting self.new.store (text_of target.now)))
+            (is_only_if_cached (fields_of incoming.now.request.now)) contact) }
     {
         // Nothing is sent for such a request (RFC 9111, section 5.2.1.7).
         if incoming.is_only_if_cached() {
@@ -255,13 +283,14 @@ impl<S: Store + Drop> Client<S> {
         ensures clean { IfOk result IsCleanDecision }
         ensures conditional { IfOk result
             (IsConditionalDecision (fields_of incoming.now.request.now)) }
-        ensures answered { IfOk result (IsAnswered (S.stored self.old.store)
-            (fields_of incoming.now.request.now)) }
         ensures only_if_cached { IsOnlyIfCached (fields_of incoming.now.request.now)
             → IfOk result IsAnswer }
-        ensures used { IfOk result (IsUsed (S.stored self.old.store
-            (own_text incoming.now.request.now)) (incoming_seen incoming.now) now.nanosecond
-            (fields_of incoming.now.request.now)) }
+        ensures decision { IfOk result (IsDecisionFor S.mark (IsLost (MayFail S.can_fail)
+            (S.lasting self.new.store (own_text incoming.now.request.now)))
+            incoming.now.request.now now.nanosecond (MayFail S.can_fail)
+            (course_among (S.stored self.old.store (own_text incoming.now.request.now))
+            (incoming_seen incoming.now) now.nanosecond
+            (is_only_if_cached (fields_of incoming.now.request.now)))) }
     {
         let request = incoming.request();
         let target = Target::of(alloc, request.uri(), request.headers())?;
@@ -270,9 +299,7 @@ impl<S: Store + Drop> Client<S> {
             return self.not_fresh(alloc, &target, incoming, contact);
         }
         let selected = select(self.store.found(&target), incoming, now);
-        if let Selected::Fresh(one) = selected
-            && let Some(reply) = Reply::of(alloc, one, incoming, now)?
-        {
+        if let Some(reply) = fresh_reply(alloc, selected, incoming, now)? {
             if let Some(answer) = self.used(alloc, &target, reply)? {
                 return Ok(Decision::Answer(answer));
             }
@@ -302,12 +329,15 @@ impl<S: Store + Drop> Client<S> {
         ensures clean { IfOk result IsCleanDecision }
         ensures conditional { IfOk result
             (IsConditionalDecision (fields_of request.now)) }
-        ensures answered { IfOk result
-            (IsAnswered (S.stored self.old.store) (fields_of request.now)) }
-        ensures used { IfOk result (IsUsed (S.stored self.old.store (own_text request.now))
-            (looked_up request.now) now.nanosecond (fields_of request.now)) }
+        ensures decision { IfOk result (IsDecisionFor S.mark (IsLost (MayFail S.can_fail)
+            (S.lasting self.new.store (own_text request.now)))
+            request.now now.nanosecond (MayFail S.can_fail)
+            (course request.now now.nanosecond (S.stored self.old.store (own_text request.now)))) }
         ensures only_if_cached { is_looked_up request.now ≡ true
             → IsOnlyIfCached (fields_of request.now) → IfOk result IsAnswer }
+        ensures hit { IfOk result (IsHitIfAnswer S.mark
+            (S.stored self.old.store (own_text request.now)) request.now
+            (looked_up request.now) now.nanosecond) }
         ensures kept { KeepsAll (S.stored self.old.store) (S.next_id self.old.store)
             (S.stored self.new.store) (S.next_id self.new.store) }
         ensures lasting { KeepsAllOthers (S.lasting self.old.store) (S.lasting self.new.store)

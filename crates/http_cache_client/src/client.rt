@@ -1,10 +1,11 @@
 //! The caching client: its store, its name in Cache-Status and its options.
-ghost use Rattle.std.specs.Prelude.{◌≡◌, ◌≢◌, ◌⊎◌, ℕ, List, true, map, string_bytes, IfOk, OnErr, IsErrOf};
+ghost use Rattle.std.specs.Prelude.{◌≡◌, ◌≢◌, ◌⊎◌, ℕ, List, None, false, true, map, string_bytes, IfOk, IfSome};
+ghost use Rattle.std.specs.Prelude.{OnErr, OnOk, IsErrOf};
 ghost use Rattle.http_cache_store.specs.Store.{KeepsAll, KeepsMost, KeepsAllOthers, LosesSome};
 ghost use Rattle.http_cache_store.specs.Store.{RemovesThese, removed_count, IsSwept};
 ghost use Rattle.http_cache_store.specs.Target.{text_of};
 ghost use Rattle.http_cache_plans.specs.Plan.{Stores, IsChangeOf};
-ghost use Rattle.std.specs.Prelude.{OnOk};
+ghost use Rattle.http_cache_client.specs.Contact.{IsBodyFor, IsLost, MayFail};
 ghost use Rattle.http_cache_client.specs.Make.{IsMade, HasFailed};
 
 use bytes::Bytes;
@@ -92,6 +93,7 @@ impl<S: Store + Drop> Client<S> {
         ensures lasting { S.lasting self.new.store ≡ S.lasting self.old.store }
         ensures read { IfOk result (λ is_read. is_read ≡ true
             → S.is_read self.new.store (text_of target.now)) }
+        ensures failed { IfOk result (λ is_read. is_read ≡ false → S.can_fail self.old.store) }
     {
         match self.store.look_up(alloc, target) {
             Ok(()) => Ok(true),
@@ -112,6 +114,10 @@ impl<S: Store + Drop> Client<S> {
         ensures lasting { KeepsAllOthers (S.lasting self.old.store) (S.lasting self.new.store)
             (text_of target.now) }
         ensures head { reply.new.head ≡ reply.old.head }
+        ensures body { IfOk result (λ body. IfSome body
+            (IsBodyFor S.mark (S.stored self.old.store (text_of target.now)) reply.old)) }
+        ensures lost { IfOk result (λ body. body ≡ None → IsLost (MayFail S.can_fail)
+            (S.lasting self.new.store (text_of target.now)) reply.old.id.0) }
     {
         if !reply.needs_body {
             return Ok(Some(Bytes::new()));

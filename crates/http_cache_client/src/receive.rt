@@ -10,6 +10,9 @@ ghost use Rattle.http_cache_client.specs.Receive.{IsWholeResponse, MayBeStored, 
 ghost use Rattle.http_cache_client.specs.Receive.{own_text, KeepsBodyLocation};
 ghost use Rattle.http_cache_client.specs.Receive.{HasBodyHere, IsAfterA304, IsAgain};
 ghost use Rattle.http_cache_client.specs.Keep.{KeepsLasting};
+ghost use Rattle.http_cache_messages.specs.Asking.{incoming_seen, looked_up};
+ghost use Rattle.http_cache_client.specs.Contact.{IsLost, MayFail};
+ghost use Rattle.http_cache_client.specs.StandIn.{IsStandInAnswer, number_of, stand_in};
 ghost use Rattle.std.specs.Prelude.{[], OnOk};
 ghost use Rattle.http_cache_messages.specs.Asking.{is_looked_up};
 ghost use Rattle.http_cache_plans.specs.Invalidate.{invalidates};
@@ -173,6 +176,10 @@ impl<S: Store + Drop> Client<S> {
             (text_of target.now) }
         ensures conditional { IfOk result (λ answer. IfSome answer (λ sent. (head_of sent).status ≡ 304
             → HasCondition incoming.now.request.now)) }
+        ensures stands_in { IfOk result (IsStandInAnswer S.mark (IsLost (MayFail S.can_fail)
+            (S.lasting self.new.store (text_of target.now))) incoming.now.request.now now.nanosecond
+            (stand_in (S.stored self.old.store (text_of target.now)) (incoming_seen incoming.now)
+            now.nanosecond (number_of pending.now.id))) }
     {
         let Some(id) = pending.id else {
             return Ok(None);
@@ -602,6 +609,10 @@ impl<S: Store + Drop> Client<S> {
             (own_text request.now) }
         ensures conditional { IfOk result (λ answer. IfSome answer (λ sent.
             (head_of sent).status ≡ 304 → HasCondition request.now)) }
+        ensures stands_in { IfOk result (IsStandInAnswer S.mark (IsLost (MayFail S.can_fail)
+            (S.lasting self.new.store (own_text request.now))) request.now now.nanosecond
+            (stand_in (S.stored self.old.store (own_text request.now)) (looked_up request.now)
+            now.nanosecond (number_of token.old.id))) }
         ensures unspent { OnErr result (token.new ≡ token.old) }
     {
         let incoming = Incoming::new(alloc, request)?;

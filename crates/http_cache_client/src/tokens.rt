@@ -1,6 +1,6 @@
 //! What a client returns for a request to send, and takes back with its outcome. A token holds what
 //! Cache-Status reports of the request so far.
-ghost use Rattle.std.specs.Prelude.{◌≡◌, true};
+ghost use Rattle.std.specs.Prelude.{◌≡◌, false, true};
 
 use bytes::Bytes;
 use http::{Response, request};
@@ -42,7 +42,10 @@ impl Forwarded {
         self.is_past_store = true;
     }
 
-    pub(crate) fn of(id: Option<ResponseId>, why: Why) -> Forwarded {
+    pub(crate) fn of(id: Option<ResponseId>, why: Why) -> Forwarded
+        ensures id { result.id ≡ id }
+        ensures stored { result.is_past_store ≡ false }
+    {
         Forwarded {
             id,
             why,
@@ -84,7 +87,10 @@ impl Validation {
     }
 
     /// Returns the token for the client's own request, for a validation that got no response.
-    pub fn into_forwarded(self) -> Forwarded {
+    pub fn into_forwarded(self) -> Forwarded
+        ensures id { result.id ≡ self.id }
+        ensures unstored { result.is_past_store ≡ self.is_past_store }
+    {
         let Validation {
             id,
             why,

@@ -1,7 +1,7 @@
 -- The request that validates a stored response (RFC 9111, section 4.3.1).
-use Rattle.std.specs.Prelude.{◌≡◌, ℕ, List, [], ◌∷◌, Option, Some, None, codes, option_map}
+use Rattle.std.specs.Prelude.{◌≡◌, ◌⊎◌, ℕ, List, [], ◌∷◌, Option, Some, None, codes, option_map}
 use Rattle.std.specs.FinMap as fin
-use Rattle.http_cache_fields.specs.Headers.{Headers, first, set, IsAbsent}
+use Rattle.http_cache_fields.specs.Headers.{Headers, first, set, IsAbsent, RefusesName}
 use Rattle.http_cache_rules.specs.Forwarding.{without_named, forwarded_headers}
 
 -- the fields of a body (which isn't sent), of ranges, and of the client's own conditions
@@ -30,10 +30,26 @@ with_validators stored h =
     set_if_some (set_if_some h (codes "if-none-match") (first stored (codes "etag")))
     (codes "if-modified-since") (first stored (codes "last-modified"))
 
+-- there is a value, and no room for it
+abbrev pub RefusesIfSome : Headers → List ℕ → Option (List ℕ) → Type 0
+RefusesIfSome h name None = ⊥
+RefusesIfSome h name (Some value) = RefusesName h name
+
+-- there is no room for the stored validators
+abbrev pub RefusesEither : Headers → Headers → Type 0
+RefusesEither stored h =
+    RefusesIfSome h (codes "if-none-match") (first stored (codes "etag"))
+    ⊎ RefusesIfSome (set_if_some h (codes "if-none-match") (first stored (codes "etag")))
+    (codes "if-modified-since") (first stored (codes "last-modified"))
+
 -- the fields of a validation request: the forwarded ones without the removed ones, and with the
 -- stored validators
 unfoldable pub validating : Headers → Headers → Headers
 validating stored asked = with_validators stored (without_named removed_fields (forwarded_headers asked))
+
+-- there is no room for the stored validators in a validation request
+unfoldable pub RefusesValidators : Headers → Headers → Type 0
+RefusesValidators stored asked = RefusesEither stored (without_named removed_fields (forwarded_headers asked))
 
 -- the name has only this value, or is absent
 abbrev pub HasOnly : Headers → List ℕ → Option (List ℕ) → Type 0

@@ -5,6 +5,7 @@ ghost use Rattle.http_cache_fields.specs.Directives.{cache_control, has};
 ghost use Rattle.http_cache_fields.specs.Headers.{headers_of};
 ghost use Rattle.http_cache_messages.specs.Asking.{is_get_or_head, is_looked_up, headers_seen};
 ghost use Rattle.http_cache_messages.specs.Asking.{asking_seen, incoming_seen, looked_up};
+ghost use Rattle.http_cache_policy.specs.Lookup.{method_for};
 
 use crate::memory::or_out_of_memory;
 use bytes::Bytes;
@@ -108,10 +109,13 @@ impl<'a> Incoming<'a> {
         self.by(self.request.method())
     }
 
-    /// Returns the request as compared with a response that is stored for a method. A HEAD takes
-    /// that method; any other request keeps its own.
-    pub fn asking<'b>(&'b self, stored: &'b Method) -> Asking<'b> {
-        if self.is_head() && is_get_or_head(stored) {
+    /// Returns the request as compared with a response that is stored for a method. A HEAD counts
+    /// as a GET for what is stored for GET; any other request keeps its own method.
+    pub fn asking<'b>(&'b self, stored: &'b Method) -> Asking<'b>
+        ensures { asking_seen result.incoming.now result.method.now ≡ asking_seen self.now
+            (method_for stored.now (head_of self.now.request.now).method) }
+    {
+        if self.is_head() && *stored == Method::GET {
             self.by(stored)
         } else {
             self.as_received()

@@ -1,9 +1,12 @@
 //! Decides what to do if the origin server failed.
-ghost use Rattle.std.specs.Prelude.{◌≡◌, IfOk};
+ghost use Rattle.std.specs.Prelude.{◌≡◌, IfOk, IfSome};
 ghost use Rattle.http.specs.Request.{head_of};
 ghost use Rattle.http_cache_fields.specs.Headers.{headers_of};
 ghost use Rattle.http_cache_plans.specs.Plan.{is_failure};
+ghost use Rattle.http_cache_messages.specs.Asking.{incoming_seen};
+ghost use Rattle.http_cache_plans.specs.Judge.{may_be_used_on_error};
 ghost use Rattle.http_cache_plans.specs.Reply.{IsConditionalReply};
+ghost use Rattle.http_cache_plans.specs.Failure.{IsStaleReply};
 
 use crate::renewal::of_id;
 use crate::reply::Reply;
@@ -22,7 +25,10 @@ pub fn is_failure(status: StatusCode) -> bool
 
 /// Returns whether a stored response may be used after a failure of the origin server (RFC 5861,
 /// section 4).
-pub fn is_usable_on_error(one: &StoredResponse, incoming: &Incoming<'_>, now: Timestamp) -> bool {
+pub fn is_usable_on_error(one: &StoredResponse, incoming: &Incoming<'_>, now: Timestamp) -> bool
+    ensures { result
+        ≡ may_be_used_on_error (incoming_seen incoming.now) now.nanosecond one.now.policy }
+{
     let asking = incoming.asking(one.policy.stored_method());
     one.policy.stale_use(&asking, now).if_error
 }
@@ -36,14 +42,15 @@ pub fn stale_reply(
     incoming: &Incoming<'_>,
     now: Timestamp,
 ) -> Result<Option<Reply>, AllocError>
-    ensures { IfOk result (IsConditionalReply
+    ensures conditional { IfOk result (IsConditionalReply
         (headers_of (head_of incoming.now.request.now).headers)) }
+    ensures stale { IfOk result (IsStaleReply incoming.now id stored.now now.nanosecond) }
 {
     let Some(one) = of_id(stored, id) else {
         return Ok(None);
     };
-    if !is_usable_on_error(one, incoming, now) {
-        return Ok(None);
+    if is_usable_on_error(one, incoming, now) {
+        return Reply::of(alloc, one, incoming, now);
     }
-    Reply::of(alloc, one, incoming, now)
+    Ok(None)
 }

@@ -2,8 +2,13 @@
 //! change of the store as the last step.
 //!
 //! Nothing fails once a policy is made, so a policy is dropped at few places.
-ghost use Rattle.std.specs.Prelude.{◌≡◌, true, false, IsSome, IfOk};
+ghost use Rattle.std.specs.Prelude.{◌≡◌, true, false, IsSome, IfOk, IfSome};
+ghost use Rattle.http_cache_rules.specs.Options.{options_of};
+ghost use Rattle.http_cache_rules.specs.Storability.{is_storable};
+ghost use Rattle.http_cache_messages.specs.Worth.{can_be_used_again};
 ghost use Rattle.http_cache_plans.specs.Plan.{Stores, IsChangeOf, IsElsewhere, IsWhole, IsKnownPlan};
+ghost use Rattle.http_cache_plans.specs.Plan.{IsPolicyOf, IsBodyOf, IsPlannedBy, IsChangeFor};
+ghost use Rattle.http_cache_plans.specs.Plan.{is_id, is_superseded, superseded_ids};
 ghost use Rattle.http_cache_store.specs.Target.{text_of};
 
 use crate::body::Body;
@@ -144,21 +149,35 @@ impl Plan {
     }
 }
 
+fn is_id(replaced: Option<ResponseId>, id: ResponseId) -> bool
+    ensures { result ≡ is_id replaced id }
+{
+    match replaced {
+        Some(one) => one == id,
+        None => false,
+    }
+}
+
 // Returns whether the received response supersedes a stored one. It does if they have one method,
 // and it replaces the stored one or its request matches; or if the stored one can't be used again.
-fn is_superseded(stored: &StoredResponse, arrived: &Arrived<'_>) -> bool {
+fn is_superseded(stored: &StoredResponse, arrived: &Arrived<'_>) -> bool
+    ensures { result ≡ is_superseded arrived.now stored.now }
+{
     let asking = arrived.incoming.as_received();
     let is_same_method = *stored.policy.stored_method() == *arrived.incoming.request().method();
-    let is_replaced = arrived.id == Some(stored.id);
+    let is_replaced = is_id(arrived.id, stored.id);
     is_same_method && (is_replaced || stored.policy.matches_request(&asking))
         || !can_be_used_again(&stored.policy, arrived.times.received)
 }
 
+#[tactic(auto, using(crate::proofs::PlanLemmas::images_kept, crate::proofs::PlanLemmas::images_left))]
 fn superseded(
     alloc: Global,
     stored: &[StoredResponse],
     arrived: &Arrived<'_>,
-) -> Result<Vec<ResponseId>, AllocError> {
+) -> Result<Vec<ResponseId>, AllocError>
+    ensures { IfOk result (λ ids. ids.items ≡ superseded_ids arrived.now stored.now) }
+{
     let mut ids = Vec::new(alloc);
     for one in stored {
         if is_superseded(one, arrived) {
@@ -173,7 +192,9 @@ fn policy_of(
     alloc: Global,
     arrived: &Arrived<'_>,
     options: &CacheOptions,
-) -> Result<CachePolicy, CacheError> {
+) -> Result<CachePolicy, CacheError>
+    ensures { IfOk result (IsPolicyOf arrived.now (options_of options.now)) }
+{
     let times = arrived.times;
     let mut headers = stored_head(alloc, &arrived.head.headers, times.sent, times.received)?;
     add_cache_status(&mut headers)?;
@@ -184,7 +205,20 @@ fn policy_of(
     };
     let asking = arrived.incoming.as_received();
     let needed = NeededRequest::new(&asking, &head.headers)?;
-    CachePolicy::new_options(alloc, &needed, &head, times.sent, *options)
+    let policy = CachePolicy::new_options(alloc, &needed, &head, times.sent, *options)?;
+    Ok(policy)
+}
+
+// Returns the remaining lifetime of a response that is worth storing.
+fn left_if_worth_storing(policy: &CachePolicy, now: Timestamp) -> Option<TimeLeft>
+    ensures storable { IsSome result → is_storable policy.now ≡ true }
+    ensures used { IsSome result → can_be_used_again policy.now now.nanosecond ≡ true }
+{
+    if is_worth_storing(policy, now) {
+        Some(left_of(policy, now))
+    } else {
+        None
+    }
 }
 
 // Plans what to do with a response whose body is in memory.
@@ -195,18 +229,16 @@ fn plan_for(
     body: Option<Bytes>,
     arrived: &Arrived<'_>,
 ) -> Plan
-    requires { IsSome body → IsWhole arrived.now }
+    requires whole { IsSome body → IsWhole arrived.now }
+    requires body { IfSome body (IsBodyOf arrived.now.body.now) }
     ensures whole { Stores result.change → IsWhole arrived.now }
+    ensures planned { IsPlannedBy arrived.now superseded.items policy result.change }
     ensures known { IsKnownPlan arrived.now result }
     ensures target { IsChangeOf (text_of target) result.change }
 {
     let now = arrived.times.received;
     let is_known = policy.is_not_modified_for(arrived.incoming.request());
-    let left_if_whole = if is_worth_storing(&policy, now) {
-        Some(left_of(&policy, now))
-    } else {
-        None
-    };
+    let left_if_whole = left_if_worth_storing(&policy, now);
     match body {
         Some(body) if left_if_whole.is_some() => Plan {
             change: Change::Put {
@@ -241,7 +273,8 @@ fn plan_for(
 
 // Returns a copy of the body if it is in memory.
 fn copy_of_body(body: &Body) -> Result<Option<Bytes>, AllocError>
-    ensures { IfOk result (λ copy. IsSome copy → ¬ (IsElsewhere body.now)) }
+    ensures here { IfOk result (λ copy. IsSome copy → ¬ (IsElsewhere body.now)) }
+    ensures body { IfOk result (λ copy. IfSome copy (IsBodyOf body.now)) }
 {
     match body {
         Body::Here(bytes) => Ok(Some(bytes.clone()?)),
@@ -293,6 +326,8 @@ pub fn plan_of(
     ensures whole { IfOk result (λ plan. Stores plan.change → IsWhole arrived.now) }
     ensures known { IfOk result (IsKnownPlan arrived.now) }
     ensures target { IfOk result (λ plan. IsChangeOf (text_of target) plan.change) }
+    ensures change { IfOk result (λ plan.
+        IsChangeFor arrived.now stored.now (options_of options.now) plan.change) }
 {
     let status = arrived.head.status;
     if status == StatusCode::NOT_MODIFIED || status == StatusCode::PARTIAL_CONTENT {

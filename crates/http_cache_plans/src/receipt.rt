@@ -75,7 +75,7 @@ pub fn prepared(
     let (mut head, mut body) = response.into_parts();
     or_out_of_memory(add_date(alloc, &mut head.headers, received))?;
     if is_known {
-        head = not_modified(alloc, &head)?;
+        head = not_modified(&head)?;
         body = Body::Here(Bytes::new());
     }
     let cache_status = cache_status_of(alloc, &head.headers, member)?;

@@ -1,7 +1,8 @@
 //! Stored responses that a 304 confirms (RFC 9111, section 4.3.4).
-ghost use Rattle.std.specs.Prelude.{◌≡◌, false, IfOk, IfSome};
+ghost use Rattle.std.specs.Prelude.{◌≡◌, false, IfOk, IfSome, option_copied};
 ghost use Rattle.http_cache_plans.specs.Plan.{Stores, IsChangeOf};
 ghost use Rattle.http_cache_store.specs.Target.{text_of};
+ghost use Rattle.http_cache_plans.specs.Judge.{of_id};
 ghost use Rattle.http_cache_plans.specs.Renewal.{IsRenewalFor};
 
 use crate::plan::{Arrived, Change, Plan};
@@ -18,7 +19,9 @@ use jiff::Timestamp;
 use std::alloc::{AllocError, Global};
 
 /// Returns the stored response that has the id.
-pub fn of_id(stored: &[StoredResponse], id: ResponseId) -> Option<&StoredResponse> {
+pub fn of_id(stored: &[StoredResponse], id: ResponseId) -> Option<&StoredResponse>
+    ensures { option_copied result ≡ of_id id stored.now }
+{
     stored.iter().find(|one| one.id == id)
 }
 

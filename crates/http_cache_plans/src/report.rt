@@ -1,6 +1,8 @@
 //! What a client reports of an answer in Cache-Status (RFC 9211).
-ghost use Rattle.std.specs.Prelude.{◌≡◌, IfOk};
+ghost use Rattle.std.specs.Prelude.{◌≡◌, IfOk, OnOk};
 ghost use Rattle.http.specs.Response.{head_of, body_of};
+ghost use Rattle.http_cache_fields.specs.Headers.{headers_of};
+ghost use Rattle.http_cache_plans.specs.Report.{IsMarkedBy, IsMarked};
 
 use bytes::Bytes;
 use http::header::{CACHE_STATUS, HeaderValueError};
@@ -127,7 +129,10 @@ pub fn cache_status_of(
 pub fn set_cache_status(
     headers: &mut HeaderMap,
     cache_status: HeaderValue,
-) -> Result<(), AllocError> {
+) -> Result<(), AllocError>
+    ensures { OnOk result (IsMarkedBy (headers_of headers.old) cache_status.bytes
+        (headers_of headers.new)) }
+{
     match insert(headers, CACHE_STATUS, cache_status) {
         Err(CacheError::Memory) => Err(AllocError),
         _ => Ok(()),
@@ -150,6 +155,7 @@ pub fn answer_of(
     member: &Member<'_>,
 ) -> Result<Response<Bytes>, AllocError>
     ensures status { IfOk result (λ answer. (head_of answer).status ≡ head.status) }
+    ensures head { IfOk result (λ answer. IsMarked head (head_of answer)) }
     ensures body { IfOk result (λ answer. body_of answer ≡ body) }
 {
     let cache_status = cache_status_of(alloc, &head.headers, member)?;

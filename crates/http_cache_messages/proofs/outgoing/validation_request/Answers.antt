@@ -10,11 +10,10 @@ use Rattle.http_cache_messages.proofs.outgoing.validation_request.Goals as goal
 pub returns-clause-value : goal.returns-clause-value
 unfolding validating
 returns-clause-value c =
-    c.in_ok-add_validators.ensures
+    c.in_ok-add_validators.ensures.ok
     ∙ (λ i. with_validators (c.stored_headers.ensures.headers i)
-    ((c.remove_all.ensures
-    ∙ ap (without_named removed_fields)
-    (c.in_ok-headers.ensures ∙ ap (λ m. forwarded_headers (headers_of m)) c.headers.ensures)) i))
+    ((c.in_ok-headers.ensures
+    ∙ ap (λ m. without_named removed_fields (forwarded_headers (headers_of m))) c.headers.ensures) i))
 
 pub returns-clause-clean : goal.returns-clause-clean
 returns-clause-clean c =
