@@ -600,7 +600,8 @@ where
     fn remove(&mut self, target: &Target, ids: &[ResponseId])
         ensures removed { ⟦<DiskStore<F> as Store>⟧.stored self.new (text_of target.now)
             ≡ without ids.now (⟦<DiskStore<F> as Store>⟧.lasting self.old (text_of target.now)) }
-        ensures next { ⟦<DiskStore<F> as Store>⟧.next_id self.new ≡ ⟦<DiskStore<F> as Store>⟧.next_id self.old }
+        ensures next { ⟦<DiskStore<F> as Store>⟧.next_id self.new
+            ≡ ⟦<DiskStore<F> as Store>⟧.next_id self.old }
         ensures others { KeepsAllOthers (⟦<DiskStore<F> as Store>⟧.lasting self.old)
             (⟦<DiskStore<F> as Store>⟧.stored self.new) (text_of target.now) }
         ensures lasting { KeepsAllOthers (⟦<DiskStore<F> as Store>⟧.lasting self.old)
@@ -616,7 +617,8 @@ where
             (map text_of targets.now) }
         ensures removed { RemovesThese (map text_of targets.now)
             (⟦<DiskStore<F> as Store>⟧.lasting self.old) (⟦<DiskStore<F> as Store>⟧.stored self.new) }
-        ensures next { ⟦<DiskStore<F> as Store>⟧.next_id self.new ≡ ⟦<DiskStore<F> as Store>⟧.next_id self.old }
+        ensures next { ⟦<DiskStore<F> as Store>⟧.next_id self.new
+            ≡ ⟦<DiskStore<F> as Store>⟧.next_id self.old }
         ensures unlinked { UnlinksExactly (heads_in self.old) (heads_in self.new)
             (unlinked_in self.old) (unlinked_in self.new) }
     {
@@ -627,8 +629,10 @@ where
     }
 
     fn sweep(&mut self, now: Timestamp) -> usize
-        ensures swept { IsSwept now.nanosecond (⟦<DiskStore<F> as Store>⟧.lasting self.old) (⟦<DiskStore<F> as Store>⟧.stored self.new) }
-        ensures next { ⟦<DiskStore<F> as Store>⟧.next_id self.new ≡ ⟦<DiskStore<F> as Store>⟧.next_id self.old }
+        ensures swept { IsSwept now.nanosecond (⟦<DiskStore<F> as Store>⟧.lasting self.old)
+            (⟦<DiskStore<F> as Store>⟧.stored self.new) }
+        ensures next { ⟦<DiskStore<F> as Store>⟧.next_id self.new
+            ≡ ⟦<DiskStore<F> as Store>⟧.next_id self.old }
         ensures unlinked { UnlinksExactly (heads_in self.old) (heads_in self.new)
             (unlinked_in self.old) (unlinked_in self.new) }
     {
