@@ -45,7 +45,7 @@ pub trait Entry {
         ensures { seen self.new ≡ with_exchange (exchange head) (seen self.old) };
 }
 
-/// What an index tells of each response that it removes.
+/// What an index reports of each response that it removes.
 pub trait Removed {
     // The ids that were told of so far.
     ghost told: { Self → List Id };
@@ -62,7 +62,7 @@ pub struct Unlisted {
 }
 
 impl Unlisted {
-    /// Returns a value that was told of nothing.
+    /// Returns a value with nothing reported yet.
     pub fn new() -> Unlisted {
         Unlisted { told: Told::new() }
     }
