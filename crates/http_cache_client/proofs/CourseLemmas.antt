@@ -10,16 +10,16 @@ use Rattle.http.specs.declared.response.Response.{Response}
 use Rattle.http_cache_rules.specs.Messages.{RequestSeen}
 use Rattle.http_cache_policy.specs.Exchange.{Exchange}
 use Rattle.http_cache_policy.specs.Lookup.{answers_once_validated, may_be_used}
-use Rattle.http_cache_messages.specs.Outgoing.{RefusesValidators}
-use Rattle.http_cache_messages.specs.Worth.{has_validator}
+use Rattle.http_cache_decisions.specs.Outgoing.{RefusesValidators}
+use Rattle.http_cache_store.specs.Worth.{has_validator}
 use Rattle.http_cache_store.specs.Store.{StoredSeen, ShowsAll, IsShownAs, AreIdsBelow, stored_mark}
 use Rattle.http_cache_store.specs.declared.store.StoredResponse.{StoredResponse}
-use Rattle.http_cache_plans.specs.Judge.{IsSelected, may_be_used_meanwhile}
-use Rattle.http_cache_plans.specs.Reply.{CannotBeSent, IsHeadFor, IsReply, needs_body}
-use Rattle.http_cache_plans.specs.declared.judge.Selected.{Selected}
-use Rattle.http_cache_plans.specs.declared.judge.Selected.TheVariants as selected
-use Rattle.http_cache_plans.specs.declared.reply.Reply.{Reply}
-use Rattle.http_cache_plans.proofs.FindLemmas.{found_alike, none_alike}
+use Rattle.http_cache_decisions.specs.Judge.{IsSelected, may_be_used_meanwhile}
+use Rattle.http_cache_decisions.specs.Reply.{CannotBeSent, IsHeadFor, IsReply, needs_body}
+use Rattle.http_cache_decisions.specs.declared.judge.Selected.{Selected}
+use Rattle.http_cache_decisions.specs.declared.judge.Selected.TheVariants as selected
+use Rattle.http_cache_decisions.specs.declared.reply.Reply.{Reply}
+use Rattle.http_cache_decisions.proofs.FindLemmas.{found_alike, none_alike}
 use Rattle.http_cache_fields.specs.Headers.{Headers}
 use Rattle.http_cache_rules.specs.Conditions.{is_conditional}
 use Rattle.http_cache_client.specs.Ask.{fields_of, is_only_if_cached, IsConditionalDecision}
@@ -65,7 +65,7 @@ mark_of_found p n (x ∷ xs) r below e =
 
 module _ (mark : List ℕ → List ℕ) (request : Request (List ℕ)) (now : ℤ) where
   -- the body of an answer made of what a look-up shows
-  body_of_reply : (one : StoredResponse) (r : StoredSeen) (all : List StoredSeen) (reply : Reply) (bytes : List ℕ)
+  pub body_of_reply : (one : StoredResponse) (r : StoredSeen) (all : List StoredSeen) (reply : Reply) (bytes : List ℕ)
       → IsShownAs mark one r → stored_mark r.id all ≡ Some r.mark
       → IsReply request one.id.0 one.policy one.body now reply → IsBodyFor mark all reply bytes
       → (b : Bool) → reply.needs_body ≡ b → IsBodySent mark b r.mark bytes

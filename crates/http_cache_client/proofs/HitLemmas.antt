@@ -17,10 +17,10 @@ use Rattle.http_cache_policy.specs.Match.{request_matches}
 use Rattle.http_cache_policy.specs.StaleUse.{forbids_stale}
 use Rattle.http_cache_policy.specs.Verdict.{is_fresh_for}
 use Rattle.http_cache_policy.proofs.BoundLemmas.{is_fresh_for-by_bound, is_fresh_for-storable}
-use Rattle.http_cache_messages.specs.Worth.{has_validator}
+use Rattle.http_cache_store.specs.Worth.{has_validator}
 use Rattle.http_cache_store.specs.Store.{StoredSeen}
-use Rattle.http_cache_plans.specs.Judge.{may_be_used_meanwhile}
-use Rattle.http_cache_plans.proofs.FindLemmas.{found_among, found_holds}
+use Rattle.http_cache_decisions.specs.Judge.{may_be_used_meanwhile}
+use Rattle.http_cache_decisions.proofs.FindLemmas.{found_among, found_holds}
 use Rattle.http_cache_client.specs.Ask.{fields_of, is_only_if_cached}
 use Rattle.http_cache_client.specs.Course.{IsAnswerBy, IsCourse, IsDecisionFor, course_among, course_by, to_origin}
 use Rattle.http_cache_client.specs.Hit.{IsHit, IsHitIfAnswer}

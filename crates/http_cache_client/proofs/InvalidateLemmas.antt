@@ -9,11 +9,11 @@ use Rattle.http.specs.declared.request.Request.{Request}
 use Rattle.http.specs.declared.response.Parts.{Parts}
 use Rattle.http_cache_store.specs.Store.{StoredByTarget, RemovesThese}
 use Rattle.http_cache_store.specs.Target.{text_of}
-use Rattle.http_cache_plans.specs.Invalidate.{requested, RemovesInvalidated}
-use Rattle.http_cache_plans.specs.declared.plan.Change.{Change}
-use Rattle.http_cache_plans.specs.declared.plan.Change.TheVariants.{Nothing, Put, Renew, Remove, RemoveTargets}
-use Rattle.http_cache_client.specs.Make.{IsMade, HasFailed}
+use Rattle.http_cache_decisions.specs.Invalidate.{requested, RemovesInvalidated}
+use Rattle.http_cache_decisions.specs.declared.plan.Change.{Change}
+use Rattle.http_cache_decisions.specs.declared.plan.Change.TheVariants.{Nothing, Put, Renew, Remove, RemoveTargets}
 use Rattle.http_cache_client.specs.Receive.{HasInvalidated}
+use Rattle.http_cache_client.specs.Taken.{IsCommitted}
 
 removed_text : (these : List (List ℕ)) (old new : StoredByTarget) (own : List ℕ)
     → Contains these own → RemovesThese these old new → new own ≡ []
@@ -28,17 +28,17 @@ pub own-invalidated : (request : Request (List ℕ)) (head : Parts) (lasting aft
 own-invalidated request head lasting after has =
     removed_text (map text_of has.targets) lasting after (requested request) has.invalidated.own has.removed
 
-pub HasInvalidated-made : (request : Request (List ℕ)) (head : Parts) (mark : List ℕ → List ℕ)
+pub HasInvalidated-made : (request : Request (List ℕ)) (head : Parts) (mark : List ℕ → List ℕ) (may_fail : Type 0)
     (before lasting : StoredByTarget) (next : ℕ) (after : StoredByTarget) (next_after : ℕ) (change : Change)
     → RemovesInvalidated request head change
-    → IsMade mark before lasting next after next_after change ⊎ HasFailed lasting after change
+    → IsCommitted mark may_fail before next after next_after lasting change
     → HasInvalidated request head lasting after
-HasInvalidated-made request head mark before lasting next after next_after Nothing removes made = absurd removes
-HasInvalidated-made request head mark before lasting next after next_after (Put _ _ _ _) removes made = absurd removes
-HasInvalidated-made request head mark before lasting next after next_after (Renew _ _ _ _) removes made = absurd removes
-HasInvalidated-made request head mark before lasting next after next_after (Remove _ _) removes made = absurd removes
-HasInvalidated-made request head mark before lasting next after next_after (RemoveTargets targets) removes made =
+HasInvalidated-made request head mark may_fail before lasting next after next_after Nothing removes made = absurd removes
+HasInvalidated-made request head mark may_fail before lasting next after next_after (Put _ _ _ _) removes made = absurd removes
+HasInvalidated-made request head mark may_fail before lasting next after next_after (Renew _ _ _ _) removes made = absurd removes
+HasInvalidated-made request head mark may_fail before lasting next after next_after (Remove _ _) removes made = absurd removes
+HasInvalidated-made request head mark may_fail before lasting next after next_after (RemoveTargets targets) removes made =
     elim made [
       | inl done ↦ record { targets = targets.items; invalidated = removes; removed = done.left }
-      | inr failed ↦ absurd failed
+      | inr failed ↦ absurd failed.1
     ]

@@ -2,21 +2,30 @@
 use Rattle.std.proofs.Common.{◌≡◌, ℕ, ℤ, Bool, true, false, List, Option, Some, None, refl, ap, subst, ◌∙◌, inl, inr}
 use Rattle.std.specs.Prelude.{nat_eq}
 use Rattle.std.specs.List.{find}
+use Rattle.http.specs.declared.request.Request.{Request}
 use Rattle.http.specs.declared.response.Response.{Response}
-use Rattle.http_cache_messages.specs.Asking.{incoming_seen}
-use Rattle.http_cache_messages.specs.declared.asking.Incoming.{Incoming}
+use Rattle.http_cache_decisions.specs.Asking.{incoming_seen}
+use Rattle.http_cache_decisions.specs.declared.asking.Incoming.{Incoming}
 use Rattle.http_cache_policy.specs.Exchange.{Exchange}
 use Rattle.http_cache_store.specs.Store.{StoredSeen, ShowsAll, IsShownAs, AreIdsBelow}
 use Rattle.http_cache_store.specs.declared.store.ResponseId.{ResponseId}
 use Rattle.http_cache_store.specs.declared.store.StoredResponse.{StoredResponse}
-use Rattle.http_cache_plans.specs.Failure.{IsStaleReplyOf}
-use Rattle.http_cache_plans.specs.Judge.{may_be_used_on_error, of_id}
-use Rattle.http_cache_plans.specs.Reply.{CannotBeSent}
-use Rattle.http_cache_plans.specs.declared.reply.Reply.{Reply}
-use Rattle.http_cache_plans.proofs.FindLemmas.{found_alike, none_alike}
+use Rattle.http_cache_decisions.specs.Failure.{IsStaleReplyOf}
+use Rattle.http_cache_decisions.specs.Judge.{may_be_used_on_error, of_id}
+use Rattle.http_cache_decisions.specs.Reply.{CannotBeSent}
+use Rattle.http_cache_decisions.specs.declared.reply.Reply.{Reply}
+use Rattle.http_cache_decisions.proofs.FindLemmas.{found_alike, none_alike}
 use Rattle.http_cache_client.specs.Contact.{IsByReply, IsLost}
+use Rattle.http_cache_client.specs.Course.{IsAnswerBy}
 use Rattle.http_cache_client.specs.StandIn.{IsStandInAnswer, stand_in}
 use Rattle.http_cache_client.proofs.CourseLemmas.{answer_by, mark_of_found}
+
+-- the answer is by the response that stands in
+pub stood_for : (mark : List ℕ → List ℕ) (lost : ℕ → Type 0) (request : Request (List ℕ)) (now : ℤ) (stands : Option StoredSeen)
+    (answer : Response (List ℕ)) → IsStandInAnswer mark lost request now stands (Some answer)
+    → (r : StoredSeen) × (stands ≡ Some r) × IsAnswerBy mark request r now answer
+stood_for mark lost request now None answer is = absurd (let no : Some answer ≡ None = is in cc)
+stood_for mark lost request now (Some r) answer is = (r, refl, is)
 
 -- what is stored wasn't read
 pub unread : (mark : List ℕ → List ℕ) (may_fail : Type 0) (lasting : List StoredSeen) (i : Incoming) (now : ℤ)

@@ -3,7 +3,7 @@ use Rattle.std.specs.Prelude.{◌≡◌, ℕ, List, Bool, true, ⊤, codes}
 use Rattle.http.specs.Request.{head_of as head_of_request}
 use Rattle.http.specs.Response.{head_of}
 use Rattle.http.specs.declared.request.Request.{Request}
-use Rattle.http_cache_messages.specs.Outgoing.{IsClean}
+use Rattle.http_cache_decisions.specs.Outgoing.{IsClean}
 use Rattle.http_cache_rules.specs.Conditions.{is_conditional}
 use Rattle.http_cache_fields.specs.Directives.{cache_control, has}
 use Rattle.http_cache_fields.specs.Headers.{Headers, headers_of}

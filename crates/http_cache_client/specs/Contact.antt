@@ -5,16 +5,16 @@ use Rattle.http.specs.Response.{head_of, body_of}
 use Rattle.http.specs.declared.request.Request.{Request}
 use Rattle.http.specs.declared.response.Response.{Response}
 use Rattle.http_cache_rules.specs.Messages.{RequestSeen}
-use Rattle.http_cache_messages.specs.Outgoing.{RefusesValidators}
-use Rattle.http_cache_messages.specs.Worth.{has_validator}
+use Rattle.http_cache_decisions.specs.Outgoing.{RefusesValidators}
+use Rattle.http_cache_store.specs.Worth.{has_validator}
 use Rattle.http_cache_store.specs.Store.{StoredSeen, has_id, stored_mark}
 use Rattle.http_cache_store.specs.declared.store.StoredResponse.{StoredResponse}
-use Rattle.http_cache_plans.specs.Judge.{may_be_used_meanwhile}
-use Rattle.http_cache_plans.specs.Reply.{CannotBeSent, IsReply, IsReplyIfAny}
-use Rattle.http_cache_plans.specs.Report.{IsMarked}
-use Rattle.http_cache_plans.specs.declared.judge.Selected.{Selected}
-use Rattle.http_cache_plans.specs.declared.judge.Selected.TheVariants as selected
-use Rattle.http_cache_plans.specs.declared.reply.Reply.{Reply}
+use Rattle.http_cache_decisions.specs.Judge.{may_be_used_meanwhile}
+use Rattle.http_cache_decisions.specs.Reply.{CannotBeSent, IsReply, IsReplyIfAny}
+use Rattle.http_cache_decisions.specs.Report.{IsMarked}
+use Rattle.http_cache_decisions.specs.declared.judge.Selected.{Selected}
+use Rattle.http_cache_decisions.specs.declared.judge.Selected.TheVariants as selected
+use Rattle.http_cache_decisions.specs.declared.reply.Reply.{Reply}
 use Rattle.http_cache_client.specs.Ask.{fields_of}
 use Rattle.http_cache_client.specs.Course.{IsForwardOf, IsRefused, IsValidationOf}
 use Rattle.http_cache_client.specs.declared.ask.OriginContact.{OriginContact}

@@ -11,13 +11,13 @@ use Rattle.http_cache_fields.specs.Headers.{headers_of}
 use Rattle.http_cache_rules.specs.Messages.{RequestSeen}
 use Rattle.http_cache_policy.specs.Exchange.{Exchange}
 use Rattle.http_cache_policy.specs.Lookup.{answers_once_validated, may_be_used}
-use Rattle.http_cache_messages.specs.Asking.{is_looked_up, looked_up}
-use Rattle.http_cache_messages.specs.Outgoing.{RefusesValidators, validating}
-use Rattle.http_cache_messages.specs.Worth.{has_validator}
+use Rattle.http_cache_decisions.specs.Asking.{is_looked_up, looked_up}
+use Rattle.http_cache_decisions.specs.Outgoing.{RefusesValidators, validating}
+use Rattle.http_cache_store.specs.Worth.{has_validator}
 use Rattle.http_cache_store.specs.Store.{StoredSeen}
-use Rattle.http_cache_plans.specs.Judge.{may_be_used_meanwhile}
-use Rattle.http_cache_plans.specs.Reply.{CannotBeSent, IsHeadFor, needs_body}
-use Rattle.http_cache_plans.specs.Report.{IsMarked}
+use Rattle.http_cache_decisions.specs.Judge.{may_be_used_meanwhile}
+use Rattle.http_cache_decisions.specs.Reply.{CannotBeSent, IsHeadFor, needs_body}
+use Rattle.http_cache_decisions.specs.Report.{IsMarked}
 use Rattle.http_cache_client.specs.Ask.{fields_of, is_only_if_cached}
 use Rattle.http_cache_client.specs.declared.tokens.Decision.{Decision}
 use Rattle.http_cache_client.specs.declared.tokens.Decision.TheVariants.{Answer, Stale, Validate, Forward}

@@ -4,11 +4,11 @@ use Rattle.http.specs.Request.{head_of as head_of_request, body_of}
 use Rattle.http.specs.Response.{head_of}
 use Rattle.http.specs.declared.request.Request.{Request}
 use Rattle.http.specs.declared.response.Response.{Response}
-use Rattle.http_cache_messages.specs.Outgoing.{IsClean}
+use Rattle.http_cache_decisions.specs.Outgoing.{IsClean}
 use Rattle.http_cache_fields.specs.Headers.{Headers, headers_of}
 use Rattle.std.specs.Prelude.{true, false, None}
 use Rattle.http_cache_store.specs.Store.{StoredByTarget}
-use Rattle.http_cache_plans.specs.Invalidate.{invalidates}
+use Rattle.http_cache_decisions.specs.Invalidate.{invalidates}
 use Rattle.http_cache_client.specs.Receive.{own_text}
 use Rattle.http_cache_client.specs.declared.origin.FetchError.{FetchError}
 use Rattle.http_cache_client.specs.declared.origin.FetchError.TheVariants.{Memory, Lost, Origin}

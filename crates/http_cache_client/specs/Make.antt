@@ -5,8 +5,8 @@ use Rattle.http_cache_store.specs.Store.{StoredByTarget, KeepsAll, KeepsOthers, 
 use Rattle.http_cache_store.specs.Store.{without, renewed, AreNewestOf, IsInserted, RemovesThese}
 use Rattle.http_cache_store.specs.Target.{text_of}
 use Rattle.http_cache_store.specs.declared.store.ResponseId.{ResponseId}
-use Rattle.http_cache_plans.specs.declared.plan.Change.{Change}
-use Rattle.http_cache_plans.specs.declared.plan.Change.TheVariants.{Nothing, Put, Renew, Remove, RemoveTargets}
+use Rattle.http_cache_decisions.specs.declared.plan.Change.{Change}
+use Rattle.http_cache_decisions.specs.declared.plan.Change.TheVariants.{Nothing, Put, Renew, Remove, RemoveTargets}
 
 module _ (lasting : StoredByTarget) (next : ℕ) (after : StoredByTarget) (next_after : ℕ) where
   -- the superseded responses of the target are gone; the new one is the newest, or isn't stored

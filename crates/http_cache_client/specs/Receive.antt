@@ -4,17 +4,17 @@ use Rattle.http.specs.Request.{head_of as head_of_request}
 use Rattle.http.specs.Response.{head_of, body_of}
 use Rattle.http.specs.declared.request.Request.{Request}
 use Rattle.http.specs.declared.response.Response.{Response}
-use Rattle.http_cache_messages.specs.Asking.{is_looked_up}
+use Rattle.http_cache_decisions.specs.Asking.{is_looked_up}
 use Rattle.http_cache_fields.specs.Headers.{headers_of}
 use Rattle.http_cache_store.specs.Target.{target_text}
-use Rattle.http_cache_plans.specs.Plan.{IsElsewhere, IsWholeBody, HasCondition}
-use Rattle.http_cache_plans.specs.declared.body.Body.{Body}
+use Rattle.http_cache_decisions.specs.Plan.{IsElsewhere, IsWholeBody, HasCondition}
+use Rattle.http_cache_decisions.specs.declared.body.Body.{Body}
 use Rattle.std.specs.Prelude.{map}
 use Rattle.http.specs.declared.response.Parts.{Parts}
 use Rattle.http_cache_store.specs.Store.{StoredByTarget, RemovesThese}
 use Rattle.http_cache_store.specs.Target.{text_of}
 use Rattle.http_cache_store.specs.declared.target.Target.{Target}
-use Rattle.http_cache_plans.specs.Invalidate.{AreInvalidated}
+use Rattle.http_cache_decisions.specs.Invalidate.{AreInvalidated}
 use Rattle.http_cache_client.specs.declared.tokens.Received.{Received}
 use Rattle.http_cache_client.specs.declared.tokens.Received.TheVariants.{Answer, Again}
 

@@ -6,8 +6,8 @@ use Rattle.http.specs.declared.response.Response.{Response}
 use Rattle.http_cache_rules.specs.Messages.{RequestSeen}
 use Rattle.http_cache_store.specs.Store.{StoredSeen}
 use Rattle.http_cache_store.specs.declared.store.ResponseId.{ResponseId}
-use Rattle.http_cache_plans.specs.Judge.{may_be_used_on_error}
-use Rattle.http_cache_plans.specs.Reply.{CannotBeSent}
+use Rattle.http_cache_decisions.specs.Judge.{may_be_used_on_error}
+use Rattle.http_cache_decisions.specs.Reply.{CannotBeSent}
 use Rattle.http_cache_client.specs.Course.{IsAnswerBy}
 
 abbrev pub number_of : Option ResponseId → Option ℕ

@@ -1,7 +1,7 @@
 //! Decides what to do with a request: answer it, validate a stored response, or forward it.
 ghost use Rattle.std.specs.Prelude.{◌≡◌, ℕ, List, [], true, None, IfOk, IfSome};
 ghost use Rattle.http.specs.Response.{head_of as head_of_response, body_of as body_of_response};
-ghost use Rattle.http_cache_messages.specs.Asking.{incoming_seen, is_looked_up, looked_up};
+ghost use Rattle.http_cache_decisions.specs.Asking.{incoming_seen, is_looked_up, looked_up};
 ghost use Rattle.http_cache_store.specs.Store.{KeepsAll, KeepsAllOthers};
 ghost use Rattle.http_cache_store.specs.Target.{text_of};
 ghost use Rattle.http_cache_client.specs.Ask.{fields_of, IsOfStore, IsCleanValidation, IsCleanDecision};
@@ -11,7 +11,7 @@ ghost use Rattle.http_cache_client.specs.Ask.{is_only_if_cached};
 ghost use Rattle.http_cache_client.specs.Contact.{IsPlainContact, IsContactBy, IsContactAfter};
 ghost use Rattle.http_cache_client.specs.Contact.{IsByReply, IsForwarding, IsLost, IsUsedWhile};
 ghost use Rattle.http_cache_client.specs.Contact.{IsCarriedOut, IsFreshReply, MayFail};
-ghost use Rattle.http_cache_plans.specs.Reply.{IsConditionalReply};
+ghost use Rattle.http_cache_decisions.specs.Reply.{IsConditionalReply};
 ghost use Rattle.http_cache_client.specs.Course.{IsDecisionFor, IsForwardOf, course, course_among};
 ghost use Rattle.http_cache_client.specs.Hit.{IsHitIfAnswer};
 ghost use Rattle.http_cache_client.specs.Receive.{own_text};
@@ -20,15 +20,15 @@ use crate::client::Client;
 use crate::tokens::{Decision, Forwarded, Validation};
 use bytes::Bytes;
 use http::{HeaderMap, Method, Request, Response, StatusCode, Version, response};
+use http_cache_decisions::Why;
+use http_cache_decisions::asking::{Incoming, is_looked_up};
+use http_cache_decisions::judge::{Selected, select};
+use http_cache_decisions::outgoing::validation_request;
+use http_cache_decisions::reply::Reply;
+use http_cache_decisions::report::{answer_of, generated, hit, store_failed, why_of};
 use http_cache_fields::CacheError;
-use http_cache_messages::asking::{Incoming, is_looked_up};
-use http_cache_messages::outgoing::validation_request;
-use http_cache_messages::worth::has_validator;
-use http_cache_plans::Why;
-use http_cache_plans::judge::{Selected, select};
-use http_cache_plans::reply::Reply;
-use http_cache_plans::report::{answer_of, generated, hit, store_failed, why_of};
 use http_cache_policy::explain::Forward;
+use http_cache_store::worth::has_validator;
 use http_cache_store::{Store, StoredResponse, Target};
 use jiff::Timestamp;
 use std::alloc::{AllocError, Global};
@@ -173,6 +173,7 @@ impl<S: Store + Drop> Client<S> {
         target: &Target,
         mut reply: Reply,
     ) -> Result<Option<Response<Bytes>>, AllocError>
+        ensures options { self.new.options ≡ self.old.options }
         ensures kept { KeepsAll (S.stored self.old.store) (S.next_id self.old.store)
             (S.stored self.new.store) (S.next_id self.new.store) }
         ensures lasting { KeepsAllOthers (S.lasting self.old.store) (S.lasting self.new.store)
@@ -198,6 +199,7 @@ impl<S: Store + Drop> Client<S> {
         due: Validation,
     ) -> Result<Decision, AllocError>
         requires { IsCleanValidation due }
+        ensures options { self.new.options ≡ self.old.options }
         ensures kept { KeepsAll (S.stored self.old.store) (S.next_id self.old.store)
             (S.stored self.new.store) (S.next_id self.new.store) }
         ensures lasting { KeepsAllOthers (S.lasting self.old.store) (S.lasting self.new.store)
@@ -242,6 +244,7 @@ impl<S: Store + Drop> Client<S> {
         contact: OriginContact,
     ) -> Result<Decision, AllocError>
         requires { IsCleanContact contact }
+        ensures options { self.new.options ≡ self.old.options }
         ensures kept { KeepsAll (S.stored self.old.store) (S.next_id self.old.store)
             (S.stored self.new.store) (S.next_id self.new.store) }
         ensures lasting { KeepsAllOthers (S.lasting self.old.store) (S.lasting self.new.store)
@@ -276,6 +279,7 @@ impl<S: Store + Drop> Client<S> {
         incoming: &Incoming<'_>,
         now: Timestamp,
     ) -> Result<Decision, AllocError>
+        ensures options { self.new.options ≡ self.old.options }
         ensures kept { KeepsAll (S.stored self.old.store) (S.next_id self.old.store)
             (S.stored self.new.store) (S.next_id self.new.store) }
         ensures lasting { KeepsAllOthers (S.lasting self.old.store) (S.lasting self.new.store)
@@ -325,6 +329,7 @@ impl<S: Store + Drop> Client<S> {
         request: &Request<Bytes>,
         now: Timestamp,
     ) -> Result<Decision, AllocError>
+        ensures options { self.new.options ≡ self.old.options }
         ensures safe { IfOk result (λ decision. IsOfStore decision → is_looked_up request.now ≡ true) }
         ensures clean { IfOk result IsCleanDecision }
         ensures conditional { IfOk result

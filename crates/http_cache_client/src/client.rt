@@ -4,13 +4,14 @@ ghost use Rattle.std.specs.Prelude.{OnErr, OnOk, IsErrOf};
 ghost use Rattle.http_cache_store.specs.Store.{KeepsAll, KeepsMost, KeepsAllOthers, LosesSome};
 ghost use Rattle.http_cache_store.specs.Store.{RemovesThese, removed_count, IsSwept};
 ghost use Rattle.http_cache_store.specs.Target.{text_of};
-ghost use Rattle.http_cache_plans.specs.Plan.{Stores, IsChangeOf};
+ghost use Rattle.http_cache_decisions.specs.Plan.{Stores, IsChangeOf};
 ghost use Rattle.http_cache_client.specs.Contact.{IsBodyFor, IsLost, MayFail};
+ghost use Rattle.http_cache_client.specs.Keep.{LosesOne};
 ghost use Rattle.http_cache_client.specs.Make.{IsMade, HasFailed};
 
 use bytes::Bytes;
-use http_cache_plans::plan::{Change, Settled};
-use http_cache_plans::reply::Reply;
+use http_cache_decisions::plan::{Change, Settled};
+use http_cache_decisions::reply::Reply;
 use http_cache_policy::policy::CacheOptions;
 use http_cache_store::{Store, StoreError, Target};
 use jiff::Timestamp;
@@ -88,6 +89,7 @@ impl<S: Store + Drop> Client<S> {
 
     // Reads what is stored for a target. Returns false if the store failed.
     pub(crate) fn read(&mut self, alloc: Global, target: &Target) -> Result<bool, AllocError>
+        ensures options { self.new.options ≡ self.old.options }
         ensures kept { KeepsAll (S.stored self.old.store) (S.next_id self.old.store)
             (S.stored self.new.store) (S.next_id self.new.store) }
         ensures lasting { S.lasting self.new.store ≡ S.lasting self.old.store }
@@ -109,10 +111,13 @@ impl<S: Store + Drop> Client<S> {
         target: &Target,
         reply: &mut Reply,
     ) -> Result<Option<Bytes>, AllocError>
+        ensures options { self.new.options ≡ self.old.options }
         ensures kept { KeepsAll (S.stored self.old.store) (S.next_id self.old.store)
             (S.stored self.new.store) (S.next_id self.new.store) }
         ensures lasting { KeepsAllOthers (S.lasting self.old.store) (S.lasting self.new.store)
             (text_of target.now) }
+        ensures loses { LosesOne (text_of target.now)
+            (S.lasting self.old.store) (S.lasting self.new.store) }
         ensures head { reply.new.head ≡ reply.old.head }
         ensures body { IfOk result (λ body. IfSome body
             (IsBodyFor S.mark (S.stored self.old.store (text_of target.now)) reply.old)) }
@@ -134,6 +139,7 @@ impl<S: Store + Drop> Client<S> {
 
     // Makes a change in one call of the store.
     fn make(&mut self, change: Change) -> Result<Settled, StoreError>
+        ensures options { self.new.options ≡ self.old.options }
         ensures made { OnOk result (IsMade S.mark (S.stored self.old.store)
             (S.lasting self.old.store) (S.next_id self.old.store)
             (S.stored self.new.store) (S.next_id self.new.store) change) }
@@ -144,6 +150,7 @@ impl<S: Store + Drop> Client<S> {
             (S.stored self.new.store) (S.next_id self.new.store) }
         ensures failed { IsErrOf result StoreError.Failed → (own : List ℕ) → IsChangeOf own change
             → LosesSome own (S.lasting self.old.store) (S.stored self.new.store) }
+        ensures can_fail { IsErrOf result StoreError.Failed → S.can_fail self.old.store }
         ensures settled { IfOk result (λ settled. settled ≢ Settled.Failed) }
         ensures stored { Stores change ⊎ (S.next_id self.new.store ≡ S.next_id self.old.store) }
         ensures others { (own : List ℕ) → IsChangeOf own change
@@ -198,12 +205,15 @@ impl<S: Store + Drop> Client<S> {
 
     // Makes a change as the last step of a call. A store that failed stores nothing new.
     pub(crate) fn commit(&mut self, change: Change) -> Result<Settled, AllocError>
+        ensures options { self.new.options ≡ self.old.options }
         ensures made { IfOk result (λ settled. settled ≢ Settled.Failed
             → IsMade S.mark (S.stored self.old.store) (S.lasting self.old.store)
             (S.next_id self.old.store) (S.stored self.new.store) (S.next_id self.new.store)
             change) }
         ensures lost { IfOk result (λ settled. settled ≡ Settled.Failed
             → HasFailed (S.lasting self.old.store) (S.stored self.new.store) change) }
+        ensures can_fail { IfOk result (λ settled. settled ≡ Settled.Failed
+            → S.can_fail self.old.store) }
         ensures kept { OnErr result (KeepsAll (S.stored self.old.store) (S.next_id self.old.store)
             (S.stored self.new.store) (S.next_id self.new.store)) }
         ensures failed { IfOk result (λ settled. settled ≡ Settled.Failed

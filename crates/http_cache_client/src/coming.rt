@@ -2,21 +2,21 @@
 ghost use Rattle.std.specs.Prelude.{◌≡◌, ◌⊎◌, true, IfOk, IfSome};
 ghost use Rattle.http.specs.Response.{head_of, body_of};
 ghost use Rattle.http_cache_store.specs.Store.{KeepsAll};
-ghost use Rattle.http_cache_plans.specs.Plan.{IsElsewhere, HasCondition};
+ghost use Rattle.http_cache_decisions.specs.Plan.{IsElsewhere, HasCondition};
 
 use crate::client::Client;
 use crate::receive::Pending;
 use crate::tokens::{Coming, Forwarded, Validation};
 use bytes::Bytes;
 use http::{Request, Response, StatusCode, response};
+use http_cache_decisions::asking::{Incoming, is_looked_up};
+use http_cache_decisions::failure::is_usable_on_error;
+use http_cache_decisions::plan::Arrived;
+use http_cache_decisions::receipt::prepared;
+use http_cache_decisions::renewal::of_id;
+use http_cache_decisions::report::forwarded;
+use http_cache_decisions::{Body, Times};
 use http_cache_fields::headers::copy_of_map;
-use http_cache_messages::asking::{Incoming, is_looked_up};
-use http_cache_plans::failure::is_usable_on_error;
-use http_cache_plans::plan::Arrived;
-use http_cache_plans::receipt::prepared;
-use http_cache_plans::renewal::of_id;
-use http_cache_plans::report::forwarded;
-use http_cache_plans::{Body, Times};
 use http_cache_policy::explain::{Member, TimeLeft};
 use http_cache_store::{Store, Target};
 use jiff::Timestamp;
@@ -102,12 +102,7 @@ impl<S: Store + Drop> Client<S> {
             (head_of c.answer).status ≡ 304 → HasCondition request.now)) }
     {
         let status = head.status;
-        let is_kept = status.is_server_error() && pending.id.is_some();
-        if pending.is_past_store
-            || is_kept
-            || status == StatusCode::NOT_MODIFIED
-            || !is_looked_up(request)
-        {
+        if pending.is_left(status) || status == StatusCode::NOT_MODIFIED || !is_looked_up(request) {
             return Ok(None);
         }
         let incoming = Incoming::new(alloc, request)?;

@@ -1,24 +1,30 @@
 //! Answers a request with at most two requests to an origin.
 ghost use Rattle.std.specs.Prelude.{◌≡◌, ◌⊎◌, true, false, Some, None, IsSome, IfOk, IfErr, OnOk, OnErr};
 ghost use Rattle.http.specs.Response.{head_of, body_of};
-ghost use Rattle.http_cache_messages.specs.Asking.{is_looked_up};
+ghost use Rattle.http_cache_decisions.specs.Asking.{is_looked_up};
 ghost use Rattle.http_cache_store.specs.Store.{KeepsAll, KeepsMost};
 ghost use Rattle.http_cache_client.specs.Receive.{own_text};
 ghost use Rattle.http_cache_client.specs.Ask.{fields_of, IsOfStore, IsCleanValidation, IsCleanDecision};
 ghost use Rattle.http_cache_client.specs.Ask.{IsConditionalDecision, IsAnswer, IsOnlyIfCached};
-ghost use Rattle.http_cache_plans.specs.Plan.{IsElsewhere, HasCondition};
+ghost use Rattle.http_cache_decisions.specs.Plan.{IsElsewhere, HasCondition};
 ghost use Rattle.http_cache_client.specs.Fetch.{Outcome, HasSentOwn, HasSentValidation, HasSentBoth, HasSent};
 ghost use Rattle.http_cache_client.specs.Fetch.{HasSentTwiceAtMost, HasSentFor304, HasNoResponse, IsUnsent};
 ghost use Rattle.http_cache_client.specs.Fetch.{HasPassedOn};
+ghost use Rattle.http_cache_client.specs.Fetched.{HasSentHead, IsByStandIn, IsCarriedOutBy, IsFetched};
+ghost use Rattle.http_cache_client.specs.Fetched.{IsForwarded, IsHere, IsPassed, IsValidatedTo, store_seen};
+ghost use Rattle.http_cache_client.specs.Contact.{MayFail};
+ghost use Rattle.http_cache_client.specs.Course.{IsRefusal};
+ghost use Rattle.std.specs.Prelude.{IfSome};
+ghost use Rattle.http_cache_rules.specs.Options.{options_of};
 
 use crate::client::Client;
 use crate::origin::{FetchError, Origin};
 use crate::tokens::{Decision, Forwarded, Received, Validation};
 use bytes::Bytes;
 use http::{Request, Response};
+use http_cache_decisions::asking::is_looked_up;
+use http_cache_decisions::{Body, Times, Why};
 use http_cache_fields::reading::says;
-use http_cache_messages::asking::is_looked_up;
-use http_cache_plans::{Body, Times, Why};
 use http_cache_policy::explain::Forward;
 use http_cache_store::Store;
 use jiff::Timestamp;
@@ -26,7 +32,7 @@ use std::alloc::{AllocError, Global};
 
 fn with_bytes(response: Response<Body>) -> Response<Bytes>
     requires { ¬ (IsElsewhere (body_of response)) }
-    ensures { (head_of result).status ≡ (head_of response).status }
+    ensures { IsHere result response }
 {
     let (head, body) = response.into_parts();
     match body {
@@ -36,8 +42,8 @@ fn with_bytes(response: Response<Body>) -> Response<Bytes>
 }
 
 fn with_body(response: Response<Bytes>) -> Response<Body>
+    ensures bytes { IsHere response result }
     ensures here { ¬ (IsElsewhere (body_of result)) }
-    ensures status { (head_of result).status ≡ (head_of response).status }
 {
     let (head, bytes) = response.into_parts();
     Response::from_parts(head, Body::Here(bytes))
@@ -63,6 +69,12 @@ fn send_validation<O: Origin>(
     ensures response { IfOk result (λ received. HasSentValidation O.sent origin.old origin.new
         (Some (received.0, received.1.nanosecond))) }
     ensures no_response { OnErr result (HasSentValidation O.sent origin.old origin.new None) }
+    ensures head { IfOk result (λ received. HasSentHead O.sent origin.old origin.new
+        token.old.request.value (Some (received.0, received.1.nanosecond))) }
+    ensures head_of_none { OnErr result
+        (HasSentHead O.sent origin.old origin.new token.old.request.value None) }
+    ensures kept { token.new.id ≡ token.old.id }
+    ensures past { token.new.is_past_store ≡ token.old.is_past_store }
 {
     let asking = Request::from_parts(token.take_request(alloc), Bytes::new());
     origin.send(&asking)
@@ -82,6 +94,9 @@ impl<S: Store + Drop> Client<S> {
             (S.stored self.new.store) (S.next_id self.new.store) }
         ensures conditional { IfOk result (λ answer. (head_of answer).status ≡ 304
             → HasCondition request.now) }
+        ensures stands_in { IfOk result (IsByStandIn S.mark request.now token.id now.nanosecond
+            (store_seen S.stored S.lasting S.next_id self.old.store)
+            (store_seen S.stored S.lasting S.next_id self.new.store)) }
         ensures lost { IfErr result (IsUnsent ⊥) }
     {
         match self.without_response(alloc, &mut token, request, now) {
@@ -102,6 +117,10 @@ impl<S: Store + Drop> Client<S> {
     ) -> Result<Response<Bytes>, FetchError<O::Error>>
     where
         O::Error: Drop,
+        ensures answer { IfOk result (IsForwarded O.sent S.mark (MayFail S.can_fail)
+            (options_of self.old.options) request.now token sent.nanosecond origin.old origin.new
+            (store_seen S.stored S.lasting S.next_id self.old.store)
+            (store_seen S.stored S.lasting S.next_id self.new.store)) }
         ensures sent { (outcome : Outcome)
             × HasSentOwn O.sent origin.old origin.new request.now outcome }
         ensures no_response { IfErr result
@@ -142,6 +161,10 @@ impl<S: Store + Drop> Client<S> {
     where
         O::Error: Drop,
         requires { IsCleanValidation token }
+        ensures answer { IfOk result (IsValidatedTo O.sent S.mark (MayFail S.can_fail)
+            (options_of self.old.options) request.now token sent.nanosecond origin.old origin.new
+            (store_seen S.stored S.lasting S.next_id self.old.store)
+            (store_seen S.stored S.lasting S.next_id self.new.store)) }
         ensures sent { (outcome : Outcome)
             × (HasSentValidation O.sent origin.old origin.new outcome
             ⊎ HasSentBoth O.sent origin.old origin.new request.now outcome) }
@@ -185,6 +208,10 @@ impl<S: Store + Drop> Client<S> {
     where
         O::Error: Drop,
         requires { IsCleanDecision decision }
+        ensures answer { IfOk result (IsCarriedOutBy O.sent S.mark (MayFail S.can_fail)
+            (options_of self.old.options) request.now decision now.nanosecond origin.old origin.new
+            (store_seen S.stored S.lasting S.next_id self.old.store)
+            (store_seen S.stored S.lasting S.next_id self.new.store)) }
         ensures twice { HasSentTwiceAtMost O.sent origin.old origin.new request.now }
         ensures safe { (IsOfStore decision → is_looked_up request.now ≡ true)
             → is_looked_up request.now ≡ false → OnOk result ((outcome : Outcome)
@@ -238,6 +265,10 @@ impl<S: Store + Drop> Client<S> {
     ) -> Result<Response<Bytes>, FetchError<O::Error>>
     where
         O::Error: Drop,
+        ensures fetched { IfOk result (IsFetched O.sent S.mark (MayFail S.can_fail)
+            (options_of self.old.options) request.now now.nanosecond origin.old origin.new
+            (store_seen S.stored S.lasting S.next_id self.old.store)
+            (store_seen S.stored S.lasting S.next_id self.new.store)) }
         ensures twice { HasSentTwiceAtMost O.sent origin.old origin.new request.now }
         ensures safe { is_looked_up request.now ≡ false → OnOk result ((outcome : Outcome)
             × HasSentOwn O.sent origin.old origin.new request.now outcome) }
@@ -275,6 +306,8 @@ impl<S: Store + Drop> Client<S> {
         ensures only_if_cached { IfOk result (λ answer. is_looked_up request.now ≡ true
             → IsOnlyIfCached (fields_of request.now) → IsSome answer) }
         ensures looked_up { IfOk result (λ answer. IsSome answer → is_looked_up request.now ≡ true) }
+        ensures refused { IfOk result (λ answer. IfSome answer (λ refusal.
+            IsOnlyIfCached (fields_of request.now) × IsRefusal refusal)) }
     {
         if is_looked_up(request) && says(request.headers(), "only-if-cached") {
             return Ok(Some(self.not_cached(alloc)?));
@@ -290,6 +323,7 @@ impl<S: Store + Drop> Client<S> {
         request: &Request<Bytes>,
         token: &Forwarded,
     ) -> Result<Response<Bytes>, FetchError<O::Error>>
+        ensures answer { IfOk result (IsPassed O.sent origin.old origin.new request.now) }
         ensures sent { (outcome : Outcome)
             × HasSentOwn O.sent origin.old origin.new request.now outcome }
         ensures no_response { IfErr result
@@ -335,6 +369,9 @@ impl<S: Store + Drop> Client<S> {
     ) -> Result<Response<Bytes>, FetchError<O::Error>>
     where
         O::Error: Drop,
+        ensures answer { IfOk result (λ answer. IsPassed O.sent origin.old origin.new request.now answer
+            ⊎ ((is_looked_up request.now ≡ true) × IsOnlyIfCached (fields_of request.now)
+            × IsRefusal answer × (origin.new ≡ origin.old))) }
         ensures sent { (origin.new ≡ origin.old) ⊎ ((outcome : Outcome)
             × HasSentOwn O.sent origin.old origin.new request.now outcome) }
         ensures no_response { IfErr result

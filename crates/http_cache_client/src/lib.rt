@@ -4,12 +4,13 @@
 mod ask;
 pub mod client;
 mod coming;
+mod confirm;
 mod fetch;
 pub mod origin;
 mod receive;
 pub mod tokens;
 
 pub use client::Client;
-pub use http_cache_plans::{Body, Times};
+pub use http_cache_decisions::{Body, Times};
 pub use origin::{FetchError, Origin};
 pub use tokens::{Coming, Decision, Forwarded, Received, Validation};

@@ -4,46 +4,52 @@ ghost use Rattle.std.specs.Prelude.{◌≡◌, ◌≢◌, ◌⊎◌, ℕ, List, 
 ghost use Rattle.http.specs.Response.{head_of, body_of};
 ghost use Rattle.http_cache_store.specs.Store.{KeepsAll, KeepsMost, KeepsAllOthers};
 ghost use Rattle.http_cache_store.specs.Target.{text_of};
-ghost use Rattle.http_cache_plans.specs.Plan.{Stores, IsChangeOf, IsElsewhere, IsWhole, IsKnownPlan};
-ghost use Rattle.http_cache_plans.specs.Plan.{HasCondition, is_failure};
+ghost use Rattle.http_cache_decisions.specs.Plan.{Stores, IsChangeOf, IsElsewhere, IsWhole, IsKnownPlan};
+ghost use Rattle.http_cache_decisions.specs.Plan.{HasCondition, is_failure};
 ghost use Rattle.http_cache_client.specs.Receive.{IsWholeResponse, MayBeStored, IsConditionalReceipt};
 ghost use Rattle.http_cache_client.specs.Receive.{own_text, KeepsBodyLocation};
-ghost use Rattle.http_cache_client.specs.Receive.{HasBodyHere, IsAfterA304, IsAgain};
+ghost use Rattle.http_cache_client.specs.Receive.{IsAfterA304, IsAgain};
 ghost use Rattle.http_cache_client.specs.Keep.{KeepsLasting};
-ghost use Rattle.http_cache_messages.specs.Asking.{incoming_seen, looked_up};
+ghost use Rattle.http_cache_decisions.specs.Asking.{incoming_seen, looked_up};
 ghost use Rattle.http_cache_client.specs.Contact.{IsLost, MayFail};
 ghost use Rattle.http_cache_client.specs.StandIn.{IsStandInAnswer, number_of, stand_in};
 ghost use Rattle.std.specs.Prelude.{[], OnOk};
-ghost use Rattle.http_cache_messages.specs.Asking.{is_looked_up};
-ghost use Rattle.http_cache_plans.specs.Invalidate.{invalidates};
-ghost use Rattle.http_cache_client.specs.Make.{IsMade, HasFailed};
+ghost use Rattle.http_cache_decisions.specs.Asking.{is_looked_up};
+ghost use Rattle.http_cache_decisions.specs.Invalidate.{invalidates};
+ghost use Rattle.http_cache_client.specs.Keep.{LosesOne};
+ghost use Rattle.http_cache_client.specs.Taken.{is_left, stands_for, IsCommitted, IsPlannedOver, IsReceivedAs, IsTaken};
+ghost use Rattle.http_cache_client.specs.Taken.{IsOutcome};
+ghost use Rattle.http_cache_decisions.specs.Receipt.{IsAnswerWith};
+ghost use Rattle.http_cache_decisions.specs.declared.body.Body.{Body};
+ghost use Rattle.http.specs.declared.request.Request.{Request};
+ghost use Rattle.http.specs.declared.response.Response.{Response};
+ghost use Rattle.http_cache_rules.specs.Options.{options_of};
+ghost use Rattle.std.specs.Prelude.{Bool, ℤ, ◌&&◌, not};
 ghost use Rattle.http_cache_client.specs.Receive.{HasInvalidated};
 
 use crate::client::Client;
 use crate::tokens::{Forwarded, Received, Validation};
 use bytes::Bytes;
 use http::{Request, Response, StatusCode};
-use http_cache_messages::asking::{Incoming, is_looked_up};
-use http_cache_plans::failure::{is_failure, stale_reply};
-use http_cache_plans::freshen::freshened;
-use http_cache_plans::invalidate::invalidated;
-use http_cache_plans::plan::{Arrived, Change, Plan, plan_of};
-use http_cache_plans::receipt::{CacheStatuses, cache_status_for, prepared};
-use http_cache_plans::renewal::{Renewal, renewal_of};
-use http_cache_plans::report::{answer_of, forwarded, replace_cache_status};
-use http_cache_plans::{Body, Times, Why};
-use http_cache_policy::explain::{Forward, Member};
+use http_cache_decisions::asking::{Incoming, is_looked_up};
+use http_cache_decisions::failure::{is_failure, is_server_error, stale_reply};
+use http_cache_decisions::freshen::freshened;
+use http_cache_decisions::invalidate::invalidated;
+use http_cache_decisions::plan::{Arrived, Change, Plan, plan_of};
+use http_cache_decisions::receipt::{CacheStatuses, prepared, settled_answer};
+use http_cache_decisions::report::{answer_of, forwarded};
+use http_cache_decisions::{Body, Times, Why};
+use http_cache_policy::explain::Member;
 use http_cache_store::{ResponseId, Store, Target};
 use jiff::Timestamp;
 use std::alloc::{AllocError, Global};
-use std::mem;
 
 // What Cache-Status reports of a received response.
 #[derive(Clone, Copy)]
-struct Receipt<'a> {
-    why: &'a Why,
-    status: StatusCode,
-    received: Timestamp,
+pub(crate) struct Receipt<'a> {
+    pub(crate) why: &'a Why,
+    pub(crate) status: StatusCode,
+    pub(crate) received: Timestamp,
 }
 
 // A request that was sent: the client's own one or a validation.
@@ -59,6 +65,7 @@ impl Forwarded {
     pub(crate) fn pending(&self) -> Pending<'_>
         ensures id { result.id ≡ self.now.id }
         ensures unstored { result.is_past_store ≡ self.now.is_past_store }
+        ensures own { result.is_own ≡ true }
     {
         Pending {
             id: self.id,
@@ -73,6 +80,7 @@ impl Validation {
     pub(crate) fn pending(&self) -> Pending<'_>
         ensures id { result.id ≡ self.now.id }
         ensures unstored { result.is_past_store ≡ self.now.is_past_store }
+        ensures own { result.is_own ≡ false }
     {
         Pending {
             id: self.id,
@@ -80,6 +88,27 @@ impl Validation {
             is_past_store: self.is_past_store,
             is_own: false,
         }
+    }
+}
+
+// Returns the plan for the response to the client's own request, which is never answered with a 304
+// instead, or to a validation.
+fn for_request(plan: Plan, is_own: bool) -> Plan
+    ensures change { result.change ≡ plan.change }
+    ensures known { result.is_known ≡ (plan.is_known && not is_own) }
+{
+    Plan {
+        is_known: plan.is_known && !is_own,
+        ..plan
+    }
+}
+
+impl Pending<'_> {
+    // Returns whether a response with the status leaves what is stored (RFC 9111, section 4.3.3).
+    pub(crate) fn is_left(&self, status: StatusCode) -> bool
+        ensures { result ≡ is_left status self.now.is_past_store (number_of self.now.id) }
+    {
+        self.is_past_store || (is_server_error(status) && self.id.is_some())
     }
 }
 
@@ -91,10 +120,10 @@ impl<S: Store + Drop> Client<S> {
         cache_statuses: CacheStatuses,
         plan: Plan,
     ) -> Result<Response<Body>, AllocError>
-        ensures made { OnOk result (IsMade S.mark (S.stored self.old.store)
-            (S.lasting self.old.store) (S.next_id self.old.store)
-            (S.stored self.new.store) (S.next_id self.new.store) plan.change
-            ⊎ HasFailed (S.lasting self.old.store) (S.stored self.new.store) plan.change) }
+        ensures options { self.new.options ≡ self.old.options }
+        ensures made { OnOk result (IsCommitted S.mark (MayFail S.can_fail)
+            (S.stored self.old.store) (S.next_id self.old.store) (S.stored self.new.store)
+            (S.next_id self.new.store) (S.lasting self.old.store) plan.change) }
         ensures kept { OnErr result (KeepsAll (S.stored self.old.store) (S.next_id self.old.store)
             (S.stored self.new.store) (S.next_id self.new.store)) }
         ensures stored { Stores plan.change ⊎ (S.next_id self.new.store ≡ S.next_id self.old.store) }
@@ -104,8 +133,9 @@ impl<S: Store + Drop> Client<S> {
         ensures unchanged { plan.change ≡ Change.Nothing
             → KeepsAll (S.stored self.old.store) (S.next_id self.old.store)
             (S.stored self.new.store) (S.next_id self.new.store) }
-        ensures status { IfOk result (λ sent. (head_of sent).status ≡ (head_of answer).status) }
-        ensures body { IfOk result (λ sent. body_of sent ≡ body_of answer) }
+        ensures answer { (is_known : Bool) (received : ℤ) (response : Response Body)
+            → IsAnswerWith is_known received response answer
+            → IfOk result (IsAnswerWith is_known received response) }
     {
         let Plan {
             change,
@@ -113,25 +143,21 @@ impl<S: Store + Drop> Client<S> {
             ..
         } = plan;
         let settled = self.commit(change)?;
-        let (mut head, body) = answer.into_parts();
-        if let Some(cache_status) = cache_status_for(cache_statuses, settled, says_stored) {
-            replace_cache_status(&mut head.headers, cache_status);
-        }
-        Ok(Response::from_parts(head, body))
+        Ok(settled_answer(answer, cache_statuses, settled, says_stored))
     }
 
-    // Answers with a received response, and makes the change of the plan.
-    fn finish(
+    // Returns a received response as the answer, and makes the change of the plan.
+    pub(crate) fn finish(
         &mut self,
         alloc: Global,
         response: Response<Body>,
         receipt: &Receipt<'_>,
         plan: Plan,
     ) -> Result<Response<Body>, AllocError>
-        ensures made { OnOk result (IsMade S.mark (S.stored self.old.store)
-            (S.lasting self.old.store) (S.next_id self.old.store)
-            (S.stored self.new.store) (S.next_id self.new.store) plan.change
-            ⊎ HasFailed (S.lasting self.old.store) (S.stored self.new.store) plan.change) }
+        ensures options { self.new.options ≡ self.old.options }
+        ensures made { OnOk result (IsCommitted S.mark (MayFail S.can_fail)
+            (S.stored self.old.store) (S.next_id self.old.store) (S.stored self.new.store)
+            (S.next_id self.new.store) (S.lasting self.old.store) plan.change) }
         ensures kept { OnErr result (KeepsAll (S.stored self.old.store) (S.next_id self.old.store)
             (S.stored self.new.store) (S.next_id self.new.store)) }
         ensures stored { Stores plan.change ⊎ (S.next_id self.new.store ≡ S.next_id self.old.store) }
@@ -141,6 +167,8 @@ impl<S: Store + Drop> Client<S> {
         ensures unchanged { plan.change ≡ Change.Nothing
             → KeepsAll (S.stored self.old.store) (S.next_id self.old.store)
             (S.stored self.new.store) (S.next_id self.new.store) }
+        ensures answer { IfOk result
+            (IsAnswerWith plan.is_known receipt.now.received.nanosecond response) }
         ensures status { IfOk result (λ sent. (head_of sent).status ≡ 304
             → (plan.is_known ≡ true) ⊎ ((head_of response).status ≡ 304)) }
         ensures body { IfOk result (λ sent. IsElsewhere (body_of sent) → IsElsewhere (body_of response)) }
@@ -170,10 +198,13 @@ impl<S: Store + Drop> Client<S> {
         status: Option<StatusCode>,
         now: Timestamp,
     ) -> Result<Option<Response<Bytes>>, AllocError>
+        ensures options { self.new.options ≡ self.old.options }
         ensures kept { KeepsAll (S.stored self.old.store) (S.next_id self.old.store)
             (S.stored self.new.store) (S.next_id self.new.store) }
         ensures lasting { KeepsAllOthers (S.lasting self.old.store) (S.lasting self.new.store)
             (text_of target.now) }
+        ensures loses { LosesOne (text_of target.now)
+            (S.lasting self.old.store) (S.lasting self.new.store) }
         ensures conditional { IfOk result (λ answer. IfSome answer (λ sent. (head_of sent).status ≡ 304
             → HasCondition incoming.now.request.now)) }
         ensures stands_in { IfOk result (IsStandInAnswer S.mark (IsLost (MayFail S.can_fail)
@@ -209,9 +240,13 @@ impl<S: Store + Drop> Client<S> {
         target: Target,
         arrived: &Arrived<'_>,
     ) -> Result<Plan, AllocError>
+        ensures options { self.new.options ≡ self.old.options }
         ensures kept { KeepsAll (S.stored self.old.store) (S.next_id self.old.store)
             (S.stored self.new.store) (S.next_id self.new.store) }
         ensures lasting { S.lasting self.new.store ≡ S.lasting self.old.store }
+        ensures planned { IfOk result (λ plan. IsPlannedOver S.mark arrived.now
+            (options_of self.old.options) (S.stored self.old.store (text_of target)) plan
+            ⊎ (MayFail S.can_fail × (plan.change ≡ Change.Nothing) × (plan.is_known ≡ false))) }
         ensures whole { IfOk result (λ plan. Stores plan.change → IsWhole arrived.now) }
         ensures known { IfOk result (IsKnownPlan arrived.now) }
         ensures target { IfOk result (λ plan. IsChangeOf (text_of target) plan.change) }
@@ -223,7 +258,8 @@ impl<S: Store + Drop> Client<S> {
         if let Some(change) = freshened(alloc, &target, stored, arrived, &self.options)? {
             return Ok(Plan::of(change));
         }
-        plan_of(alloc, target, stored, arrived, &self.options)
+        let plan = plan_of(alloc, target, stored, arrived, &self.options)?;
+        Ok(plan)
     }
 
     // Stores the response if that is allowed (RFC 9111, section 3), and answers with it.
@@ -236,10 +272,17 @@ impl<S: Store + Drop> Client<S> {
         response: Response<Body>,
         times: &Times,
     ) -> Result<Response<Body>, AllocError>
+        ensures options { self.new.options ≡ self.old.options }
         ensures kept { OnErr result (KeepsAll (S.stored self.old.store) (S.next_id self.old.store)
             (S.stored self.new.store) (S.next_id self.new.store)) }
         ensures others { KeepsMost (S.stored self.old.store) (S.lasting self.old.store)
             (S.stored self.new.store) (text_of target) }
+        ensures received { incoming_seen incoming.now ≡ looked_up incoming.now.request.now
+            → text_of target ≡ own_text incoming.now.request.now
+            → IfOk result (IsReceivedAs S.mark (MayFail S.can_fail) (options_of self.old.options)
+            incoming.now.request.now times.now pending.now.id (S.stored self.old.store)
+            (S.next_id self.old.store) (S.stored self.new.store) (S.next_id self.new.store)
+            false pending.now.is_own (S.lasting self.old.store) response) }
         ensures complete { IsWholeResponse incoming.now.request.now response
             ⊎ (S.next_id self.new.store ≡ S.next_id self.old.store) }
         ensures status { IfOk result (λ sent. (head_of sent).status ≡ 304
@@ -256,20 +299,97 @@ impl<S: Store + Drop> Client<S> {
             times,
         };
         let plan = self.planned(alloc, target, &arrived)?;
-        let plan = Plan {
-            is_known: plan.is_known && !pending.is_own,
-            ..plan
-        };
+        let plan = for_request(plan, pending.is_own);
         let receipt = Receipt {
             why: pending.why,
             status: head.status,
             received: times.received,
         };
-        self.finish(alloc, Response::from_parts(head, body), &receipt, plan)
+        let answer = self.finish(alloc, Response::from_parts(head, body), &receipt, plan)?;
+        Ok(answer)
     }
 
-    // Answers a request that is looked up. If the origin failed, what is stored is kept (RFC 9111,
+    // Returns the stale response that stands in if the status is that of a failed origin server (RFC
+    // 5861, section 4).
+    fn stood_in(
+        &mut self,
+        alloc: Global,
+        target: &Target,
+        pending: &Pending<'_>,
+        incoming: &Incoming<'_>,
+        status: StatusCode,
+        now: Timestamp,
+    ) -> Result<Option<Response<Bytes>>, AllocError>
+        ensures options { self.new.options ≡ self.old.options }
+        ensures kept { KeepsAll (S.stored self.old.store) (S.next_id self.old.store)
+            (S.stored self.new.store) (S.next_id self.new.store) }
+        ensures lasting { KeepsAllOthers (S.lasting self.old.store) (S.lasting self.new.store)
+            (text_of target.now) }
+        ensures loses { LosesOne (text_of target.now)
+            (S.lasting self.old.store) (S.lasting self.new.store) }
+        ensures conditional { IfOk result (λ answer. IfSome answer (λ sent. (head_of sent).status ≡ 304
+            → HasCondition incoming.now.request.now)) }
+        ensures stands_in { IfOk result (IsStandInAnswer S.mark (IsLost (MayFail S.can_fail)
+            (S.lasting self.new.store (text_of target.now))) incoming.now.request.now now.nanosecond
+            (stands_for (incoming_seen incoming.now) now.nanosecond status
+            (number_of pending.now.id) (S.stored self.old.store (text_of target.now)))) }
+    {
+        if !is_failure(status) {
+            return Ok(None);
+        }
+        let answer = self.stale_answer(alloc, target, pending, incoming, Some(status), now)?;
+        Ok(answer)
+    }
+
+    // Answers with the response. What is stored is kept if the origin server failed (RFC 9111,
     // section 4.3.3).
+    fn received(
+        &mut self,
+        alloc: Global,
+        target: Target,
+        pending: &Pending<'_>,
+        incoming: &Incoming<'_>,
+        response: Response<Body>,
+        times: &Times,
+    ) -> Result<Response<Body>, AllocError>
+        ensures options { self.new.options ≡ self.old.options }
+        ensures kept { OnErr result (KeepsAll (S.stored self.old.store) (S.next_id self.old.store)
+            (S.stored self.new.store) (S.next_id self.new.store)) }
+        ensures others { KeepsMost (S.stored self.old.store) (S.lasting self.old.store)
+            (S.stored self.new.store) (text_of target) }
+        ensures received { incoming_seen incoming.now ≡ looked_up incoming.now.request.now
+            → text_of target ≡ own_text incoming.now.request.now
+            → IfOk result (IsReceivedAs S.mark (MayFail S.can_fail) (options_of self.old.options)
+            incoming.now.request.now times.now pending.now.id (S.stored self.old.store)
+            (S.next_id self.old.store) (S.stored self.new.store) (S.next_id self.new.store)
+            (is_left (head_of response).status pending.now.is_past_store
+            (number_of pending.now.id)) pending.now.is_own (S.lasting self.old.store) response) }
+        ensures complete { IsWholeResponse incoming.now.request.now response
+            ⊎ (S.next_id self.new.store ≡ S.next_id self.old.store) }
+        ensures left { is_left (head_of response).status pending.now.is_past_store
+            (number_of pending.now.id) ≡ true
+            → KeepsAll (S.stored self.old.store) (S.next_id self.old.store)
+            (S.stored self.new.store) (S.next_id self.new.store) }
+        ensures status { IfOk result (λ sent. (head_of sent).status ≡ 304
+            → HasCondition incoming.now.request.now
+            ⊎ ((head_of response).status ≡ 304)) }
+        ensures body { IfOk result (λ sent. IsElsewhere (body_of sent) → IsElsewhere (body_of response)) }
+    {
+        let status = response.status();
+        if pending.is_left(status) {
+            let receipt = Receipt {
+                why: pending.why,
+                status,
+                received: times.received,
+            };
+            let answer = self.finish(alloc, response, &receipt, Plan::nothing(None))?;
+            return Ok(answer);
+        }
+        let answer = self.stored(alloc, target, pending, incoming, response, times)?;
+        Ok(answer)
+    }
+
+    // Answers a request that is looked up, by the response or by a stored one that stands in.
     fn taken(
         &mut self,
         alloc: Global,
@@ -278,10 +398,16 @@ impl<S: Store + Drop> Client<S> {
         response: Response<Body>,
         times: &Times,
     ) -> Result<Response<Body>, AllocError>
+        ensures options { self.new.options ≡ self.old.options }
         ensures kept { OnErr result (KeepsAll (S.stored self.old.store) (S.next_id self.old.store)
             (S.stored self.new.store) (S.next_id self.new.store)) }
         ensures others { KeepsMost (S.stored self.old.store) (S.lasting self.old.store)
             (S.stored self.new.store) (own_text incoming.now.request.now) }
+        ensures taken { incoming_seen incoming.now ≡ looked_up incoming.now.request.now
+            → IfOk result (IsTaken S.mark (MayFail S.can_fail) (options_of self.old.options)
+            incoming.now.request.now times.now pending.now.id (S.stored self.old.store)
+            (S.next_id self.old.store) (S.stored self.new.store) (S.next_id self.new.store)
+            (S.lasting self.old.store) pending.now.is_past_store pending.now.is_own response) }
         ensures complete { IsWholeResponse incoming.now.request.now response
             ⊎ (S.next_id self.new.store ≡ S.next_id self.old.store) }
         ensures unstored { pending.now.is_past_store ≡ true
@@ -296,151 +422,14 @@ impl<S: Store + Drop> Client<S> {
     {
         let request = incoming.request();
         let target = Target::of(alloc, request.uri(), request.headers())?;
-        let status = response.status();
-        if is_failure(status)
-            && let Some(answer) = self.stale_answer(
-                alloc,
-                &target,
-                pending,
-                incoming,
-                Some(status),
-                times.received,
-            )?
-        {
+        let now = times.received;
+        let stale = self.stood_in(alloc, &target, pending, incoming, response.status(), now)?;
+        if let Some(answer) = stale {
             let (head, body) = answer.into_parts();
             return Ok(Response::from_parts(head, Body::Here(body)));
         }
-        let is_kept = status.is_server_error() && pending.id.is_some();
-        if pending.is_past_store || is_kept {
-            let receipt = Receipt {
-                why: pending.why,
-                status,
-                received: times.received,
-            };
-            return self.finish(alloc, response, &receipt, Plan::nothing(None));
-        }
-        self.stored(alloc, target, pending, incoming, response, times)
-    }
-
-    // Removes a stored response that a 304 didn't confirm.
-    fn unconfirmed(&mut self, target: &Target, validation: &mut Validation) -> Forwarded
-        ensures lasting { KeepsLasting (S.stored self.old.store) (S.lasting self.old.store)
-            (S.stored self.new.store) (S.lasting self.new.store) (text_of target.now) }
-        ensures stored { S.next_id self.new.store ≡ S.next_id self.old.store }
-    {
-        if let Some(id) = validation.id {
-            let ids = [id];
-            self.store.remove(target, &ids);
-        }
-        validation.id = None;
-        let why = mem::replace(&mut validation.why, Why::of(Forward::Miss));
-        Forwarded::of(None, why)
-    }
-
-    // Answers with a stored response that a 304 confirmed (RFC 9111, section 4.3.4). Returns None
-    // if the store has lost its body.
-    fn confirmed(
-        &mut self,
-        alloc: Global,
-        target: &Target,
-        receipt: &Receipt<'_>,
-        renewal: Renewal,
-    ) -> Result<Option<Response<Body>>, AllocError>
-        requires stored { ¬ (Stores renewal.plan.change) }
-        requires known { renewal.plan.is_known ≡ false }
-        requires target { IsChangeOf (text_of target.now) renewal.plan.change }
-        ensures kept { OnErr result (KeepsAll (S.stored self.old.store) (S.next_id self.old.store)
-            (S.stored self.new.store) (S.next_id self.new.store)) }
-        ensures lost { IfOk result (λ answer. answer ≡ None
-            → KeepsAll (S.stored self.old.store) (S.next_id self.old.store)
-            (S.stored self.new.store) (S.next_id self.new.store)) }
-        ensures lasting { IfOk result (λ answer. answer ≡ None
-            → KeepsAllOthers (S.lasting self.old.store) (S.lasting self.new.store)
-            (text_of target.now)) }
-        ensures others { KeepsMost (S.stored self.old.store) (S.lasting self.old.store)
-            (S.stored self.new.store) (text_of target.now) }
-        ensures stored { S.next_id self.new.store ≡ S.next_id self.old.store }
-        ensures status { IfOk result (λ answer. IfSome answer (λ sent. (head_of sent).status ≡ 304
-            → renewal.reply.head.status ≡ 304)) }
-        ensures here { IfOk result (λ answer. IfSome answer (λ sent. ¬ (IsElsewhere (body_of sent)))) }
-    {
-        let Renewal {
-            mut reply,
-            mut plan,
-        } = renewal;
-        match self.body_of(alloc, target, &mut reply) {
-            Ok(Some(body)) => {
-                plan.left = Some(reply.left);
-                let response = Response::from_parts(reply.head, Body::Here(body));
-                match self.finish(alloc, response, receipt, plan) {
-                    Ok(answer) => Ok(Some(answer)),
-                    Err(cause) => Err(cause),
-                }
-            }
-            Ok(None) => {
-                drop(plan);
-                Ok(None)
-            }
-            Err(cause) => {
-                drop(plan);
-                Err(cause)
-            }
-        }
-    }
-
-    // Handles a 304 to a validation (RFC 9111, section 4.3.3).
-    fn validated(
-        &mut self,
-        alloc: Global,
-        validation: &mut Validation,
-        incoming: &Incoming<'_>,
-        response: Response<Body>,
-        times: &Times,
-    ) -> Result<Received, AllocError>
-        ensures kept { OnErr result (KeepsAll (S.stored self.old.store) (S.next_id self.old.store)
-            (S.stored self.new.store) (S.next_id self.new.store)) }
-        ensures others { KeepsMost (S.stored self.old.store) (S.lasting self.old.store)
-            (S.stored self.new.store) (own_text incoming.now.request.now) }
-        ensures lasting { IfOk result (λ received. IsAgain received
-            → KeepsLasting (S.stored self.old.store) (S.lasting self.old.store)
-            (S.stored self.new.store) (S.lasting self.new.store) (own_text incoming.now.request.now)) }
-        ensures stored { S.next_id self.new.store ≡ S.next_id self.old.store }
-        ensures conditional { IfOk result (IsConditionalReceipt incoming.now.request.now) }
-        ensures here { IfOk result HasBodyHere }
-        ensures unspent { OnErr result (validation.new.id ≡ validation.old.id) }
-    {
-        let request = incoming.request();
-        let target = Target::of(alloc, request.uri(), request.headers())?;
-        let (head, body) = response.into_parts();
-        let arrived = Arrived {
-            incoming,
-            head: &head,
-            body: &body,
-            id: validation.id,
-            times,
-        };
-        let receipt = Receipt {
-            why: &validation.why,
-            status: StatusCode::NOT_MODIFIED,
-            received: times.received,
-        };
-        if !validation.is_past_store
-            && let Some(id) = validation.id
-            && self.read(alloc, &target)?
-            && let Some(renewal) = renewal_of(
-                alloc,
-                &target,
-                self.store.found(&target),
-                id,
-                &arrived,
-                &self.options,
-            )?
-            && let Some(answer) = self.confirmed(alloc, &target, &receipt, renewal)?
-        {
-            validation.id = None;
-            return Ok(Received::Answer(answer));
-        }
-        Ok(Received::Again(self.unconfirmed(&target, validation)))
+        let answer = self.received(alloc, target, pending, incoming, response, times)?;
+        Ok(answer)
     }
 
     /// Takes the response to a validation, and returns the answer to the client's request, or the
@@ -465,6 +454,7 @@ impl<S: Store + Drop> Client<S> {
         response: Response<Body>,
         times: Times,
     ) -> Result<Received, AllocError>
+        ensures options { self.new.options ≡ self.old.options }
         ensures kept { OnErr result (KeepsAll (S.stored self.old.store) (S.next_id self.old.store)
             (S.stored self.new.store) (S.next_id self.new.store)) }
         ensures others { KeepsMost (S.stored self.old.store) (S.lasting self.old.store)
@@ -481,6 +471,11 @@ impl<S: Store + Drop> Client<S> {
             (S.stored self.new.store) (S.next_id self.new.store) }
         ensures conditional { IfOk result (IsConditionalReceipt request.now) }
         ensures whose_body { IfOk result (KeepsBodyLocation response) }
+        ensures outcome { IfOk result (IsOutcome S.mark (MayFail S.can_fail)
+            (options_of self.old.options) request.now times validation.old.id
+            (S.stored self.old.store) (S.next_id self.old.store) (S.stored self.new.store)
+            (S.next_id self.new.store) (S.lasting self.old.store) validation.old.is_past_store
+            response) }
         ensures again { IfOk result (IsAfterA304 response) }
         ensures unspent { OnErr result (validation.new.id ≡ validation.old.id) }
     {
@@ -513,11 +508,19 @@ impl<S: Store + Drop> Client<S> {
         response: Response<Body>,
         times: Times,
     ) -> Result<Response<Body>, AllocError>
+        ensures options { self.new.options ≡ self.old.options }
         ensures invalidated { invalidates request.now (head_of response).status ≡ true
             → OnOk result (S.stored self.new.store (own_text request.now) ≡ []) }
         ensures removed { invalidates request.now (head_of response).status ≡ true
             → OnOk result (HasInvalidated request.now (head_of response)
             (S.lasting self.old.store) (S.stored self.new.store)) }
+        ensures taken { is_looked_up request.now ≡ true
+            → IfOk result (IsTaken S.mark (MayFail S.can_fail) (options_of self.old.options)
+            request.now times token.old.id (S.stored self.old.store) (S.next_id self.old.store)
+            (S.stored self.new.store) (S.next_id self.new.store) (S.lasting self.old.store)
+            token.old.is_past_store true response) }
+        ensures passed { is_looked_up request.now ≡ false
+            → IfOk result (IsAnswerWith false times.received.nanosecond response) }
         ensures unchanged { is_looked_up request.now ≡ false
             → invalidates request.now (head_of response).status ≡ false
             → KeepsAll (S.stored self.old.store) (S.next_id self.old.store)
@@ -557,11 +560,13 @@ impl<S: Store + Drop> Client<S> {
         response: Response<Body>,
         received: Timestamp,
     ) -> Result<Response<Body>, AllocError>
+        ensures options { self.new.options ≡ self.old.options }
         ensures invalidated { invalidates request.now (head_of response).status ≡ true
             → OnOk result (S.stored self.new.store (own_text request.now) ≡ []) }
         ensures removed { invalidates request.now (head_of response).status ≡ true
             → OnOk result (HasInvalidated request.now (head_of response)
             (S.lasting self.old.store) (S.stored self.new.store)) }
+        ensures answer { IfOk result (IsAnswerWith false received.nanosecond response) }
         ensures unchanged { invalidates request.now (head_of response).status ≡ false
             → KeepsAll (S.stored self.old.store) (S.next_id self.old.store)
             (S.stored self.new.store) (S.next_id self.new.store) }
@@ -603,6 +608,7 @@ impl<S: Store + Drop> Client<S> {
         request: &Request<Bytes>,
         now: Timestamp,
     ) -> Result<Option<Response<Bytes>>, AllocError>
+        ensures options { self.new.options ≡ self.old.options }
         ensures kept { KeepsAll (S.stored self.old.store) (S.next_id self.old.store)
             (S.stored self.new.store) (S.next_id self.new.store) }
         ensures lasting { KeepsAllOthers (S.lasting self.old.store) (S.lasting self.new.store)

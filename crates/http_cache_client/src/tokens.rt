@@ -4,7 +4,7 @@ ghost use Rattle.std.specs.Prelude.{◌≡◌, false, true};
 
 use bytes::Bytes;
 use http::{Response, request};
-use http_cache_plans::{Body, Why};
+use http_cache_decisions::{Body, Why};
 use http_cache_store::ResponseId;
 use std::alloc::Global;
 use std::mem;
@@ -82,6 +82,7 @@ impl Validation {
     pub fn take_request(&mut self, alloc: Global) -> request::Parts
         ensures taken { result ≡ self.old.request.value }
         ensures kept { self.new.id ≡ self.old.id }
+        ensures past { self.new.is_past_store ≡ self.old.is_past_store }
     {
         mem::replace(&mut *self.request, request::Parts::new(alloc))
     }

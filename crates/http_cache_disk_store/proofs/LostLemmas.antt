@@ -8,7 +8,7 @@ use Rattle.std.proofs.lemmas.List.Elements.{All-head, All-tail, All-cons, All-ni
 use Rattle.std.proofs.lemmas.List.Folds.{list_any-append}
 use Rattle.std.proofs.lemmas.Slice.Eq.{bytes_eq-Decides}
 use Rattle.http_cache_policy.specs.Exchange.{Exchange}
-use Rattle.http_cache_messages.specs.Worth.{can_be_used_again}
+use Rattle.http_cache_store.specs.Worth.{can_be_used_again}
 use Rattle.http_cache_store.specs.declared.store.ResponseId.{ResponseId}
 use Rattle.http_cache_store.specs.declared.store.StoredResponse.{StoredResponse}
 use Rattle.http_cache_store.specs.Store.{StoredSeen, StoredByTarget, AreIdsBelow, AreNewestOf, IsShownAs, KeepsAllOthers, KeepsOthers, LosesAtMost, LosesSome, ShowsAll, has_id, usable, without}

@@ -13,7 +13,7 @@ use Rattle.http_cache_rules.specs.declared.parts.StoredParts.{StoredParts}
 use Rattle.http_cache_rules.specs.Exchange.{Exchange, exchange_in}
 use Rattle.http_cache_policy.specs.Kept.{kept_exchange}
 use Rattle.http_cache_compact.specs.Compact.{IsCompactOf}
-use Rattle.http_cache_messages.specs.Worth.{can_be_used_again}
+use Rattle.http_cache_store.specs.Worth.{can_be_used_again}
 use Rattle.http_cache_disk_store.specs.Packed.{IsUsableUntil, IsPackedOf}
 
 pub usable : (until : Option Timestamp) (e : Exchange)

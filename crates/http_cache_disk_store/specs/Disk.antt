@@ -10,7 +10,7 @@ use Rattle.http_cache_store.specs.Store.{StoredSeen, StoredByTarget, ShowsAll}
 use Rattle.http_cache_memory_store.specs.declared.index.list.StoredList.{StoredList}
 use Rattle.http_cache_memory_store.specs.Index.{all_entries, stored_under}
 use Rattle.http_cache_memory_store.specs.Removal.{AreAllGone, AreGone, AreOnceBelow, TellsRemoved, stored_as, told_as}
-use Rattle.http_cache_memory_store.specs.Stored.{AreAllBelow}
+use Rattle.http_cache_memory_store.specs.Stored.{AreAllBelow, AreAllBelow-prop}
 use Rattle.http_cache_disk_store.specs.declared.head.Head.{Head}
 use Rattle.http_cache_disk_store.specs.declared.head.Packed.{Packed}
 use Rattle.http_cache_disk_store.specs.declared.mark.Sum.{Sum}
@@ -63,9 +63,17 @@ left_by lost stored text = filter (λ r. not (is_lost lost text r.id)) (stored t
 abbrev pub lasting_in : {Y : Type 0} → List Lost → List (String Y × StoredList Head) → StoredByTarget
 lasting_in lost es = left_by lost (stored_in es)
 
+module _ {Y : Type 0} where
+  -- under each text each id is below the next one
+  abbrev pub AreBelow : ℕ → List (String Y × StoredList Head) → Type 0
+  AreBelow next es = AreAllBelow next (stored_in es)
+
+  pub AreBelow-prop : (next : ℕ) (es : List (String Y × StoredList Head)) → IsProp (AreBelow next es)
+  AreBelow-prop next es = AreAllBelow-prop next (stored_in es)
+
 -- the ids are below the next one, those of each target in falling order, and no two are equal
 pub record HaveIdsBelow {Y : Type 0} (next : ℕ) (es : List (String Y × StoredList Head)) : Type 0 where
-  pub under : AreAllBelow next (stored_in es)
+  pub under : AreBelow next es
   pub once : AreOnceBelow seen_of next (all_entries es)
 
 -- each id is stored or was removed, and once at most; so no id of a removed response is stored

@@ -7,7 +7,7 @@ use Rattle.http_cache_policy.specs.Exchange.{Exchange}
 use Rattle.http_cache_policy.specs.Kept.{kept_exchange}
 use Rattle.http_cache_json.specs.ReadBack.{IsReadBack}
 use Rattle.http_cache_compact.specs.Compact.{IsCompactOf}
-use Rattle.http_cache_messages.specs.Worth.{can_be_used_again}
+use Rattle.http_cache_store.specs.Worth.{can_be_used_again}
 
 -- the response can be used again exactly at the times before this one, or always
 abbrev pub IsUsableUntil : Option Timestamp → Exchange → Type 0

@@ -1,14 +1,15 @@
 //! The directory with its lock: files are written and removed, and those that can be neither
 //! removed nor emptied are remembered.
-ghost use Rattle.std.specs.Prelude.{◌≡◌, []};
+ghost use Rattle.std.specs.Prelude.{◌≡◌};
 
 use crate::error::{DiskError, Fault};
-use crate::folder::Folder;
+use crate::folder::{Folder, boot_of};
 use crate::lock::{Left, Lock, TryLock};
 use crate::name::Name;
 use http_cache_memory_store::entry::Removed;
 use http_cache_memory_store::told::Told;
 use http_cache_store::ResponseId;
+use std::alloc::Global;
 use std::rt::Files;
 
 /// The directory, and what became of the calls on it.
@@ -33,29 +34,36 @@ impl<F: Files + Drop> Disc<F>
 where
     F::File: TryLock,
 {
-    /// Returns the directory without files that are stuck.
-    pub(crate) fn new(
-        folder: Folder<F>,
-        lock: Lock<F::File>,
-        stuck: Vec<u64>,
+    /// Holds a directory, which is made if it isn't there. Returns too whether what it has can be
+    /// trusted.
+    pub(crate) fn hold(
+        files: F,
+        alloc: Global,
+        path: &str,
         is_synced: bool,
-    ) -> Disc<F> {
-        Disc {
+    ) -> Result<(Disc<F>, bool), DiskError> {
+        let boot = boot_of(&files, alloc)?;
+        let (folder, lock) = Folder::open(files, alloc, path)?;
+        let mut lock = Lock::hold(alloc, lock, boot)?;
+        let is_trusted = lock.is_trusted()?;
+        let disc = Disc {
             folder,
             lock,
-            stuck,
+            stuck: Vec::with_capacity(alloc, 64)?,
             unlisted: 0,
             is_synced,
             is_unsynced: false,
             told: Told::new(),
-        }
+        };
+        Ok((disc, is_trusted))
     }
 
-    /// Begins the account of removed responses, once the directory was read.
-    pub(crate) fn begin_account(&mut self)
-        ensures { self.new.told.items ≡ [] }
-    {
-        self.told = Told::new();
+    /// Says that a process uses the directory after all that it had was removed.
+    pub(crate) fn begin(&mut self) -> Result<(), DiskError> {
+        if self.is_failing() {
+            return Err(DiskError::Stuck);
+        }
+        self.open()
     }
 
     /// Returns how many responses were removed whose files are still there.
@@ -68,11 +76,18 @@ where
         self.stuck() > 0 || self.is_unsynced
     }
 
-    /// Writes a file, and returns whether it was written.
-    pub(crate) fn write(&mut self, name: Name, id: u64, parts: [&[u8]; 2]) -> Result<(), Fault>
+    /// Writes a file that is all of two parts, and returns whether it was written.
+    pub(crate) fn write(
+        &mut self,
+        name: Name,
+        id: ResponseId,
+        head: &[u8],
+        body: &[u8],
+    ) -> Result<(), Fault>
         ensures told { self.new.told ≡ self.old.told }
     {
-        self.folder.write(name, id, parts, self.is_synced)
+        self.folder
+            .write(name, id.number(), head, body, self.is_synced)
     }
 
     /// Waits until what was changed outlives a power failure, if that is wanted.
@@ -165,7 +180,7 @@ where
     }
 
     /// Says that all is as it should be, as the last step of a process.
-    pub(crate) fn close(mut self) -> Result<(), DiskError> {
+    pub(crate) fn close(&mut self) -> Result<(), DiskError> {
         self.retry();
         if self.stuck() > 0 {
             return Err(DiskError::Stuck);

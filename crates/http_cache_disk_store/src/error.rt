@@ -64,7 +64,7 @@ impl From<io::Error> for DiskError {
 }
 
 /// The reason why a file can't be read or written.
-#[derive(Clone, Copy, Debug, PartialEq, Eq)]
+#[derive(Clone, Copy)]
 pub(crate) enum Fault {
     /// There is not enough memory.
     Memory,

@@ -10,7 +10,7 @@ use crate::name::{LOCK, Name, ending_of, name_of};
 use bytes::Bytes;
 use std::alloc::{AllocError, Global};
 use std::fmt::Write as FmtWrite;
-use std::fs::{DirBuilder, File, OpenFile, OpenOptions, Permissions};
+use std::fs::{DirBuilder, DirEntry, File, OpenFile, OpenOptions, Permissions};
 use std::io::{ErrorKind, Read, Seek, SeekFrom, Write};
 use std::os::unix::fs::{DirBuilderExt, OpenOptionsExt, PermissionsExt};
 use std::rt::Files;
@@ -41,10 +41,60 @@ pub(crate) struct Folder<F: Drop> {
 /// What is in a directory.
 #[derive(Drop)]
 pub(crate) struct Listed {
-    /// Each response and each head that is a file.
-    pub(crate) names: Vec<Name>,
+    /// The ids of files with responses, rising.
+    pub(crate) responses: Vec<u64>,
+    /// The ids of files with only a head, rising.
+    pub(crate) heads: Vec<u64>,
+    // The ids of files that were being written.
+    unfinished: Vec<u64>,
     /// The id that no name has, and no lower one either.
     pub(crate) next_id: u64,
+    // Whether the directory has to be empty, since it has no lock.
+    is_empty: bool,
+}
+
+impl Listed {
+    fn new(alloc: Global, is_empty: bool) -> Listed {
+        Listed {
+            responses: Vec::new(alloc),
+            heads: Vec::new(alloc),
+            unfinished: Vec::new(alloc),
+            next_id: 0,
+            is_empty,
+        }
+    }
+
+    fn add(&mut self, name: Name, is_file: bool) -> Result<(), AllocError> {
+        if let Name::Response(id) | Name::Head(id) = name {
+            self.next_id = self.next_id.max(id.saturating_add(1));
+        }
+        if !is_file {
+            return Ok(());
+        }
+        match name {
+            Name::Response(id) => self.responses.push(id)?,
+            Name::Head(id) => self.heads.push(id)?,
+            Name::Unfinished(id) => self.unfinished.push(id)?,
+            Name::Lock | Name::Foreign => {}
+        }
+        Ok(())
+    }
+
+    // Adds an entry. Leaves out a file of another program, about which the system isn't asked.
+    fn add_entry<R: Files + Drop>(
+        &mut self,
+        alloc: Global,
+        entry: io::Result<DirEntry<R, Global>>,
+    ) -> Result<(), DiskError> {
+        let entry = entry?;
+        if self.is_empty {
+            let name = String::from_str(alloc, entry.file_name())?;
+            return Err(DiskError::Foreign(name));
+        }
+        let name = name_of(entry.file_name());
+        let is_file = !matches!(name, Name::Foreign) && entry.file_type()?.is_file();
+        Ok(self.add(name, is_file)?)
+    }
 }
 
 // Writes the path of a file into a buffer.
@@ -54,17 +104,6 @@ fn set_path(buffer: &mut String, path: &str, id: u64, ending: &str) -> Result<()
     match write!(buffer, "/{id:016x}{ending}") {
         Ok(()) => Ok(()),
         Err(_) => Err(AllocError),
-    }
-}
-
-fn path_to(alloc: Global, path: &str, name: &str) -> Result<String, AllocError> {
-    format!(in alloc; "{path}/{name}")
-}
-
-fn is_gone(outcome: io::Result<()>) -> bool {
-    match outcome {
-        Ok(()) => true,
-        Err(e) => e.kind() == ErrorKind::NotFound,
     }
 }
 
@@ -95,18 +134,37 @@ fn make<F: Files>(files: &F, path: &str) -> Result<(), DiskError> {
     }
 }
 
+// Lists what a directory has. Only here a directory is read, since the prover looks into all that
+// is dropped when a reader of one ends.
+fn list_all<F: Files>(
+    files: &F,
+    alloc: Global,
+    path: &str,
+    listed: &mut Listed,
+) -> Result<(), DiskError> {
+    for entry in fs::read_dir(&(files, alloc), path)? {
+        listed.add_entry(alloc, entry)?;
+    }
+    Ok(())
+}
+
 // Takes over a directory that has no lock yet. It has to be empty.
 fn take_over<F: Files>(files: &F, alloc: Global, path: &str) -> Result<(), DiskError> {
-    match fs::read_dir(&(files, alloc), path)?.next() {
-        Some(entry) => {
-            let name = String::from_str(alloc, entry?.file_name())?;
-            Err(DiskError::Foreign(name))
-        }
-        None => {
-            fs::set_permissions(files, path, Permissions::from_mode(0o700))?;
-            Ok(())
-        }
+    list_all(files, alloc, path, &mut Listed::new(alloc, true))?;
+    fs::set_permissions(files, path, Permissions::from_mode(0o700))?;
+    Ok(())
+}
+
+// Returns the open lock of a directory, which is made if it isn't there.
+fn open_lock<F: Files>(files: &F, alloc: Global, path: &str) -> Result<F::File, DiskError> {
+    make(files, path)?;
+    let lock = format!(in alloc; "{path}/{LOCK}")?;
+    if !fs::exists(files, lock.as_str())? {
+        take_over(files, alloc, path)?;
     }
+    let mut how = OpenOptions::new();
+    how.read(true).write(true).create(true).mode(0o600);
+    Ok(how.open(files, lock.as_str())?)
 }
 
 /// Returns the number of this run of the system, which is empty if it isn't known.
@@ -138,14 +196,7 @@ impl<F: Files + Drop> Folder<F> {
         alloc: Global,
         path: &str,
     ) -> Result<(Folder<F>, F::File), DiskError> {
-        make(&files, path)?;
-        let lock = path_to(alloc, path, LOCK)?;
-        if !fs::exists(&files, lock.as_str())? {
-            take_over(&files, alloc, path)?;
-        }
-        let mut how = OpenOptions::new();
-        how.read(true).write(true).create(true).mode(0o600);
-        let lock = how.open(&files, lock.as_str())?;
+        let lock = open_lock(&files, alloc, path)?;
         let room = path.len().saturating_add(LONGEST_NAME);
         let folder = Folder {
             alloc,
@@ -163,59 +214,25 @@ impl<F: Files + Drop> Folder<F> {
         Ok(())
     }
 
-    // Lists the name of a file, and removes an unfinished one.
-    fn list_one(
-        &mut self,
-        name: Name,
-        is_file: bool,
-        listed: &mut Listed,
-    ) -> Result<(), DiskError> {
-        match name {
-            Name::Response(id) | Name::Head(id) => {
-                listed.next_id = listed.next_id.max(id.saturating_add(1));
-                if is_file {
-                    listed.names.push(name)?;
-                }
-            }
-            Name::Unfinished(id) if is_file => self.discard(id),
-            Name::Unfinished(_) | Name::Lock | Name::Foreign => {}
-        }
-        Ok(())
-    }
-
-    // Returns what each file of the directory is, and whether it is a file. Leaves out files of
-    // other programs.
-    fn names(&self) -> Result<Vec<(Name, bool)>, DiskError> {
-        let mut names = Vec::new(self.alloc);
-        for entry in fs::read_dir(&(&self.files, self.alloc), self.path.as_str())? {
-            let entry = entry?;
-            let name = name_of(entry.file_name());
-            if name != Name::Foreign {
-                names.push((name, entry.file_type()?.is_file()))?;
-            }
-        }
-        Ok(names)
-    }
-
-    /// Lists all responses and heads, in no order. Removes what wasn't finished, and leaves files
-    /// of other programs alone.
+    /// Lists all responses and heads. Removes what wasn't finished, and leaves files of other
+    /// programs alone.
     pub(crate) fn list(&mut self) -> Result<Listed, DiskError> {
-        let mut listed = Listed {
-            names: Vec::new(self.alloc),
-            next_id: 0,
-        };
-        for (name, is_file) in self.names()?.as_slice() {
-            self.list_one(*name, *is_file, &mut listed)?;
+        let mut listed = Listed::new(self.alloc, false);
+        list_all(&self.files, self.alloc, self.path.as_str(), &mut listed)?;
+        for id in listed.unfinished.as_slice() {
+            self.discard(*id);
         }
+        listed.responses.sort_unstable();
+        listed.heads.sort_unstable();
         Ok(listed)
     }
 
-    fn fill(&mut self, parts: [&[u8]; 2], is_synced: bool) -> Result<(), Fault> {
+    fn fill(&mut self, head: &[u8], body: &[u8], is_synced: bool) -> Result<(), Fault> {
         let mut how = OpenOptions::new();
         how.write(true).create(true).truncate(true).mode(0o600);
         let mut file = how.open(&self.files, self.other.as_str())?;
-        file.write_all(parts[0])?;
-        file.write_all(parts[1])?;
+        file.write_all(head)?;
+        file.write_all(body)?;
         if is_synced {
             file.sync_data()?;
         }
@@ -230,24 +247,26 @@ impl<F: Files + Drop> Folder<F> {
         }
     }
 
-    fn replace(&mut self, parts: [&[u8]; 2], is_synced: bool) -> Result<(), Fault> {
-        self.fill(parts, is_synced)?;
+    fn replace(&mut self, head: &[u8], body: &[u8], is_synced: bool) -> Result<(), Fault> {
+        self.fill(head, body, is_synced)?;
         fs::rename(&self.files, self.other.as_str(), self.own.as_str())?;
         Ok(())
     }
 
-    /// Writes a file. Either it is whole then, or nothing has changed but a temporary file.
+    /// Writes a file that is all of two parts. Either it is whole then, or nothing has changed but a
+    /// temporary file.
     pub(crate) fn write(
         &mut self,
         name: Name,
         id: u64,
-        parts: [&[u8]; 2],
+        head: &[u8],
+        body: &[u8],
         is_synced: bool,
     ) -> Result<(), Fault> {
         let unfinished = ending_of(Name::Unfinished(id));
         set_path(&mut self.own, self.path.as_str(), id, ending_of(name))?;
         set_path(&mut self.other, self.path.as_str(), id, unfinished)?;
-        let replaced = self.replace(parts, is_synced);
+        let replaced = self.replace(head, body, is_synced);
         if replaced.is_err() {
             self.discard(id);
         }
@@ -268,7 +287,10 @@ impl<F: Files + Drop> Folder<F> {
         if set_path(&mut self.own, self.path.as_str(), id, ending_of(name)).is_err() {
             return false;
         }
-        is_gone(fs::remove_file(&self.files, self.own.as_str())) || self.empty()
+        match fs::remove_file(&self.files, self.own.as_str()) {
+            Ok(()) => true,
+            Err(e) => e.kind() == ErrorKind::NotFound || self.empty(),
+        }
     }
 
     /// Removes the files of a response, and returns whether it is gone. A file that can't be
@@ -298,12 +320,8 @@ impl<F: Files + Drop> Folder<F> {
         self.read(0, first, buffer)
     }
 
-    /// Reads as many bytes of the file that was read last, from its beginning.
-    pub(crate) fn read_again(&mut self, length: usize, buffer: &mut Vec<u8>) -> Result<(), Fault> {
-        self.read(0, length, buffer)
-    }
-
-    fn read(&self, at: u64, length: usize, buffer: &mut Vec<u8>) -> Result<(), Fault> {
+    /// Reads as many bytes of the file whose length or first bytes were read last.
+    pub(crate) fn read(&self, at: u64, length: usize, buffer: &mut Vec<u8>) -> Result<(), Fault> {
         let mut file = File::open(&self.files, self.own.as_str())?;
         if at > 0 {
             file.seek(SeekFrom::Start(at))?;
@@ -323,7 +341,9 @@ impl<F: Files + Drop> Folder<F> {
         ensures { IfOk result (λ body. mark_seen body
             ≡ mark_text mark.length (lanes_in mark.sum)) }
     {
-        let length = usize::try_from(mark.length).map_err(|_| Fault::Lost)?;
+        let Ok(length) = usize::try_from(mark.length) else {
+            return Err(Fault::Lost);
+        };
         set_path(&mut self.own, self.path.as_str(), id, "")?;
         let mut bytes = Vec::new(self.alloc);
         self.read(at, length, &mut bytes)?;

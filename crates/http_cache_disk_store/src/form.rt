@@ -8,7 +8,6 @@
 //!
 //! Numbers are big-endian.
 ghost use Rattle.std.specs.Prelude.{◌≡◌, ◌+◌, ◌*◌, IfOk, IfSome, length};
-ghost use Rattle.http_cache_disk_store.specs.Disk.{exchange_of};
 
 use crate::head::{Head, Packed, Place};
 use crate::mark::{Mark, SUM, Sum, sum_of};
@@ -27,7 +26,7 @@ pub(crate) const PREAMBLE: usize = 72;
 const MOST: u64 = 64 << 20;
 
 /// The lengths that the beginning of a file says.
-#[derive(Clone, Copy, Debug, PartialEq, Eq)]
+#[derive(Clone, Copy)]
 pub(crate) struct Lengths {
     id: u64,
     text: usize,
@@ -37,6 +36,16 @@ pub(crate) struct Lengths {
     pub(crate) head: usize,
     /// Where the body is.
     pub(crate) place: Place,
+}
+
+// The parts of a head that is as it was written.
+#[derive(Clone, Copy)]
+struct Parts<'a> {
+    text: &'a str,
+    policy: &'a [u8],
+    ids: &'a [u8],
+    head: usize,
+    place: Place,
 }
 
 /// What a head says.
@@ -106,41 +115,45 @@ fn length_4(length: usize) -> Result<[u8; 4], AllocError> {
     }
 }
 
-fn head_length(text: &str, policy: &[u8], superseded: &[ResponseId]) -> u64 {
-    ((PREAMBLE + SUM) as u64)
+/// Returns where the body of a new response is, after its head.
+pub(crate) fn place_after(text: &str, policy: &[u8], superseded: &[ResponseId], mark: Mark) -> Place
+    ensures { result.mark ≡ mark }
+{
+    let ids = (superseded.len() as u64).saturating_mul(8);
+    let at = ((PREAMBLE + SUM) as u64)
         .saturating_add(text.len() as u64)
         .saturating_add(policy.len() as u64)
-        .saturating_add((superseded.len() as u64).saturating_mul(8))
+        .saturating_add(ids);
+    Place { at, mark }
 }
 
 fn push_preamble(
     out: &mut Vec<u8>,
     id: ResponseId,
-    lengths: [usize; 3],
+    lengths: &[usize],
     place: &Place,
 ) -> Result<(), AllocError> {
     out.extend_from_slice(MAGIC)?;
     out.extend_from_slice(&id.number().to_be_bytes())?;
-    out.extend_from_slice(&length_4(lengths[0])?)?;
-    out.extend_from_slice(&length_4(lengths[1])?)?;
-    out.extend_from_slice(&length_4(lengths[2])?)?;
+    for length in lengths {
+        out.extend_from_slice(&length_4(*length)?)?;
+    }
     out.extend_from_slice(&place.at.to_be_bytes())?;
     out.extend_from_slice(&place.mark.length.to_be_bytes())?;
     out.extend_from_slice(&place.mark.sum.to_bytes())
 }
 
-// Writes a head into an empty buffer.
-fn write(
+/// Writes a head and the ids that it supersedes into a buffer, in place of what it has.
+pub(crate) fn write(
     out: &mut Vec<u8>,
     text: &str,
-    policy: &[u8],
     superseded: &[ResponseId],
-    id: ResponseId,
-    place: &Place,
+    head: &Head,
 ) -> Result<(), AllocError> {
-    let lengths = [text.len(), policy.len(), superseded.len()];
+    let policy = head.packed.bytes.as_slice();
     out.clear();
-    push_preamble(out, id, lengths, place)?;
+    let lengths = [text.len(), policy.len(), superseded.len()];
+    push_preamble(out, head.id, &lengths, &head.place)?;
     out.extend_from_slice(text.as_bytes())?;
     out.extend_from_slice(policy)?;
     for one in superseded {
@@ -150,47 +163,12 @@ fn write(
     out.extend_from_slice(&sum.to_bytes())
 }
 
-/// Writes the head of a new response, whose body is after it, and returns the response.
-pub(crate) fn write_new(
-    out: &mut Vec<u8>,
-    text: &str,
-    superseded: &[ResponseId],
-    id: ResponseId,
-    packed: Packed,
-    mark: Mark,
-) -> Result<Head, AllocError>
-    ensures { IfOk result (λ head. (head.id ≡ id) × (head.packed ≡ packed)
-        × (head.place.mark ≡ mark)) }
-{
-    let place = Place {
-        at: head_length(text, packed.bytes.as_slice(), superseded),
-        mark,
-    };
-    write(out, text, packed.bytes.as_slice(), superseded, id, &place)?;
-    Ok(Head { id, packed, place })
-}
-
-/// Writes the new head of a response, whose body stays where it is, and returns the head.
-pub(crate) fn write_renewed(
-    out: &mut Vec<u8>,
-    text: &str,
-    superseded: &[ResponseId],
-    id: ResponseId,
-    packed: Packed,
-    place: &Place,
-) -> Result<Packed, AllocError>
-    ensures { IfOk result (λ head. exchange_of head ≡ exchange_of packed) }
-{
-    write(out, text, packed.bytes.as_slice(), superseded, id, place)?;
-    Ok(packed.in_file(out.len() as u64))
-}
-
 // Returns the part of a head that its sum is of, if the sum is right.
 fn summed(bytes: &[u8]) -> Option<&[u8]>
     ensures { IfSome result (λ before. length before.now + 32 ≡ length bytes.now) }
 {
-    let (before, sum) = bytes.split_at_checked(bytes.len().checked_sub(SUM)?)?;
-    if sum == sum_of(before).to_bytes().as_slice() {
+    let (before, sum) = bytes.split_last_chunk::<SUM>()?;
+    if Sum::from_bytes(sum) == sum_of(before) {
         Some(before)
     } else {
         None
@@ -214,9 +192,28 @@ fn packed_in(alloc: Global, bytes: &[u8], file: u64) -> Result<Option<Packed>, A
         Err(_) => return Ok(None),
     };
     match CachePolicy::from_details(alloc, parts) {
-        Ok(policy) => Ok(Some(Packed::of(alloc, &policy, file)?)),
+        Ok(policy) => Ok(Some(Packed::from_policy(alloc, policy, file)?)),
         Err(_) => Err(AllocError),
     }
+}
+
+// Returns the parts of a whole head, if it is as it was written, and of the response with the id.
+fn parts_in(id: u64, bytes: &[u8]) -> Option<Parts<'_>> {
+    let lengths = lengths_in(bytes)?;
+    let before = summed(bytes)?;
+    if lengths.head != bytes.len() || lengths.id != id {
+        return None;
+    }
+    let (_, after) = before.split_at(PREAMBLE);
+    let (text, after) = after.split_at(lengths.text);
+    let (policy, ids) = after.split_at(lengths.policy);
+    Some(Parts {
+        text: std::str::from_utf8(text).ok()?,
+        policy,
+        ids,
+        head: lengths.head,
+        place: lengths.place,
+    })
 }
 
 /// Reads a whole head. Returns `None` if it isn't as it was written, or of another response.
@@ -229,32 +226,22 @@ pub(crate) fn read_head(
 ) -> Result<Option<ReadHead>, AllocError>
     ensures { IfOk result (λ read. IfSome read (λ r. r.head.id.0 ≡ id)) }
 {
-    let Some(lengths) = lengths_in(bytes) else {
+    let Some(parts) = parts_in(id, bytes) else {
         return Ok(None);
     };
-    let Some(before) = summed(bytes) else {
-        return Ok(None);
-    };
-    if lengths.head != bytes.len() || lengths.id != id {
-        return Ok(None);
+    let text = String::from_str(alloc, parts.text)?;
+    let superseded = ids_in(alloc, parts.ids)?;
+    let file = if is_apart { parts.head as u64 } else { 0 };
+    match packed_in(alloc, parts.policy, file)? {
+        Some(packed) => Ok(Some(ReadHead {
+            text,
+            head: Head {
+                id: ResponseId::new(id),
+                packed,
+                place: parts.place,
+            },
+            superseded,
+        })),
+        None => Ok(None),
     }
-    let (_, after) = before.split_at(PREAMBLE);
-    let (text, after) = after.split_at(lengths.text);
-    let (policy, ids) = after.split_at(lengths.policy);
-    let Ok(text) = std::str::from_utf8(text) else {
-        return Ok(None);
-    };
-    let file = if is_apart { lengths.head as u64 } else { 0 };
-    let Some(packed) = packed_in(alloc, policy, file)? else {
-        return Ok(None);
-    };
-    Ok(Some(ReadHead {
-        text: String::from_str(alloc, text)?,
-        head: Head {
-            id: ResponseId::new(id),
-            packed,
-            place: lengths.place,
-        },
-        superseded: ids_in(alloc, ids)?,
-    }))
 }

@@ -5,15 +5,15 @@ ghost use Rattle.http_cache_policy.specs.Kept.{kept_exchange};
 ghost use Rattle.http_cache_json.specs.ReadBack.{IsReadBack};
 ghost use Rattle.http_cache_compact.specs.Compact.{IsCompactOf};
 ghost use Rattle.http_cache_disk_store.specs.Packed.{IsPackedOf};
-ghost use Rattle.http_cache_disk_store.specs.Cost.{capped, file_cost};
+ghost use Rattle.http_cache_disk_store.specs.Cost.{capped};
 
 use crate::mark::Mark;
 use http_cache_compact::{Kept, compact_of, parts_from_compact};
 use http_cache_fields::CacheError;
 use http_cache_memory_store::entry::Entry;
-use http_cache_messages::worth::usable_until;
 use http_cache_policy::policy::{CachePolicy, StoredParts};
 use http_cache_store::ResponseId;
+use http_cache_store::worth::usable_until;
 use http_uri::Uri;
 use jiff::Timestamp;
 use std::alloc::{AllocError, Global};
@@ -24,7 +24,7 @@ use std::snapshot::Snapshot;
 const FILE: u64 = 4096;
 
 /// Where a body is, and what is seen of it.
-#[derive(Clone, Copy, Debug, PartialEq, Eq)]
+#[derive(Clone, Copy)]
 pub(crate) struct Place {
     /// The length of what is before the body in its file.
     pub(crate) at: u64,
@@ -104,6 +104,18 @@ impl Packed {
         })
     }
 
+    /// Returns the head of a policy that isn't needed any more. Only here a policy is dropped after
+    /// it was packed, since the prover looks into all that a policy holds.
+    pub(crate) fn from_policy(
+        alloc: Global,
+        policy: CachePolicy,
+        file: u64,
+    ) -> Result<Packed, AllocError>
+        ensures { IfOk result (λ packed. (exchange_of packed ≡ policy) × (packed.file ≡ file)) }
+    {
+        Packed::of(alloc, &policy, file)
+    }
+
     /// Returns the head in a file of its own of a length.
     pub(crate) fn in_file(mut self, file: u64) -> Packed
         ensures { (exchange_of result ≡ exchange_of self) × (result.file ≡ file) }
@@ -134,17 +146,6 @@ pub(crate) struct Head {
     pub(crate) place: Place,
 }
 
-/// Returns what a response counts: its files, and what each takes besides.
-pub(crate) fn cost_of(place: &Place, head_file: u64) -> u64
-    ensures { result ≡ file_cost place.now head_file }
-{
-    let own = place.file_length().saturating_add(FILE);
-    if head_file == 0 {
-        return own;
-    }
-    own.saturating_add(head_file).saturating_add(FILE)
-}
-
 impl Entry for Head {
     ghost use Rattle.http_cache_disk_store.specs.Disk.{seen_of, cost_of, exchange_of};
 
@@ -160,8 +161,13 @@ impl Entry for Head {
         self.id
     }
 
+    // Counts its files, and what each takes besides.
     fn cost(&self) -> u64 {
-        cost_of(&self.place, self.packed.file)
+        let own = self.place.file_length().saturating_add(FILE);
+        if self.packed.file == 0 {
+            return own;
+        }
+        own.saturating_add(self.packed.file).saturating_add(FILE)
     }
 
     fn can_be_used_again(&self, now: Timestamp) -> bool {

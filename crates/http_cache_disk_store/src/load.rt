@@ -5,6 +5,7 @@ ghost use Rattle.http_cache_disk_store.specs.Disk.{HaveIdsBelow};
 
 use crate::disc::Disc;
 use crate::error::{DiskError, Fault};
+use crate::folder::Folder;
 use crate::form::{Lengths, PREAMBLE, ReadHead, lengths_in, read_head};
 use crate::head::Head;
 use crate::lock::TryLock;
@@ -41,7 +42,7 @@ pub(crate) struct Loader<'a, F: Files + Drop> {
     alloc: Global,
     disc: &'a mut Disc<F>,
     // The ids of responses that have a head in a file of its own, rising.
-    apart: Vec<u64>,
+    apart: &'a [u64],
     superseded: Vec<Superseded>,
     buffer: Vec<u8>,
     found: Found,
@@ -56,69 +57,68 @@ fn greatest(ids: &[ResponseId]) -> u64 {
     most
 }
 
-// Returns the ids of files with responses, and of files with only a head, rising.
-fn sorted(alloc: Global, names: &[Name]) -> Result<(Vec<u64>, Vec<u64>), DiskError> {
-    let mut responses = Vec::new(alloc);
-    let mut apart = Vec::new(alloc);
-    for name in names {
-        match name {
-            Name::Response(id) => responses.push(*id)?,
-            Name::Head(id) => apart.push(*id)?,
-            Name::Unfinished(_) | Name::Lock | Name::Foreign => {}
-        }
+// Reads the bytes of a head into a buffer. Returns its lengths if it is of this form.
+fn read_bytes<F: Files + Drop>(
+    folder: &mut Folder<F>,
+    name: Name,
+    id: u64,
+    buffer: &mut Vec<u8>,
+) -> Result<Option<Lengths>, Fault> {
+    folder.read_first(name, id, buffer)?;
+    let Some(lengths) = lengths_in(buffer.as_slice()) else {
+        return Ok(None);
+    };
+    if lengths.head > buffer.len() {
+        folder.read(0, lengths.head, buffer)?;
     }
-    responses.sort_unstable();
-    apart.sort_unstable();
-    Ok((responses, apart))
+    buffer.truncate(lengths.head);
+    Ok(Some(lengths))
+}
+
+// Returns whether the files of a response have the lengths that its head says.
+fn is_whole<F: Files + Drop>(
+    folder: &mut Folder<F>,
+    id: u64,
+    lengths: &Lengths,
+    is_apart: bool,
+) -> Result<bool, Fault> {
+    let place = &lengths.place;
+    let whole = folder.length(Name::Response(id), id)? == place.file_length();
+    if !is_apart {
+        return Ok(whole && place.at == lengths.head as u64);
+    }
+    let head = folder.length(Name::Head(id), id)?;
+    Ok(whole && place.at >= PREAMBLE as u64 && head == lengths.head as u64)
+}
+
+// Reads the head of a response. Returns None if it isn't as it was written.
+fn read_one<F: Files + Drop>(
+    alloc: Global,
+    folder: &mut Folder<F>,
+    id: u64,
+    is_apart: bool,
+    buffer: &mut Vec<u8>,
+) -> Result<Option<ReadHead>, Fault>
+    ensures { IfOk result (λ read. IfSome read (λ r. r.head.id.0 ≡ id)) }
+{
+    let name = if is_apart {
+        Name::Head(id)
+    } else {
+        Name::Response(id)
+    };
+    let Some(lengths) = read_bytes(folder, name, id, buffer)? else {
+        return Ok(None);
+    };
+    if !is_whole(folder, id, &lengths, is_apart)? {
+        return Ok(None);
+    }
+    Ok(read_head(alloc, id, buffer.as_slice(), is_apart)?)
 }
 
 impl<'a, F: Files + Drop> Loader<'a, F>
 where
     F::File: TryLock,
 {
-    // Reads the bytes of a head into the buffer. Returns its lengths if it is of this form.
-    fn read_bytes(&mut self, name: Name, id: u64) -> Result<Option<Lengths>, Fault> {
-        self.disc.folder.read_first(name, id, &mut self.buffer)?;
-        let Some(lengths) = lengths_in(self.buffer.as_slice()) else {
-            return Ok(None);
-        };
-        if lengths.head > self.buffer.len() {
-            self.disc.folder.read_again(lengths.head, &mut self.buffer)?;
-        }
-        self.buffer.truncate(lengths.head);
-        Ok(Some(lengths))
-    }
-
-    // Returns whether the files of a response have the lengths that its head says.
-    fn is_whole(&mut self, id: u64, lengths: &Lengths, is_apart: bool) -> Result<bool, Fault> {
-        let place = &lengths.place;
-        let whole = self.disc.folder.length(Name::Response(id), id)? == place.file_length();
-        if !is_apart {
-            return Ok(whole && place.at == lengths.head as u64);
-        }
-        let head = self.disc.folder.length(Name::Head(id), id)?;
-        Ok(whole && place.at >= PREAMBLE as u64 && head == lengths.head as u64)
-    }
-
-    // Reads the head of a response. Returns None if it isn't as it was written.
-    fn read_one(&mut self, id: u64) -> Result<Option<ReadHead>, Fault>
-        ensures { IfOk result (λ read. IfSome read (λ r. r.head.id.0 ≡ id)) }
-    {
-        let is_apart = self.apart.binary_search(&id).is_ok();
-        let name = if is_apart {
-            Name::Head(id)
-        } else {
-            Name::Response(id)
-        };
-        let Some(lengths) = self.read_bytes(name, id)? else {
-            return Ok(None);
-        };
-        if !self.is_whole(id, &lengths, is_apart)? {
-            return Ok(None);
-        }
-        Ok(read_head(self.alloc, id, self.buffer.as_slice(), is_apart)?)
-    }
-
     // Takes a response, unless it alone exceeds a limit.
     fn keep(&mut self, index: &mut Index<Head>, text: &str, head: Head) -> Result<(), DiskError>
         ensures { OnOk result (HaveIdsBelow head.id.0 index.old.kept.entries
@@ -164,7 +164,9 @@ where
         ensures { OnOk result (HaveIdsBelow id index.old.kept.entries
             → HaveIdsBelow (id + 1) index.new.kept.entries) }
     {
-        match self.read_one(id) {
+        let is_apart = self.apart.binary_search(&id).is_ok();
+        let folder = &mut self.disc.folder;
+        match read_one(self.alloc, folder, id, is_apart, &mut self.buffer) {
             Ok(Some(read)) => self.take(index, read),
             Ok(None) | Err(Fault::Lost) => {
                 self.lose(id);
@@ -216,7 +218,7 @@ where
 
     // Removes heads whose responses are gone.
     fn remove_orphans(&mut self, ids: &[u64]) {
-        for id in self.apart.as_slice() {
+        for id in self.apart {
             if ids.binary_search(id).is_err() {
                 self.disc.removed(ResponseId::new(*id));
             }
@@ -231,9 +233,9 @@ where
     }
 }
 
-/// Reads the files of a directory into an empty index. If the directory can't be trusted, removes
-/// them instead. Returns what was found, and the next id.
-pub(crate) fn load<F: Files + Drop>(
+// Reads the files of a directory into an empty index. If the directory can't be trusted, removes
+// them instead. Returns what was found, and the next id.
+fn load<F: Files + Drop>(
     alloc: Global,
     disc: &mut Disc<F>,
     index: &mut Index<Head>,
@@ -245,23 +247,45 @@ where
         → HaveIdsBelow loaded.1 index.new.kept.entries) }
 {
     let listed = disc.folder.list()?;
-    let (ids, apart) = sorted(alloc, listed.names.as_slice())?;
+    let ids = listed.responses.as_slice();
     let mut loader = Loader {
         alloc,
         disc,
-        apart,
+        apart: listed.heads.as_slice(),
         superseded: Vec::new(alloc),
         buffer: Vec::new(alloc),
         found: Found::default(),
         next_id: listed.next_id,
     };
-    loader.remove_orphans(ids.as_slice());
+    loader.remove_orphans(ids);
     let mut below = 0;
     if is_trusted {
-        below = loader.load_all(index, ids.as_slice())?;
+        below = loader.load_all(index, ids)?;
         loader.remove_superseded(index);
     } else {
-        loader.remove_all(ids.as_slice());
+        loader.remove_all(ids);
     }
     Ok((loader.found, loader.next_id.max(below)))
+}
+
+/// Reads the files of a directory as `load` does, and says that a process uses it. Owns nothing, so
+/// that nothing is dropped at its errors.
+pub(crate) fn open<F: Files + Drop>(
+    alloc: Global,
+    disc: &mut Disc<F>,
+    index: &mut Index<Head>,
+    is_trusted: bool,
+) -> Result<(Found, u64), DiskError>
+where
+    F::File: TryLock,
+    ensures { IfOk result (λ loaded. HaveIdsBelow 0 index.old.kept.entries
+        → HaveIdsBelow loaded.1 index.new.kept.entries) }
+{
+    if is_trusted {
+        disc.open()?;
+        return load(alloc, disc, index, true);
+    }
+    let loaded = load(alloc, disc, index, false)?;
+    disc.begin()?;
+    Ok(loaded)
 }

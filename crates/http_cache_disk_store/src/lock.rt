@@ -32,7 +32,7 @@ impl TryLock for File {
 }
 
 /// How a directory is left.
-#[derive(Clone, Copy, Debug, PartialEq, Eq)]
+#[derive(Clone, Copy)]
 pub(crate) enum Left {
     /// A process uses it, or was killed.
     Opened,

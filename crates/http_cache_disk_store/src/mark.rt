@@ -16,7 +16,7 @@ pub(crate) const SUM: usize = 32;
 const ODD: u64 = 0x9e37_79b9_7f4a_7c15;
 
 /// The sum of some bytes.
-#[derive(Clone, Copy, Debug, PartialEq, Eq)]
+#[derive(Clone, Copy, PartialEq, Eq)]
 pub(crate) struct Sum {
     a: u64,
     b: u64,
@@ -127,7 +127,7 @@ impl Sum {
 }
 
 /// What is seen of a body: its length and its sum.
-#[derive(Clone, Copy, Debug, PartialEq, Eq)]
+#[derive(Clone, Copy, PartialEq, Eq)]
 pub(crate) struct Mark {
     /// The length.
     pub(crate) length: u64,

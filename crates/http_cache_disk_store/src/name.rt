@@ -4,7 +4,7 @@
 pub(crate) const LOCK: &str = "lock";
 
 /// What a file is, by its name.
-#[derive(Clone, Copy, Debug, PartialEq, Eq)]
+#[derive(Clone, Copy)]
 pub(crate) enum Name {
     /// A response: `0123456789abcdef`.
     Response(u64),
@@ -18,17 +18,17 @@ pub(crate) enum Name {
     Foreign,
 }
 
-fn is_digit(byte: &u8) -> bool {
-    byte.is_ascii_digit() || (b'a'..=b'f').contains(byte)
-}
-
 // Returns the id that 16 hex digits say.
 fn id_in(digits: &str) -> Option<u64> {
-    if digits.len() == 16 && digits.as_bytes().iter().all(is_digit) {
-        u64::from_str_radix(digits, 16).ok()
-    } else {
-        None
+    if digits.len() != 16 {
+        return None;
     }
+    for byte in digits.as_bytes() {
+        if !matches!(*byte, b'0'..=b'9' | b'a'..=b'f') {
+            return None;
+        }
+    }
+    u64::from_str_radix(digits, 16).ok()
 }
 
 /// Returns what the file with a name is.

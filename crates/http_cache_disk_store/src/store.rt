@@ -7,19 +7,18 @@ ghost use Rattle.http_cache_store.specs.Store.{IsInserted, IsShownAs, KeepsAll, 
 ghost use Rattle.http_cache_store.specs.Store.{LosesSome, ShowsAll, has_id, stored_mark, without};
 ghost use Rattle.http_cache_memory_store.specs.Index.{all_entries, HasUnder};
 ghost use Rattle.http_cache_memory_store.specs.Size.{FitTogether};
-ghost use Rattle.http_cache_memory_store.specs.Stored.{AreAllBelow, AreAllBelow-prop};
 ghost use Rattle.http_cache_disk_store.specs.Sum.{mark_seen, mark_text};
-ghost use Rattle.http_cache_disk_store.specs.Disk.{AreApart, IsLostToo, cost_of, exchange_of, is_lost};
+ghost use Rattle.http_cache_disk_store.specs.Disk.{AreApart, AreBelow, AreBelow-prop, IsLostToo};
+ghost use Rattle.http_cache_disk_store.specs.Disk.{cost_of, exchange_of, is_lost};
 ghost use Rattle.http_cache_disk_store.specs.Disk.{UnlinksExactly, UnlinksRemoved};
 ghost use Rattle.http_cache_disk_store.specs.Disk.{is_shown, lanes_in, lasting_in, seen_of, stored_in};
 
 use crate::disc::Disc;
 use crate::error::{DiskError, Fault};
-use crate::folder::{Folder, boot_of};
-use crate::form::{write_new, write_renewed};
+use crate::form::{place_after, write};
 use crate::head::{Head, Packed, Place};
-use crate::load::{Found, load};
-use crate::lock::{Lock, TryLock};
+use crate::load::{Found, open};
+use crate::lock::TryLock;
 use crate::mark::mark_of;
 use crate::name::Name;
 use bytes::Bytes;
@@ -27,6 +26,7 @@ use http_cache_fields::CacheError;
 use http_cache_memory_store::Limits;
 use http_cache_memory_store::entry::{Entry, Removed};
 use http_cache_memory_store::index::Index;
+use http_cache_memory_store::told::Told;
 use http_cache_policy::policy::CachePolicy;
 use http_cache_store::{ResponseId, Store, StoreError, StoredResponse, Target};
 use jiff::Timestamp;
@@ -79,7 +79,7 @@ pub struct DiskStore<F: Files + Drop> {
     buffer: Vec<u8>,
     found: Found,
     damaged: u64,
-    ghost ids_below: { AreAllBelow next_id (stored_in index.kept.entries) } by { AreAllBelow-prop next_id (stored_in index.kept.entries) },
+    ghost ids_below: { AreBelow next_id index.kept.entries } by { AreBelow-prop next_id index.kept.entries },
     ghost lost_below: { All (λ one. one.id.0 < next_id) lost.items },
     ghost apart: { AreApart next_id (all_entries index.kept.entries) disc.told.items },
 }
@@ -128,6 +128,14 @@ fn look_up(alloc: Global, text: &str, heads: &[Head]) -> Result<Option<LookedUp>
     }))
 }
 
+// Replaces what was looked up. Only here it is dropped, since the prover looks into all that a
+// dropped response holds.
+fn set_looked_up(looked_up: &mut Option<LookedUp>, read: Option<LookedUp>)
+    ensures { looked_up.new ≡ read }
+{
+    *looked_up = read;
+}
+
 // Removes the lost responses.
 fn remove_lost<G: Removed>(index: &mut Index<Head>, lost: &[Lost], gone: &mut G)
     ensures stored { stored_in index.new.kept.entries
@@ -164,44 +172,40 @@ fn lose(alloc: Global, lost: &mut Vec<Lost>, text: &str, id: ResponseId) -> Resu
     Ok(())
 }
 
-// Writes a file that is all of two parts.
-fn write_file<'a, F: Files + Drop>(
+// Writes a file with a head and a body. A new head beside its response has none.
+fn write_file<F: Files + Drop>(
     disc: &mut Disc<F>,
+    buffer: &mut Vec<u8>,
     name: Name,
-    id: ResponseId,
-    head: &'a [u8],
-    body: &'a [u8],
+    text: &str,
+    superseded: &[ResponseId],
+    head: &Head,
+    body: &[u8],
 ) -> Result<(), Fault>
 where
     F::File: TryLock,
     ensures { disc.new.told ≡ disc.old.told }
 {
-    disc.write(name, id.number(), [head, body])
+    write(buffer, text, superseded, head)?;
+    disc.write(name, head.id, buffer.as_slice(), body)
 }
 
-// Writes the new head of a response beside its body.
-fn write_head<F: Files + Drop>(
+// Writes the new head of a response beside its body, and returns what replaces the old one.
+fn write_renewed<F: Files + Drop>(
     disc: &mut Disc<F>,
     buffer: &mut Vec<u8>,
     text: &str,
     superseded: &[ResponseId],
-    id: ResponseId,
-    head: Packed,
-    place: &Place,
+    head: Head,
 ) -> Result<Packed, Fault>
 where
     F::File: TryLock,
-    ensures exchange { IfOk result (λ written. exchange_of written ≡ exchange_of head) }
+    ensures exchange { IfOk result (λ written. exchange_of written ≡ exchange_of head.packed) }
     ensures told { disc.new.told ≡ disc.old.told }
 {
-    let head = write_renewed(buffer, text, superseded, id, head, place)?;
-    match write_file(disc, Name::Head(id.number()), id, buffer.as_slice(), &[]) {
-        Ok(()) => Ok(head),
-        Err(fault) => {
-            drop(head);
-            Err(fault)
-        }
-    }
+    let name = Name::Head(head.id.number());
+    write_file(disc, buffer, name, text, superseded, &head, &[])?;
+    Ok(head.packed.in_file(buffer.len() as u64))
 }
 
 impl DiskStore<HostRuntime> {
@@ -238,24 +242,12 @@ where
         path: &str,
         options: DiskOptions,
     ) -> Result<DiskStore<F>, DiskError> {
-        let boot = boot_of(&files, alloc)?;
-        let (folder, lock) = Folder::open(files, alloc, path)?;
-        let mut lock = Lock::hold(alloc, lock, boot)?;
-        let is_trusted = lock.is_trusted()?;
         let mut index = Index::new(alloc, hasher, options.limits)?;
-        let stuck = Vec::with_capacity(alloc, 64)?;
-        let mut disc = Disc::new(folder, lock, stuck, options.is_synced);
-        if is_trusted {
-            disc.open()?;
-        }
-        let (found, next_id) = load(alloc, &mut disc, &mut index, is_trusted)?;
-        if !is_trusted {
-            if disc.is_failing() {
-                return Err(DiskError::Stuck);
-            }
-            disc.open()?;
-        }
-        disc.begin_account();
+        let (mut disc, is_trusted) = Disc::hold(files, alloc, path, options.is_synced)?;
+        let (found, next_id) = open(alloc, &mut disc, &mut index, is_trusted)?;
+        // The account begins once the directory was read.
+        let account = Told::new();
+        disc.told = account;
         Ok(DiskStore {
             alloc,
             disc,
@@ -275,7 +267,7 @@ where
     ///
     /// `Stuck` if files of removed responses are still there. `Disc` if the system refused a call.
     pub fn close(self) -> Result<(), DiskError> {
-        let DiskStore { disc, .. } = self;
+        let DiskStore { mut disc, .. } = self;
         disc.close()
     }
 
@@ -324,7 +316,7 @@ where
         ensures unlinked { UnlinksRemoved self.old.index.kept.entries self.new.index.kept.entries
             self.old.disc.told.items self.new.disc.told.items }
     {
-        self.looked_up = None;
+        set_looked_up(&mut self.looked_up, None);
         remove_lost(&mut self.index, self.lost.as_slice(), &mut self.disc);
         self.lost.clear();
     }
@@ -385,7 +377,7 @@ where
         ensures unlinked { UnlinksRemoved self.old.index.kept.entries self.new.index.kept.entries
             self.old.disc.told.items self.new.disc.told.items }
     {
-        if fault == Fault::Memory {
+        if matches!(fault, Fault::Memory) {
             return StoreError::Memory;
         }
         self.remove_ids(text, ids);
@@ -455,15 +447,17 @@ where
             self.old.disc.told.items self.new.disc.told.items }
     {
         let id = ResponseId::new(self.next_id);
-        let mark = mark_of(body);
-        let head = write_new(&mut self.buffer, text, superseded, id, packed, mark)?;
+        let bytes = packed.bytes.as_slice();
+        let place = place_after(text, bytes, superseded, mark_of(body));
+        let head = Head { id, packed, place };
         if !self.fits(&head) {
             drop(head);
             self.remove_ids(text, superseded);
             return Ok(None);
         }
         let name = Name::Response(id.number());
-        if let Err(fault) = write_file(&mut self.disc, name, id, self.buffer.as_slice(), body) {
+        let (disc, buffer) = (&mut self.disc, &mut self.buffer);
+        if let Err(fault) = write_file(disc, buffer, name, text, superseded, &head, body) {
             drop(head);
             return Err(self.give_up(text, superseded, fault));
         }
@@ -488,7 +482,8 @@ where
 {
     ghost use Rattle.http_cache_disk_store.specs.Contents.{heads_in, unlinked_in};
     ghost use Rattle.http_cache_disk_store.specs.Disk.{stored_in, lasting_in, is_read_in, UnlinksExactly};
-    ghost use Rattle.http_cache_store.specs.Store.{KeepsAllOthers, RemovesThese, removed_count, IsSwept, without};
+    ghost use Rattle.http_cache_store.specs.Store.{KeepsAllOthers, RemovesThese, removed_count};
+    ghost use Rattle.http_cache_store.specs.Store.{IsSwept, without};
     ghost use Rattle.http_cache_store.specs.Target.{text_of};
     ghost use Rattle.std.specs.Prelude.{◌≡◌, map};
     ghost use Rattle.http_cache_disk_store.specs.Sum.{mark_seen};
@@ -510,9 +505,10 @@ where
 
     fn look_up(&mut self, alloc: Global, target: &Target) -> Result<(), StoreError> {
         let text = target.as_str();
-        self.looked_up = None;
+        set_looked_up(&mut self.looked_up, None);
         self.index.promote(text);
-        self.looked_up = look_up(alloc, text, self.index.under(text))?;
+        let read = look_up(alloc, text, self.index.under(text))?;
+        set_looked_up(&mut self.looked_up, read);
         Ok(())
     }
 
@@ -557,9 +553,8 @@ where
     ) -> Result<Option<ResponseId>, StoreError> {
         let text = target.as_str();
         let now = policy.stored_response_time();
-        let packed = Packed::of(self.alloc, &policy, 0);
-        drop(policy);
-        let stored = self.store(text, superseded, packed?, body.as_slice(), now);
+        let packed = Packed::from_policy(self.alloc, policy, 0)?;
+        let stored = self.store(text, superseded, packed, body.as_slice(), now);
         drop(body);
         stored
     }
@@ -577,14 +572,12 @@ where
             self.remove_ids(text, superseded);
             return Ok(false);
         };
-        let head = Packed::of(self.alloc, &policy, 0);
-        drop(policy);
-        let head = head?;
-        let disc = &mut self.disc;
-        match write_head(disc, &mut self.buffer, text, superseded, id, head, &place) {
-            Ok(head) => {
+        let packed = Packed::from_policy(self.alloc, policy, 0)?;
+        let head = Head { id, packed, place };
+        match write_renewed(&mut self.disc, &mut self.buffer, text, superseded, head) {
+            Ok(packed) => {
                 self.drop_ids(text, superseded);
-                let is_renewed = self.index.renew(text, id, head, &mut self.disc);
+                let is_renewed = self.index.renew(text, id, packed, &mut self.disc);
                 self.disc.settle();
                 Ok(is_renewed)
             }

@@ -3,7 +3,7 @@ use Rattle.std.proofs.Common.{◌≤◌, ◌+◌, ◌≡◌, arith, ℕ, ℤ, Bo
 use Rattle.std.specs.List.{filter, list_any}
 use Rattle.std.proofs.lemmas.Slice.Eq.{bytes_eq-Decides}
 use Rattle.http_cache_policy.specs.Exchange.{Exchange}
-use Rattle.http_cache_messages.specs.Worth.{can_be_used_again}
+use Rattle.http_cache_store.specs.Worth.{can_be_used_again}
 use Rattle.http_cache_store.specs.declared.store.ResponseId.{ResponseId}
 use Rattle.http_cache_store.specs.Store.{StoredSeen, StoredByTarget, AreIdsBelow, KeepsOthers, RemovesThese, IsSwept, AreNewestOf, usable, renewed, without}
 use Rattle.http_cache_memory_store.specs.Index.{HasUnder, HasFirst}

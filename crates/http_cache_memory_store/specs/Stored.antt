@@ -2,11 +2,14 @@
 use Rattle.std.specs.Prelude.{ℕ, ◌≤◌, List, [], ◌∷◌, All, length}
 use Rattle.std.specs.Coded.{×_prop, Unit-prop, le_prop}
 use Rattle.std.specs.Option.{option_map_or}
+use Rattle.std.specs.declared.string.String.{String}
 use Rattle.http_cache_policy.specs.Exchange.{Exchange}
 use Rattle.http_cache_store.specs.declared.store.ResponseId.{ResponseId}
 use Rattle.http_cache_store.specs.declared.store.StoredResponse.{StoredResponse}
 use Rattle.http_cache_store.specs.Store.{StoredSeen, StoredByTarget, AreIdsBelow, without}
 use Rattle.http_cache_memory_store.specs.declared.index.limit.Limits.{Limits}
+use Rattle.http_cache_memory_store.specs.declared.index.list.StoredList.{StoredList}
+use Rattle.http_cache_memory_store.specs.Index.{stored_under}
 use Rattle.http_cache_memory_store.specs.Size.{response_cost}
 
 -- what is seen of the body is the body
@@ -30,6 +33,14 @@ below-prop next (r ∷ rest) = ×_prop le_prop (below-prop r.id rest)
 
 pub AreAllBelow-prop : (next : ℕ) (stored : StoredByTarget) → IsProp (AreAllBelow next stored)
 AreAllBelow-prop next stored = hlevel below-prop
+
+module _ {Y : Type 0} where
+  -- the same of what a map of texts stores
+  abbrev pub AreBelow : ℕ → List (String Y × StoredList StoredResponse) → Type 0
+  AreBelow next es = AreAllBelow next (stored_under seen_of es)
+
+  pub AreBelow-prop : (next : ℕ) (es : List (String Y × StoredList StoredResponse)) → IsProp (AreBelow next es)
+  AreBelow-prop next es = AreAllBelow-prop next (stored_under seen_of es)
 
 -- the limits of one target and of each body are kept
 pub record AreFitting (l : Limits) (all : List StoredSeen) : Type 0 where

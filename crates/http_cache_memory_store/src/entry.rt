@@ -3,7 +3,7 @@
 ghost use Rattle.std.specs.Prelude.{◌≡◌, ◌++◌, ◌∷◌, [], ℕ, List};
 ghost use Rattle.http_cache_store.specs.declared.store.ResponseId.{ResponseId as Id};
 ghost use Rattle.http_cache_store.specs.Store.{StoredSeen};
-ghost use Rattle.http_cache_messages.specs.Worth.{can_be_used_again};
+ghost use Rattle.http_cache_store.specs.Worth.{can_be_used_again};
 ghost use Rattle.http_cache_memory_store.specs.Removal.{AreListed};
 
 use crate::told::Told;

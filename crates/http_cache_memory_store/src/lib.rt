@@ -3,7 +3,7 @@
 //!
 //! Its map, lists and limits are an [`index::Index`], which serves a store with bodies elsewhere
 //! too. It implements the trait of `http_cache_store`, whose names it re-exports. Only `sweep`
-//! knows HTTP: it calls `http_cache_messages::worth`.
+//! knows HTTP: it calls `http_cache_store::worth`.
 #![tactic(auto)]
 
 pub mod entry;

@@ -1,9 +1,11 @@
 //! The store in memory. Its map, lists and limits are an `Index` of stored responses; here are the
 //! ids, the limit of one body, and what was evicted.
-ghost use Rattle.std.specs.Prelude.{◌≡◌, ◌≤◌, ◌<◌, ◌==◌, ◌↔◌, ℕ, List, [], false, length, IsTrue, IfOk, IsErrOf};
+ghost use Rattle.std.specs.Prelude.{◌≡◌, ◌≤◌, ◌<◌, ◌==◌, ◌↔◌, ℕ, List, [], false, length};
+ghost use Rattle.std.specs.Prelude.{IsTrue, IfOk, IsErrOf};
 ghost use Rattle.std.specs.List.{sum_by};
 ghost use Rattle.http_cache_memory_store.specs.Size.{FitsAlone, response_cost};
-ghost use Rattle.http_cache_memory_store.specs.Stored.{seen_of, cost_of, AreFitting, AreAllFitting, AreAllBelow, AreAllBelow-prop};
+ghost use Rattle.http_cache_memory_store.specs.Stored.{seen_of, cost_of};
+ghost use Rattle.http_cache_memory_store.specs.Stored.{AreFitting, AreAllFitting, AreBelow, AreBelow-prop};
 ghost use Rattle.http_cache_memory_store.specs.Index.{all_entries, stored_under};
 ghost use Rattle.http_cache_memory_store.specs.Removal.{AreOnceBelow};
 
@@ -46,7 +48,7 @@ pub struct MemoryStore {
     pub(crate) next_id: u64,
     // What the last `put` or `renew` removed.
     pub(crate) evicted: Evicted,
-    ghost ids_below: { AreAllBelow next_id (stored_under seen_of index.kept.entries) } by { AreAllBelow-prop next_id (stored_under seen_of index.kept.entries) },
+    ghost ids_below: { AreBelow next_id index.kept.entries } by { AreBelow-prop next_id index.kept.entries },
     ghost fitting: { AreAllFitting index.limits (stored_under seen_of index.kept.entries) },
     ghost once: { AreOnceBelow seen_of next_id (all_entries index.kept.entries) },
 }
@@ -141,7 +143,8 @@ impl MemoryStore {
 }
 
 impl Store for MemoryStore {
-    ghost use Rattle.std.specs.Prelude.{◌≡◌, ◌+◌, None, true, length, IfOk, OnOk, OnErr, OnSome, IsOk, IsErrOf};
+    ghost use Rattle.std.specs.Prelude.{◌≡◌, ◌+◌, None, true, length};
+    ghost use Rattle.std.specs.Prelude.{IfOk, OnOk, OnErr, OnSome, IsOk, IsErrOf};
     ghost use Rattle.http_cache_store.specs.Store.{AreNewestOf, IsSwept, IsInserted, KeepsAll, KeepsOthers};
     ghost use Rattle.http_cache_store.specs.Store.{has_id, renewed, without};
     ghost use Rattle.http_cache_store.specs.Target.{text_of};

@@ -9,8 +9,8 @@ use crate::entry::Entry;
 use bytes::Bytes;
 use http::header::{HeaderName, HeaderValue};
 use http::{HeaderMap, Uri};
-use http_cache_messages::worth::can_be_used_again;
 use http_cache_policy::policy::CachePolicy;
+use http_cache_store::worth::can_be_used_again;
 use http_cache_store::{ResponseId, StoredResponse};
 use jiff::Timestamp;
 

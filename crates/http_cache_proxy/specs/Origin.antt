@@ -4,7 +4,7 @@ use Rattle.http.specs.Request.{head_of as head_of_request}
 use Rattle.http.specs.Response.{head_of, body_of}
 use Rattle.http.specs.declared.request.Request.{Request}
 use Rattle.http.specs.declared.response.Response.{Response}
-use Rattle.http_cache_messages.specs.Complete.{is_complete}
+use Rattle.http_cache_decisions.specs.Complete.{is_complete}
 use Rattle.http_cache_semantics.specs.Headers.{headers_of}
 use Rattle.http_cache_client.specs.Fetch.{Outcome, Sends}
 

@@ -5,7 +5,7 @@ use Rattle.http.specs.declared.request.Request.{Request}
 use Rattle.http.specs.declared.response.Response.{Response as Answer}
 use Rattle.http_server.specs.Response.{IsResponse}
 use Rattle.http_server.specs.declared.response.Response.{Response}
-use Rattle.http_cache_messages.specs.Asking.{is_looked_up}
+use Rattle.http_cache_decisions.specs.Asking.{is_looked_up}
 use Rattle.http_cache_store.specs.Store.{StoredByTarget, KeepsAll}
 use Rattle.http_cache_client.specs.Ask.{fields_of, IsOnlyIfCached}
 use Rattle.http_cache_client.specs.Fetch.{Outcome, Sends, HasSent, HasSentBoth, HasSentTwiceAtMost}

@@ -3,7 +3,7 @@ ghost use Rattle.std.specs.Prelude.{◌≡◌, ◌⊎◌, true, false, Some, Non
 ghost use Rattle.http_cache_store.specs.Store.{KeepsAll};
 ghost use Rattle.http_cache_client.specs.Ask.{fields_of, IsOnlyIfCached};
 ghost use Rattle.http_cache_client.specs.Fetch.{Outcome, HasSentBoth, HasSentTwiceAtMost};
-ghost use Rattle.http_cache_messages.specs.Asking.{is_looked_up};
+ghost use Rattle.http_cache_decisions.specs.Asking.{is_looked_up};
 ghost use Rattle.http_cache_intermediary.specs.Refusal.{refusal_of};
 ghost use Rattle.http_cache_proxy.specs.Proxy.{IsSentOnAs, IsFetchFailure, IsSentAtMost, IsCause, HasKept};
 

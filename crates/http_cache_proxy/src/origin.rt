@@ -6,7 +6,7 @@ ghost use Rattle.http_cache_proxy.specs.Origin.{is_whole};
 use bytes::Bytes;
 use http::{Method, Request, Response};
 use http_cache_client::Origin;
-use http_cache_messages::complete::is_complete;
+use http_cache_decisions::complete::is_complete;
 use jiff::Timestamp;
 
 /// The reason why there is no response to forward.

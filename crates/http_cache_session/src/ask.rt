@@ -12,7 +12,7 @@ use http::{Request, Response, StatusCode};
 use http_cache_client::{Decision, Forwarded, Validation};
 use http_cache_errands::{Errand, UnderWay};
 use http_cache_frames::{Frame, Notice, Reason, Reply, is_true_under, number_under};
-use http_cache_messages::asking::is_looked_up;
+use http_cache_decisions::asking::is_looked_up;
 use http_cache_store::{Store, Target};
 use http_cache_wire::fault::Fault;
 use http_cache_wire::message::{BodyLocation, request_in, time_of};

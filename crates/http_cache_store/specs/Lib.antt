@@ -1,3 +1,4 @@
--- What a client stores, and under which text.
+-- What a client stores, under which text, and how long it is kept.
 pub mod Store
 pub mod Target
+pub mod Worth

@@ -2,7 +2,7 @@
 use Rattle.std.specs.Prelude.{option_map, ◌≡◌, ◌≢◌, ◌⊎◌, ◌+◌, ◌<◌, ◌++◌, ℕ, ℤ, Bool, List, [], ◌∷◌, Option, Some, None, not, nat_eq, bytes_eq, IfSome, length, if◌then◌else◌}
 use Rattle.std.specs.List.{find, filter, list_any, AllZip}
 use Rattle.http_cache_policy.specs.Exchange.{Exchange}
-use Rattle.http_cache_messages.specs.Worth.{can_be_used_again}
+use Rattle.http_cache_store.specs.Worth.{can_be_used_again}
 use Rattle.http_cache_store.specs.declared.store.ResponseId.{ResponseId}
 use Rattle.http_cache_store.specs.declared.store.StoredResponse.{StoredResponse}
 

@@ -7,6 +7,7 @@
 
 pub mod store;
 pub mod target;
+pub mod worth;
 
 pub use store::{ResponseId, Store, StoreError, StoredResponse};
 pub use target::Target;

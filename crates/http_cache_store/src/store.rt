@@ -226,7 +226,7 @@ pub trait Store {
         ensures next { next_id self.new ≡ next_id self.old };
 
     /// Removes exactly the responses that can't be used again at `now` or later, and returns their
-    /// number. `http_cache_messages::worth::can_be_used_again` is the rule.
+    /// number. `http_cache_store::worth::can_be_used_again` is the rule.
     fn sweep(&mut self, now: Timestamp) -> usize
         ensures swept { IsSwept now.nanosecond (lasting self.old) (stored self.new) }
         ensures next { next_id self.new ≡ next_id self.old };

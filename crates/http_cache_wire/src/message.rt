@@ -2,7 +2,7 @@
 ghost use Rattle.std.specs.Prelude.{IfOk};
 ghost use Rattle.http.specs.Response.{body_of};
 ghost use Rattle.serde_json.specs.View.{view};
-ghost use Rattle.http_cache_plans.specs.Plan.{IsElsewhere};
+ghost use Rattle.http_cache_decisions.specs.Plan.{IsElsewhere};
 ghost use Rattle.http_cache_wire.specs.Wire.{HasRest, IsWithCaller};
 
 use crate::fault::Fault;
@@ -10,7 +10,7 @@ use bytes::Bytes;
 use http::{Request, Response};
 use http_cache_frames::{Frame, Reason, has_member, is_true_under, number_under};
 use http_cache_intermediary::Content;
-use http_cache_plans::Body;
+use http_cache_decisions::Body;
 use http_heads::{request_from_bytes, response_from_bytes};
 use jiff::Timestamp;
 use serde_json::Value;

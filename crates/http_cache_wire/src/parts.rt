@@ -9,7 +9,7 @@ use http_cache_fields::CacheError;
 use http_cache_frames::{Notice, Reply};
 use http_cache_intermediary::length::has_content;
 use http_cache_intermediary::{Content, Intermediary};
-use http_cache_plans::Body;
+use http_cache_decisions::Body;
 use http_heads::{bytes_of_request, bytes_of_response};
 use jiff::Timestamp;
 use std::alloc::{AllocError, Global};

@@ -4,7 +4,7 @@
 //! that a dropped response holds.
 ghost use Rattle.std.specs.Prelude.{◌≡◌, ◌-◌, ◌<◌, ◌≤◌, ◌∷◌, [], ℕ, false, length, map, take, not, nat_eq, vec_len, vec_capacity, option_copied, position, slice_get, Some, IsOk, IfOk, OnOk, OnErr};
 ghost use Rattle.std.specs.List.{filter, find, list_any};
-ghost use Rattle.http_cache_messages.specs.Worth.{can_be_used_again};
+ghost use Rattle.http_cache_store.specs.Worth.{can_be_used_again};
 ghost use Rattle.http_cache_store.specs.Store.{without, renewed, has_id};
 ghost use Rattle.http_cache_memory_store.specs.Size.{IsAmountOf, IsOfList, FitTogether};
 ghost use Rattle.http_cache_memory_store.specs.Index.{AreLeft, IsRenewedAt};

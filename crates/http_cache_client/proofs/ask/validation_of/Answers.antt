@@ -1,7 +1,7 @@
 -- The boxed request is the one that was made.
 use Rattle.std.proofs.Common.{sym, subst}
 use Rattle.http.specs.declared.request.Parts.{Parts}
-use Rattle.http_cache_messages.specs.Outgoing.{IsClean}
+use Rattle.http_cache_decisions.specs.Outgoing.{IsClean}
 use Rattle.http_cache_fields.specs.Headers.{headers_of}
 use Rattle.http_cache_client.proofs.ask.validation_of.Goals as goal
 

@@ -2,7 +2,7 @@
 use Rattle.std.proofs.Common.{◌≡◌, ℕ, List, true, IfOk, rules, refl, sym, subst}
 use Rattle.http.specs.declared.request.Request.{Request}
 use Rattle.http_cache_rules.specs.Messages.{RequestSeen}
-use Rattle.http_cache_messages.specs.Asking.{is_looked_up, looked_up}
+use Rattle.http_cache_decisions.specs.Asking.{is_looked_up, looked_up}
 use Rattle.http_cache_client.specs.Ask.{IsOnlyIfCached, fields_of, is_only_if_cached}
 use Rattle.http_cache_client.specs.Contact.{IsLost, MayFail}
 use Rattle.http_cache_client.specs.Course.{IsDecisionFor, course_among}

@@ -3,8 +3,8 @@ use Rattle.std.proofs.Common.{◌≡◌, ℕ, List, true, false, Option, Some, N
 use Rattle.http_cache_store.specs.Store.{StoredByTarget}
 use Rattle.http_cache_store.specs.Target.{text_of}
 use Rattle.http.specs.declared.response.Response.{Response}
-use Rattle.http_cache_messages.specs.Asking.{incoming_seen}
-use Rattle.http_cache_plans.specs.declared.reply.Reply.{Reply}
+use Rattle.http_cache_decisions.specs.Asking.{incoming_seen}
+use Rattle.http_cache_decisions.specs.declared.reply.Reply.{Reply}
 use Rattle.http_cache_client.specs.Ask.{fields_of, is_only_if_cached}
 use Rattle.http_cache_client.specs.Contact.{IsByReply, IsFreshReply, IsLost, MayFail}
 use Rattle.http_cache_client.specs.Course.{IsDecisionFor, course_among}

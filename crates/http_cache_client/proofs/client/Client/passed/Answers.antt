@@ -1,7 +1,8 @@
 -- An unsafe request removes all stored responses of each target that it invalidates.
 use Rattle.std.proofs.Common.{subst, sym, rules}
-use Rattle.http_cache_plans.specs.Invalidate.{RemovesInvalidated}
-use Rattle.http_cache_plans.specs.Plan.{IsChangeOf}
+use Rattle.http_cache_decisions.specs.Invalidate.{RemovesInvalidated}
+use Rattle.http_cache_decisions.specs.Plan.{IsChangeOf}
+use Rattle.http_cache_client.specs.Contact.{MayFail}
 use Rattle.http_cache_client.specs.Receive.{own_text}
 use Rattle.http_cache_client.proofs.InvalidateLemmas.{HasInvalidated-made, own-invalidated}
 use Rattle.std.proofs.lemmas.Result.{on_ok_weaker}
@@ -28,7 +29,7 @@ returns-clause-removed g c invalid =
     let planned : RemovesInvalidated request head change =
     subst (RemovesInvalidated request head) (sym c.of-plan.ensures.change) removes in
     on_ok_weaker c.finish.result
-    (HasInvalidated-made request head g.S.Store.mark (stored old) (lasting old) (next_id old) (stored new) (next_id new) change planned)
+    (HasInvalidated-made request head g.S.Store.mark (MayFail g.S.Store.can_fail) (stored old) (lasting old) (next_id old) (stored new) (next_id new) change planned)
     c.finish.ensures.made
 
 pub returns-clause-invalidated : goal.returns-clause-invalidated

@@ -2,13 +2,13 @@
 use Rattle.std.proofs.Common.{◌≡◌, ℕ, List, true, Option, Some, None, IfSome, rules, sym, subst}
 use Rattle.http.specs.Response.{head_of}
 use Rattle.http.specs.declared.response.Parts.{Parts}
-use Rattle.http_cache_messages.specs.Asking.{incoming_seen}
+use Rattle.http_cache_decisions.specs.Asking.{incoming_seen}
 use Rattle.http_cache_store.specs.Store.{StoredByTarget}
 use Rattle.http_cache_store.specs.Target.{text_of}
 use Rattle.http_cache_store.specs.declared.store.ResponseId.{ResponseId}
-use Rattle.http_cache_plans.specs.Failure.{IsStaleReply}
-use Rattle.http_cache_plans.specs.Report.{IsMarked}
-use Rattle.http_cache_plans.specs.declared.reply.Reply.{Reply}
+use Rattle.http_cache_decisions.specs.Failure.{IsStaleReply}
+use Rattle.http_cache_decisions.specs.Report.{IsMarked}
+use Rattle.http_cache_decisions.specs.declared.reply.Reply.{Reply}
 use Rattle.http_cache_client.specs.Contact.{IsBodyFor, IsByReply, IsLost, MayFail}
 use Rattle.http_cache_client.specs.StandIn.{IsStandInAnswer, number_of, stand_in}
 use Rattle.http_cache_client.proofs.StandInLemmas.{stands_in, stands_lost, stands_none}

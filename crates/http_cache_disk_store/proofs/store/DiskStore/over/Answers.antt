@@ -23,5 +23,5 @@ invariant_of-result g c =
     record {
       ids_below = loaded.under;
       lost_below = none-past c.in_ok-found.next_id c.new-2.result.items c.new-2.ensures.items;
-      apart = apart-begun _ _ _ c.begin_account.ensures loaded;
+      apart = apart-begun _ _ _ c.new-account.ensures loaded;
     }

@@ -27,7 +27,7 @@ pub invariant_of-self-in-Ok : goal.invariant_of-self-in-Ok
 invariant_of-self-in-Ok g c =
     let self = c.drop_ids.new.self in
     record {
-      ids_below = below-left self.next_id c.args.id.0 (exchange_of c.in-Ok.head) c.as_str-text.result.now (stored_in self.index.kept.entries)
+      ids_below = below-left self.next_id c.args.id.0 (exchange_of c.in-Ok.packed) c.as_str-text.result.now (stored_in self.index.kept.entries)
           (stored_in c.renew-is_renewed.new.self.kept.entries) c.renew-is_renewed.ensures.renewed c.renew-is_renewed.ensures.others self.ids_below;
       lost_below = self.lost_below;
       apart = apart-settled self.next_id (all_entries self.index.kept.entries) (all_entries c.renew-is_renewed.new.self.kept.entries) self.disc.told.items

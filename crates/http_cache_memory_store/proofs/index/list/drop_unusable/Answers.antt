@@ -1,6 +1,6 @@
 use Rattle.std.proofs.Common.{rules}
 use Rattle.std.proofs.lemmas.Fn.{filter_same}
-use Rattle.http_cache_messages.specs.Worth.{can_be_used_again}
+use Rattle.http_cache_store.specs.Worth.{can_be_used_again}
 use Rattle.http_cache_memory_store.proofs.index.list.drop_unusable.Goals as goal
 
 pub returns : goal.returns

@@ -1,7 +1,7 @@
 -- One more response is looked at.
 use Rattle.std.proofs.Common.{◌+◌, [], Bool, List, take, refl, sym, ap, subst, ◌∙◌}
 use Rattle.std.specs.List.{filter}
-use Rattle.http_cache_messages.specs.Worth.{can_be_used_again}
+use Rattle.http_cache_store.specs.Worth.{can_be_used_again}
 use Rattle.http_cache_memory_store.specs.Removal.{TellsRemoved}
 use Rattle.http_cache_memory_store.proofs.ToldLemmas.{take-more, take-whole, tells-leaves, tells-none, tells-stays}
 use Rattle.http_cache_memory_store.proofs.index.list.tell_unusable.Goals as goal

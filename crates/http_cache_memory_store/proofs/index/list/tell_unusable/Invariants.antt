@@ -1,7 +1,7 @@
 -- Exactly those so far that can't be used again are told of.
 use Rattle.std.proofs.Common.{take}
 use Rattle.std.specs.List.{filter}
-use Rattle.http_cache_messages.specs.Worth.{can_be_used_again}
+use Rattle.http_cache_store.specs.Worth.{can_be_used_again}
 use Rattle.http_cache_memory_store.specs.Removal.{TellsRemoved}
 use Rattle.http_cache_memory_store.proofs.index.list.tell_unusable.Given as goal
 

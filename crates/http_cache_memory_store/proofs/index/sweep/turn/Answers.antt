@@ -3,7 +3,7 @@ use Rattle.std.proofs.Common.{◌≡◌, Some, None, ap, sym, ◌∙◌}
 use Rattle.std.specs.Map.{lookup}
 use Rattle.std.specs.Option.{option_copied_mut}
 use Rattle.http_cache_memory_store.specs.Index.{is_text}
-use Rattle.http_cache_messages.specs.Worth.{can_be_used_again}
+use Rattle.http_cache_store.specs.Worth.{can_be_used_again}
 use Rattle.http_cache_memory_store.specs.Size.{replaced, IsAtMost}
 use Rattle.http_cache_memory_store.proofs.HeldLemmas.{found-less, held-written, kept-less, less-as, replaced-less}
 use Rattle.http_cache_memory_store.proofs.SweepLemmas.{turned, last-found}

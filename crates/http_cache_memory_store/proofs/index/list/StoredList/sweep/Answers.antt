@@ -1,7 +1,7 @@
 -- Sweeping commutes with what contracts see.
 use Rattle.std.proofs.Common.{Bool, List, map, ap, sym, subst, ◌∙◌}
 use Rattle.std.specs.List.{filter}
-use Rattle.http_cache_messages.specs.Worth.{can_be_used_again}
+use Rattle.http_cache_store.specs.Worth.{can_be_used_again}
 use Rattle.http_cache_store.specs.Store.{StoredSeen}
 use Rattle.http_cache_memory_store.specs.Removal.{TellsRemoved}
 use Rattle.http_cache_memory_store.proofs.ListLemmas.{filter-seen}

@@ -1,4 +1,0 @@
--- Lemmas of messages.
-pub mod NeededLemmas
-mod OutgoingLemmas
-mod WorthLemmas
