@@ -53,6 +53,6 @@ HasBodyHere (Again _) = ⊤
 
 -- exactly the responses of invalidated targets are gone, all of them (RFC 9111, section 4.4)
 pub record HasInvalidated (request : Request (List ℕ)) (head : Parts) (lasting after : StoredByTarget) : Type 0 where
-  pub targets : List Target
+  pub targets : List (List ℕ)
   pub invalidated : AreInvalidated request head targets
-  pub removed : RemovesThese (map text_of targets) lasting after
+  pub removed : RemovesThese targets lasting after

@@ -18,7 +18,7 @@ use Rattle.http_cache_decisions.specs.Failure.{is_server_error}
 use Rattle.http_cache_decisions.specs.Freshen.{IsFreshened}
 use Rattle.http_cache_decisions.specs.Plan.{IsPlan, is_failure}
 use Rattle.http_cache_decisions.specs.Receipt.{IsAnswerWith, IsDatedHead}
-use Rattle.http_cache_decisions.specs.Renewal.{IsRenewedBy, IsRenewedPolicy}
+use Rattle.http_cache_decisions.specs.Renewal.{CannotAnswer, CannotBeRenewed, IsRenewedBy, IsRenewedPolicy}
 use Rattle.http_cache_decisions.specs.Reply.{CannotBeSent, IsHeadFor, needs_body}
 use Rattle.http_cache_decisions.specs.Report.{IsMarked}
 use Rattle.http_cache_decisions.specs.declared.body.Body.{Body}
@@ -177,21 +177,52 @@ module _ (request : Request (List ℕ)) (before : StoredByTarget) (next : ℕ) (
   IsRemovedIfAny None last = KeepsAll before next after next_after
   IsRemovedIfAny (Some one) last = IsRemoved last next after next_after (own_text request) (one ∷ [])
 
+-- the stored response that the token's validation is about
+abbrev pub validated_by : Option ResponseId → List StoredSeen → Option StoredSeen
+validated_by None stored = None
+validated_by (Some one) stored = find (λ x. nat_eq x.id one.0) stored
+
+module _ (may_fail : Type 0) (options : Options) (request : Request (List ℕ)) (times : Times) (id : Option ResponseId) where
+  -- no policy of the stored response and the 304 can be made, or no answer of that policy
+  pub record CannotRenew (response : Response Body) (r : StoredSeen) : Type 0 where
+    pub arrived : Arrived
+    pub of : IsArrival request response id times arrived
+    pub cause : CannotBeRenewed arrived r.exchange ⊎ CannotAnswer arrived r.exchange options
+
+  -- the stored response isn't there any more, the 304 doesn't select it, it can't be renewed, or its
+  -- body is lost
+  abbrev pub CannotConfirm : Response Body → StoredByTarget → Option StoredSeen → Type 0
+  CannotConfirm response last None = ⊤
+  CannotConfirm response last (Some r) =
+      (selects r.exchange (response_seen (head_of response)) ≡ false)
+      ⊎ (CannotRenew response r ⊎ IsLost may_fail (last (own_text request)) r.id)
+
+  -- why a 304 confirms nothing
+  abbrev pub IsUnconfirmedFor : Bool → StoredByTarget → StoredByTarget → Response Body → Type 0
+  IsUnconfirmedFor is_past_store before last response =
+      (is_past_store ≡ true)
+      ⊎ (may_fail ⊎ CannotConfirm response last (validated_by id (before (own_text request))))
+
+module _ (may_fail : Type 0) (options : Options) (request : Request (List ℕ)) (times : Times) (id : Option ResponseId)
+    (before : StoredByTarget) (next : ℕ) (after : StoredByTarget) (next_after : ℕ) where
   -- a 304 confirms nothing: the validated response is removed, and the request itself is sent (RFC
   -- 9111, section 4.3.3)
-  pub record IsUnconfirmed (id : Option ResponseId) (lasting : StoredByTarget) (again : Forwarded) : Type 0 where
+  pub record IsUnconfirmed (lasting : StoredByTarget) (is_past_store : Bool) (response : Response Body)
+      (again : Forwarded) : Type 0 where
     pub own : IsForwardOf None false again
     pub last : StoredByTarget
     pub loses : LosesOne (own_text request) lasting last
-    pub removed : IsRemovedIfAny id last
+    pub cause : IsUnconfirmedFor may_fail options request times id is_past_store before last response
+    pub removed : IsRemovedIfAny request before next after next_after id last
 
 module _ (mark : List ℕ → List ℕ) (may_fail : Type 0) (options : Options) (request : Request (List ℕ)) (times : Times)
     (id : Option ResponseId) (before : StoredByTarget) (next : ℕ) (after : StoredByTarget) (next_after : ℕ) where
   -- the outcome of a validation whose response is a 304
-  abbrev pub IsValidated : StoredByTarget → Response Body → Received → Type 0
-  IsValidated lasting response (Answer answer) =
+  abbrev pub IsValidated : StoredByTarget → Bool → Response Body → Received → Type 0
+  IsValidated lasting is_past_store response (Answer answer) =
       IsConfirmed mark may_fail options request times id before next after next_after lasting response answer
-  IsValidated lasting response (Again again) = IsUnconfirmed request before next after next_after id lasting again
+  IsValidated lasting is_past_store response (Again again) =
+      IsUnconfirmed may_fail options request times id before next after next_after lasting is_past_store response again
 
   -- by a 304, or by any other response, which is taken as the response to the request itself
   abbrev pub IsAnsweredBy : Bool → StoredByTarget → Bool → Response Body → Response Body → Type 0
@@ -206,7 +237,8 @@ module _ (mark : List ℕ → List ℕ) (may_fail : Type 0) (options : Options) 
   IsOutcome lasting is_past_store response (Answer answer) =
       IsAnsweredBy (nat_eq (head_of response).status 304) lasting is_past_store response answer
   IsOutcome lasting is_past_store response (Again again) =
-      ((head_of response).status ≡ 304) × IsUnconfirmed request before next after next_after id lasting again
+      ((head_of response).status ≡ 304)
+      × IsUnconfirmed may_fail options request times id before next after next_after lasting is_past_store response again
 
 -- the answer by a planned renewal, and the change that was made of it
 pub record IsByRenewal (mark : List ℕ → List ℕ) (may_fail : Type 0) (received : ℤ) (own : List ℕ)

@@ -11,10 +11,11 @@ ghost use Rattle.http_cache_client.specs.Receive.{own_text};
 ghost use Rattle.http_cache_client.specs.Receive.{HasBodyHere, IsAgain};
 ghost use Rattle.http_cache_client.specs.Keep.{KeepsLasting};
 ghost use Rattle.http_cache_decisions.specs.Asking.{incoming_seen, looked_up};
-ghost use Rattle.http_cache_client.specs.Contact.{MayFail};
+ghost use Rattle.http_cache_client.specs.Contact.{IsLost, MayFail};
 ghost use Rattle.http_cache_client.specs.Keep.{LosesOne};
 ghost use Rattle.http_cache_client.specs.Course.{IsForwardOf};
-ghost use Rattle.http_cache_client.specs.Taken.{IsArrival, IsByRenewal, IsConfirmed, IsRemovedIfAny, IsValidated};
+ghost use Rattle.http_cache_client.specs.Taken.{IsArrival, IsByRenewal, IsConfirmed, IsRemovedIfAny};
+ghost use Rattle.http_cache_client.specs.Taken.{IsUnconfirmedFor, IsValidated};
 ghost use Rattle.http_cache_decisions.specs.declared.body.Body.{Body};
 ghost use Rattle.http.specs.declared.request.Request.{Request};
 ghost use Rattle.http.specs.declared.response.Response.{Response};
@@ -85,6 +86,8 @@ impl<S: Store + Drop> Client<S> {
             (S.next_id self.new.store) (S.lasting self.old.store) renewal)) }
         ensures loses { IfOk result (λ answer. answer ≡ None → LosesOne (text_of target.now)
             (S.lasting self.old.store) (S.lasting self.new.store)) }
+        ensures unavailable { IfOk result (λ answer. answer ≡ None → IsLost (MayFail S.can_fail)
+            (S.lasting self.new.store (text_of target.now)) renewal.reply.id.0) }
         ensures status { IfOk result (λ answer. IfSome answer (λ sent. (head_of sent).status ≡ 304
             → renewal.reply.head.status ≡ 304)) }
         ensures here { IfOk result (λ answer. IfSome answer (λ sent. ¬ (IsElsewhere (body_of sent)))) }
@@ -144,6 +147,12 @@ impl<S: Store + Drop> Client<S> {
             (options_of self.old.options) request arrived.now.times.now validation.now.id
             (S.stored self.old.store) (S.next_id self.old.store) (S.stored self.new.store)
             (S.next_id self.new.store) (S.lasting self.old.store) response)) }
+        ensures unconfirmed { (request : Request (List ℕ)) (response : Response Body)
+            → IsArrival request response validation.now.id arrived.now.times.now arrived.now
+            → text_of target.now ≡ own_text request
+            → IfOk result (λ answer. answer ≡ None → IsUnconfirmedFor (MayFail S.can_fail)
+            (options_of self.old.options) request arrived.now.times.now validation.now.id
+            validation.now.is_past_store (S.stored self.old.store) (S.lasting self.new.store) response) }
         ensures stored { S.next_id self.new.store ≡ S.next_id self.old.store }
         ensures status { IfOk result (λ answer. IfSome answer (λ sent. (head_of sent).status ≡ 304
             → HasCondition arrived.now.incoming.now.request.now)) }
@@ -188,7 +197,7 @@ impl<S: Store + Drop> Client<S> {
             → IfOk result (IsValidated S.mark (MayFail S.can_fail) (options_of self.old.options)
             incoming.now.request.now times.now validation.old.id (S.stored self.old.store)
             (S.next_id self.old.store) (S.stored self.new.store) (S.next_id self.new.store)
-            (S.lasting self.old.store) response) }
+            (S.lasting self.old.store) validation.old.is_past_store response) }
         ensures stored { S.next_id self.new.store ≡ S.next_id self.old.store }
         ensures conditional { IfOk result (IsConditionalReceipt incoming.now.request.now) }
         ensures here { IfOk result HasBodyHere }

@@ -1,9 +1,9 @@
 //! Decides what the response to an unsafe request removes.
-ghost use Rattle.std.specs.Prelude.{◌≡◌, true, false, ℕ, List, IfOk};
-ghost use Rattle.std.specs.Prelude.{◌++◌, All, OnOk, option_copied};
+ghost use Rattle.std.specs.Prelude.{◌≡◌, true, false, ℕ, List, Option, IfOk};
+ghost use Rattle.std.specs.Prelude.{◌++◌, map, OnOk, option_copied};
 ghost use Rattle.http_cache_store.specs.Target.{text_of};
-ghost use Rattle.http_cache_store.specs.declared.target.Target.{Target};
-ghost use Rattle.http_cache_decisions.specs.Invalidate.{is_no_error, invalidates, MayBeNamedBy, RemovesInvalidated};
+ghost use Rattle.http_cache_decisions.specs.Invalidate.{is_no_error, invalidates, RemovesInvalidated};
+ghost use Rattle.http_cache_decisions.specs.Invalidate.{IsNamedInField, list_of};
 ghost use Rattle.http_cache_decisions.specs.Plan.{Stores, IsChangeOf, is_failure};
 
 use crate::plan::Change;
@@ -29,10 +29,9 @@ fn add_named(
     request: &Request<Bytes>,
     reference: Option<&str>,
 ) -> Result<(), AllocError>
-    ensures { OnOk result ((named : List Target)
-        × (targets.new.items ≡ targets.old.items ++ named)
-        × All (λ target. MayBeNamedBy request.now (option_copied reference.entry) (text_of target))
-        named) }
+    ensures { OnOk result ((named : Option (List ℕ))
+        × IsNamedInField request.now (option_copied reference.entry) named
+        × (map text_of targets.new.items ≡ map text_of targets.old.items ++ list_of named)) }
 {
     let Some(reference) = reference else {
         return Ok(());

@@ -1,4 +1,5 @@
 -- What a client stores, under which text, and how long it is kept.
+pub mod Reference
 pub mod Store
 pub mod Target
 pub mod Worth

@@ -1,10 +1,12 @@
 -- The text under which the responses of a target are stored (RFC 9110, section 7.1).
-use Rattle.std.specs.Prelude.{◌≡◌, ℕ, ◌-◌, List, [], ◌∷◌, ◌++◌, Option, Some, None, codes, bytes_eq, drop, length, string_bytes, take, unwrap_or, if◌then◌else◌}
+use Rattle.std.specs.Prelude.{◌≡◌, ◌⊎◌, ℕ, ◌-◌, ◌==◌, Bool, true, false, ◌&&◌, ◌||◌, List, [], ◌∷◌, ◌++◌, Option, Some, None, codes, bytes_eq, drop, length, string_bytes, take, unwrap_or, if◌then◌else◌}
+use Rattle.std.specs.Str.{str_eq_ignore_ascii_case}
 use Rattle.http_uri.specs.ByteClasses.{lowercase, framed_text}
-use Rattle.http_uri.specs.Uri.{uri_scheme, uri_authority, uri_path, uri_query}
+use Rattle.http_uri.specs.Uri.{uri_scheme, uri_authority, uri_path, uri_query, Spells, SpellsNone}
 use Rattle.http_uri.specs.declared.uri.Uri.{Uri}
 use Rattle.http_cache_fields.specs.Headers.{Headers, first_text}
 use Rattle.http_cache_store.specs.declared.target.Target.{Target}
+use Rattle.http_cache_store.specs.Reference.{names_host, path_of, query_of, resolved_path, resolved_query, with_scheme, without_dots, without_fragment}
 
 abbrev pub text_of : Target → List ℕ
 text_of t = string_bytes t.text
@@ -42,12 +44,6 @@ path_or_root (b ∷ bs) = b ∷ bs
 abbrev pub text_after : List ℕ → List ℕ → Option (List ℕ) → List ℕ
 text_after before path query = lowercase before ++ path_or_root path ++ framed_text (codes "?") query []
 
--- the text is that of a path and a query after the scheme and the authority
-pub record IsAfter (before text : List ℕ) : Type 0 where
-  pub path : List ℕ
-  pub query : Option (List ℕ)
-  pub is : text ≡ text_after before path query
-
 -- the scheme and the authority of a request, as the texts of its origin begin
 abbrev pub origin_text : Uri → Headers → List ℕ
 origin_text uri headers = scheme_of uri ++ codes "//" ++ authority_of uri headers
@@ -55,3 +51,37 @@ origin_text uri headers = scheme_of uri ++ codes "//" ++ authority_of uri header
 unfoldable pub target_text : Uri → Headers → List ℕ
 target_text uri headers =
     text_after (origin_text uri headers) (uri_path uri) (uri_query uri)
+
+-- ---- the target that a URI reference in the response to a request names
+
+-- a URI with a scheme and an authority; a request without a scheme may have any (RFC 9111, section 4.4)
+abbrev pub is_same_origin : List ℕ → List ℕ → Option (List ℕ) → Option (List ℕ) → Bool
+is_same_origin scheme authority (Some s) (Some a) =
+    (length scheme == 0 || str_eq_ignore_ascii_case s scheme)
+    && str_eq_ignore_ascii_case (without_default_port s a) authority
+is_same_origin scheme authority (Some s) None = false
+is_same_origin scheme authority None a = false
+
+module _ (scheme authority : List ℕ) where
+  -- no target of another origin is named (RFC 9111, section 4.4)
+  abbrev pub named_by : Uri → Option (List ℕ)
+  named_by u =
+      if is_same_origin scheme authority (uri_scheme u) (uri_authority u)
+      then Some (text_after (scheme ++ codes "//" ++ authority) (without_dots (uri_path u)) (uri_query u)) else None
+
+  -- a text that is a URI names by it, and any other text names nothing
+  abbrev pub IsNamedByText : List ℕ → Option (List ℕ) → Type 0
+  IsNamedByText text named = ((u : Uri) × Spells text u × (named ≡ named_by u)) ⊎ (SpellsNone text × (named ≡ None))
+
+module _ (uri : Uri) (headers : Headers) where
+  abbrev pub IsNamedIn : Bool → List ℕ → Option (List ℕ) → Type 0
+  IsNamedIn true reference named =
+      IsNamedByText (scheme_of uri) (authority_of uri headers) (with_scheme (scheme_of uri) reference) named
+  IsNamedIn false reference named =
+      named ≡ Some (text_after (origin_text uri headers) (resolved_path (uri_path uri) (path_of reference))
+          (resolved_query (uri_query uri) (path_of reference) (query_of reference)))
+
+  -- the text of the target that a reference names, if it names one with the request's origin
+  abbrev pub IsNamed : List ℕ → Option (List ℕ) → Type 0
+  IsNamed reference named =
+      let rest = without_fragment reference in IsNamedIn (names_host rest) rest named

@@ -5,6 +5,7 @@
 //! `http_cache_disk_store` in a directory.
 #![tactic(auto)]
 
+mod reference;
 pub mod store;
 pub mod target;
 pub mod worth;

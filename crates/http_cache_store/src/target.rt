@@ -1,11 +1,15 @@
 //! The target URI of a request, as the key under which its responses are stored. Two targets are
-//! equal exactly if their texts are. Origins and references are resolved only here.
-ghost use Rattle.std.specs.Prelude.{◌≡◌, ◌++◌, IfOk, IfSome, codes, option_copied, string_bytes};
+//! equal exactly if their texts are. Origins are compared only here.
+ghost use Rattle.std.specs.Prelude.{◌≡◌, ◌++◌, IfOk, codes, option_copied, option_map, string_bytes};
 ghost use Rattle.http_uri.specs.ByteClasses.{lowercase};
+ghost use Rattle.http_uri.specs.Uri.{uri_scheme, uri_authority, uri_path, uri_query, Spells, SpellsNone};
+ghost use Rattle.std.specs.Option.{MatchOption};
 ghost use Rattle.http_cache_fields.specs.Headers.{headers_of};
 ghost use Rattle.http_cache_store.specs.Target.{text_of, target_text, without_ending, without_default_port};
-ghost use Rattle.http_cache_store.specs.Target.{scheme_of, authority_of, origin_text, text_after, IsAfter};
+ghost use Rattle.http_cache_store.specs.Target.{scheme_of, authority_of, text_after, is_same_origin, named_by, IsNamedByText, IsNamed};
+ghost use Rattle.http_cache_store.specs.Reference.{path_of, query_of, resolved_path, resolved_query, with_scheme, without_dots};
 
+use crate::reference::{merged, names_host, split_query, with_scheme, without_dots, without_fragment};
 use http::header::HOST;
 use http::{HeaderMap, Uri};
 use http_cache_fields::headers::first_text;
@@ -64,11 +68,16 @@ impl<'a> Origin<'a> {
 
     // Returns whether a URI has this origin. A request without a scheme may be of any scheme, so it
     // may invalidate any URI with its host (RFC 9111, section 4.4).
-    fn is_of(self, uri: &Uri) -> bool {
-        let Some(authority) = uri.authority() else {
-            return true;
+    fn is_of(self, uri: &Uri) -> bool
+        ensures { result ≡ is_same_origin self.entry.scheme.now self.entry.authority.now
+            (uri_scheme uri.now) (uri_authority uri.now) }
+    {
+        let Some(scheme) = uri.scheme_str() else {
+            return false;
         };
-        let scheme = uri.scheme_str().unwrap_or("");
+        let Some(authority) = uri.authority() else {
+            return false;
+        };
         let authority = without_default_port(scheme, authority.as_str());
         (self.scheme.is_empty() || scheme.eq_ignore_ascii_case(self.scheme))
             && authority.eq_ignore_ascii_case(self.authority)
@@ -106,82 +115,32 @@ impl<'a> Origin<'a> {
 
     // Returns the target of a reference's path, after removing its dot segments.
     fn resolved(self, alloc: Global, path: &str, query: Option<&str>) -> Result<Target, AllocError>
-        ensures { IfOk result (λ target. IsAfter
-            (self.entry.scheme.now ++ codes "//" ++ self.entry.authority.now) (text_of target)) }
+        ensures { IfOk result (λ target. text_of target ≡ text_after
+            (self.entry.scheme.now ++ codes "//" ++ self.entry.authority.now)
+            (without_dots path.now) (option_copied query.entry)) }
     {
         let path = without_dots(alloc, path)?;
         self.target(alloc, path.as_str(), query)
     }
-}
 
-// Returns the segments that are left of a path, and whether it ends in a directory.
-fn kept_segments(alloc: Global, path: &str) -> Result<(Vec<&str>, bool), AllocError> {
-    let mut kept: Vec<&str> = Vec::new(alloc);
-    let mut ends_open = false;
-    for segment in path.split('/') {
-        ends_open = segment == "." || segment == "..";
-        if segment == ".." {
-            let _parent = kept.pop();
-        } else if segment != "." {
-            kept.push(segment)?;
+    // Returns the target of a URI with this origin.
+    fn named(self, alloc: Global, uri: &Uri) -> Result<Option<Target>, AllocError>
+        ensures { IfOk result (λ named. option_map text_of named
+            ≡ named_by self.entry.scheme.now self.entry.authority.now uri.now) }
+    {
+        if !self.is_of(uri) {
+            return Ok(None);
         }
-    }
-    Ok((kept, ends_open))
-}
-
-// Removes the dot segments of a path (RFC 3986, section 5.2.4).
-fn without_dots(alloc: Global, path: &str) -> Result<String, AllocError> {
-    let (kept, ends_open) = kept_segments(alloc, path)?;
-    let mut out = String::new(alloc);
-    for segment in kept.iter() {
-        if !segment.is_empty() || !out.as_str().is_empty() {
-            out.push('/')?;
-        }
-        out.push_str(segment)?;
-    }
-    if ends_open || out.as_str().is_empty() {
-        out.push('/')?;
-    }
-    Ok(out)
-}
-
-fn split_query(text: &str) -> (&str, Option<&str>) {
-    match text.split_once('?') {
-        Some((path, query)) => (path, Some(query)),
-        None => (text, None),
+        let target = self.resolved(alloc, uri.path(), uri.query())?;
+        Ok(Some(target))
     }
 }
 
-// Removes the fragment of a reference, which names no other response.
-fn without_fragment(reference: &str) -> &str {
-    match reference.split_once('#') {
-        Some((before, _)) => before.trim_ascii(),
-        None => reference.trim_ascii(),
-    }
-}
-
-// Resolves a relative path against the path of the request (RFC 3986, section 5.2.3).
-fn merged(alloc: Global, path: &str, reference: &str) -> Result<String, AllocError> {
-    let folder = match path.rsplit_once('/') {
-        Some((folder, _)) => folder,
-        None => "",
-    };
-    let mut merged = String::from_str(alloc, folder)?;
-    merged.push('/')?;
-    merged.push_str(reference)?;
-    Ok(merged)
-}
-
-// Returns the URI of a reference that names a host, or None if it isn't one. A reference without a
-// scheme takes the request's scheme.
-fn with_host(alloc: Global, scheme: &str, reference: &str) -> Result<Option<Uri>, AllocError> {
-    let mut absolute = String::new(alloc);
-    if reference.starts_with("//") {
-        absolute.push_str(if scheme.is_empty() { "http" } else { scheme })?;
-        absolute.push(':')?;
-    }
-    absolute.push_str(reference)?;
-    match Uri::from_bytes(alloc, absolute.as_bytes()) {
+// Returns the URI that a text spells, if it spells one.
+fn uri_of(alloc: Global, text: &str) -> Result<Option<Uri>, AllocError>
+    ensures { IfOk result (λ uri. MatchOption uri (SpellsNone text.now) (Spells text.now)) }
+{
+    match Uri::from_str(alloc, text) {
         Ok(uri) => Ok(Some(uri)),
         Err(UriError::OutOfMemory) => Err(AllocError),
         Err(_) => Ok(None),
@@ -208,18 +167,39 @@ impl Target {
         origin: Origin<'_>,
         reference: &str,
     ) -> Result<Option<Target>, AllocError>
-        ensures { IfOk result (λ named. IfSome named (λ target. IsAfter
-            (origin.entry.scheme.now ++ codes "//" ++ origin.entry.authority.now)
-            (text_of target))) }
+        ensures { IfOk result (λ named. IsNamedByText origin.entry.scheme.now
+            origin.entry.authority.now (with_scheme origin.entry.scheme.now reference.now)
+            (option_map text_of named)) }
     {
-        match with_host(alloc, origin.scheme, reference)? {
-            Some(named) if origin.is_of(&named) => Ok(Some(origin.resolved(
-                alloc,
-                named.path(),
-                named.query(),
-            )?)),
-            _ => Ok(None),
+        let text = with_scheme(alloc, origin.scheme, reference)?;
+        let Some(uri) = uri_of(alloc, text.as_str())? else {
+            return Ok(None);
+        };
+        let named = origin.named(alloc, &uri)?;
+        Ok(named)
+    }
+
+    // Returns the target of a reference without a host.
+    fn named_by_path(
+        alloc: Global,
+        origin: Origin<'_>,
+        uri: &Uri,
+        reference: &str,
+    ) -> Result<Target, AllocError>
+        ensures { IfOk result (λ target. text_of target ≡ text_after
+            (origin.entry.scheme.now ++ codes "//" ++ origin.entry.authority.now)
+            (resolved_path (uri_path uri.now) (path_of reference.now))
+            (resolved_query (uri_query uri.now) (path_of reference.now) (query_of reference.now))) }
+    {
+        let (path, query) = split_query(reference);
+        if path.is_empty() {
+            return origin.target(alloc, uri.path(), query.or(uri.query()));
         }
+        if path.starts_with('/') {
+            return origin.resolved(alloc, path, query);
+        }
+        let merged = merged(alloc, uri.path(), path)?;
+        origin.resolved(alloc, merged.as_str(), query)
     }
 
     /// Returns the target of a URI reference in a response, such as Location (RFC 3986, section
@@ -237,24 +217,16 @@ impl Target {
         headers: &HeaderMap,
         reference: &str,
     ) -> Result<Option<Target>, AllocError>
-        ensures { IfOk result (λ named. IfSome named (λ target.
-            IsAfter (origin_text uri.now (headers_of headers.now)) (text_of target))) }
+        ensures named { IfOk result (λ named.
+            IsNamed uri.now (headers_of headers.now) reference.now (option_map text_of named)) }
     {
         let origin = Origin::of(uri, headers);
         let reference = without_fragment(reference);
-        if reference.contains("://") || reference.starts_with("//") {
+        if names_host(reference) {
             return Target::named_by_host(alloc, origin, reference);
         }
-        let (path, query) = split_query(reference);
-        if path.starts_with('/') {
-            return Ok(Some(origin.resolved(alloc, path, query)?));
-        }
-        if path.is_empty() {
-            let query = query.or(uri.query());
-            return Ok(Some(origin.target(alloc, uri.path(), query)?));
-        }
-        let merged = merged(alloc, uri.path(), path)?;
-        Ok(Some(origin.resolved(alloc, merged.as_str(), query)?))
+        let target = Target::named_by_path(alloc, origin, uri, reference)?;
+        Ok(Some(target))
     }
 
     /// Returns a copy of the target.
