@@ -1,5 +1,5 @@
 -- A 304 that confirms a stored response renews it, and is answered by it.
-use Rattle.std.proofs.Common.{◌≡◌, ℕ, ℤ, true, Bool, List, [], ◌∷◌, Option, Some, None, refl, ap, sym, subst, ◌∙◌, IfSome, arith}
+use Rattle.std.proofs.Common.{◌≡◌, ◌⊎◌, ℕ, ℤ, true, false, Bool, List, [], ◌∷◌, Option, Some, None, refl, ap, sym, subst, ◌∙◌, IfSome, inl, inr, arith}
 use Rattle.std.specs.Prelude.{nat_eq}
 use Rattle.std.specs.List.{find}
 use Rattle.std.proofs.lemmas.Bool.Decides.{nat_tests}
@@ -15,16 +15,18 @@ use Rattle.http_cache_store.specs.Store.{StoredByTarget, StoredSeen, ShowsAll, I
 use Rattle.http_cache_store.specs.declared.store.ResponseId.{ResponseId}
 use Rattle.http_cache_store.specs.declared.store.StoredResponse.{StoredResponse}
 use Rattle.http_cache_decisions.specs.Judge.{of_id}
+use Rattle.http_cache_decisions.specs.Renewal.{CannotAnswer, CannotBeRenewed, is_confirmed}
 use Rattle.http_cache_decisions.specs.Renewal.{IsRenewal, IsRenewalIfAny, IsRenewalOf, IsRenewedBy, IsRenewedPolicy}
 use Rattle.http_cache_decisions.specs.Reply.{IsHeadFor, IsReply, needs_body}
 use Rattle.http_cache_decisions.specs.declared.body.Body.{Body}
 use Rattle.http_cache_decisions.specs.declared.plan.Arrived.{Arrived}
 use Rattle.http_cache_decisions.specs.declared.plan.Times.{Times}
 use Rattle.http_cache_decisions.specs.declared.renewal.Renewal.{Renewal}
-use Rattle.http_cache_decisions.proofs.FindLemmas.{found_alike, found_holds}
+use Rattle.http_cache_decisions.proofs.FindLemmas.{found_alike, found_holds, none_alike}
+use Rattle.http_cache_client.specs.Contact.{IsLost}
 use Rattle.http_cache_client.specs.Course.{IsBodySent}
 use Rattle.http_cache_client.specs.Receive.{own_text}
-use Rattle.http_cache_client.specs.Taken.{IsArrival, IsByRenewal, IsConfirmed, IsRenewedAnswer}
+use Rattle.http_cache_client.specs.Taken.{CannotConfirm, IsArrival, IsByRenewal, IsConfirmed, IsRenewedAnswer}
 use Rattle.http_cache_client.proofs.CourseLemmas.{body_of_reply, mark_of_found}
 
 same_id : (a b : ResponseId) → a.0 ≡ b.0 → a ≡ b
@@ -126,3 +128,56 @@ module _ (mark : List ℕ → List ℕ) (may_fail : Type 0) (options : Options) 
       → IsByRenewal mark may_fail received (own_text request) before next after next_after lasting renewal answer
       → IsConfirmed mark may_fail options request times (Some id) before next after next_after lasting response answer
   confirmed = confirmed_in (of_id id found) refl
+
+  unconfirmed_one : (last : StoredByTarget) (a : Arrived) → IsArrival request response (Some id) times a
+      → (one : StoredResponse) → of_id id found ≡ Some one
+      → ((is_confirmed a one ≡ false) ⊎ CannotBeRenewed a one.policy ⊎ CannotAnswer a one.policy options)
+      → CannotConfirm may_fail options request times (Some id) response last (find by_id all)
+  unconfirmed_one last a of one is cause =
+      let shown = found_alike (IsShownAs mark) (λ (x : StoredResponse). nat_eq x.id.0 id.0) by_id alike found all shows one is in
+      let same = shown.2.exchange in
+      subst (CannotConfirm may_fail options request times (Some id) response last) (sym shown.1)
+      (elim cause [
+        | inl other ↦ inl
+            (subst (λ (e : Exchange). selects e (response_seen (head_of response)) ≡ false) same
+            (subst (λ (h : Parts). selects one.policy (response_seen h) ≡ false) of.head other))
+        | inr (inl old) ↦ inr (inl (record {
+            arrived = a;
+            of = of;
+            cause = inl (subst (λ (e : Exchange). CannotBeRenewed a e) same old);
+          }))
+        | inr (inr sent) ↦ inr (inl (record {
+            arrived = a;
+            of = of;
+            cause = inr (subst (λ (e : Exchange). CannotAnswer a e options) same sent);
+          }))
+      ])
+
+  unconfirmed_in : (last : StoredByTarget) (a : Arrived) → IsArrival request response (Some id) times a
+      → (o : Option StoredResponse) → of_id id found ≡ o → IsRenewalIfAny a options o None
+      → CannotConfirm may_fail options request times (Some id) response last (find by_id all)
+  unconfirmed_in last a of None is none =
+      subst (CannotConfirm may_fail options request times (Some id) response last)
+      (sym (none_alike (IsShownAs mark) (λ (x : StoredResponse). nat_eq x.id.0 id.0) by_id alike found all shows is)) tt
+  unconfirmed_in last a of (Some one) is cause = unconfirmed_one last a of one is cause
+
+  -- none is renewed: the stored response can't be confirmed
+  pub unconfirmed : (last : StoredByTarget) (a : Arrived) → IsArrival request response (Some id) times a
+      → IsRenewalOf a options id found None
+      → CannotConfirm may_fail options request times (Some id) response last (find by_id all)
+  unconfirmed last a of none = unconfirmed_in last a of (of_id id found) refl none
+
+  lost_in : (last : StoredByTarget) (a : Arrived) (renewal : Renewal) (o : Option StoredResponse) → of_id id found ≡ o
+      → IsRenewalIfAny a options o (Some renewal) → IsLost may_fail (last (own_text request)) renewal.reply.id.0
+      → CannotConfirm may_fail options request times (Some id) response last (find by_id all)
+  lost_in last a renewal None is none lost = absurd (let no : Some renewal ≡ None = none in cc)
+  lost_in last a renewal (Some one) is renews lost =
+      let shown = found_alike (IsShownAs mark) (λ (x : StoredResponse). nat_eq x.id.0 id.0) by_id alike found all shows one is in
+      subst (CannotConfirm may_fail options request times (Some id) response last) (sym shown.1)
+      (inr (inr (subst (λ (n : ℕ). IsLost may_fail (last (own_text request)) n) (renews.1.reply.of ∙ shown.2.id) lost)))
+
+  -- its body is lost
+  pub lost : (last : StoredByTarget) (a : Arrived) (renewal : Renewal) → IsRenewalOf a options id found (Some renewal)
+      → IsLost may_fail (last (own_text request)) renewal.reply.id.0
+      → CannotConfirm may_fail options request times (Some id) response last (find by_id all)
+  lost last a renewal renews gone = lost_in last a renewal (of_id id found) refl renews gone

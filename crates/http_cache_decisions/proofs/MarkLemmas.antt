@@ -5,7 +5,8 @@ use Rattle.std.specs.FinMap as fin
 use Rattle.std.specs.Cmp.Lexicographic.{nat_list_cmp_total}
 use Rattle.http_cache_fields.specs.Headers.{Headers, contains_key, set, values}
 use Rattle.http_cache_fields.proofs.HeadersLemmas.{same_headers, ties, values-set_same}
-use Rattle.http_cache_decisions.specs.Report.{IsMarkedBy}
+use Rattle.http.specs.declared.response.Parts.{Parts}
+use Rattle.http_cache_decisions.specs.Report.{IsMarked, IsMarkedAs, IsMarkedBy}
 
 at-set : (h : Headers) (name value q : List ℕ)
     → fin.get (set h name value) q ≡ cond (bytes_eq name q) (Some (value ∷ [])) (fin.get h q)
@@ -46,3 +47,6 @@ marked_still h text old b (inl is) none =
     let gone : has (values (set h cache_status text) cache_status) ≡ false = subst (λ x. has (values x cache_status) ≡ false) is none in
     absurd (let no : true ≡ false = sym here ∙ gone in cc)
 marked_still h text old b (inr full) none = inr full
+
+pub marked_as : (text : List ℕ) (head marked : Parts) → IsMarkedAs text head marked → IsMarked head marked
+marked_as text head marked is = record { status = is.status; version = is.version; text = text; fields = is.fields }

@@ -1,8 +1,10 @@
 //! What a client reports of an answer in Cache-Status (RFC 9211).
-ghost use Rattle.std.specs.Prelude.{◌≡◌, ℕ, List, IfOk, OnOk};
+ghost use Rattle.std.specs.Prelude.{◌≡◌, ◌++◌, ℕ, List, IfOk, OnOk, codes, string_bytes};
 ghost use Rattle.http.specs.Response.{head_of, body_of};
-ghost use Rattle.http_cache_fields.specs.Headers.{Headers, headers_of};
-ghost use Rattle.http_cache_decisions.specs.Report.{IsMarkedBy, IsMarked};
+ghost use Rattle.http_cache_fields.specs.Headers.{Headers, headers_of, values};
+ghost use Rattle.http_cache_reasons.specs.Member.{member_seen};
+ghost use Rattle.http_cache_decisions.specs.Report.{IsMarkedBy, IsMarked, IsMarkedAs, IsReported};
+ghost use Rattle.http_cache_decisions.specs.Report.{earlier_member, earlier_members, cache_status};
 
 use crate::memory::or_out_of_memory;
 use bytes::Bytes;
@@ -88,22 +90,36 @@ pub fn store_failed(alloc: Global) -> Result<Why, AllocError> {
     })
 }
 
-// Returns the members of earlier caches, each followed by a comma. A line that is empty or isn't
-// text has no member.
-fn earlier_members(alloc: Global, headers: &HeaderMap) -> Result<String, AllocError> {
-    let mut cache_status = String::new(alloc);
-    for value in headers.get_all(CACHE_STATUS).iter() {
-        if let Ok(text) = value.to_str()
-            && !text.is_empty()
-        {
-            cache_status.push_str(text)?;
-            cache_status.push_str(", ")?;
-        }
+// Appends the members on a line of Cache-Status, and a comma.
+fn push_member(text: &mut String, value: &HeaderValue) -> Result<(), AllocError>
+    ensures { OnOk result (string_bytes text.new
+        ≡ string_bytes text.old ++ earlier_member value.now.bytes) }
+{
+    let Ok(line) = value.to_str() else {
+        return Ok(());
+    };
+    if line.is_empty() {
+        return Ok(());
     }
-    Ok(cache_status)
+    text.push_str(line)?;
+    text.push_str(", ")
 }
 
-fn value_of(cache_status: String) -> Result<HeaderValue, AllocError> {
+// Returns the members of earlier caches, each followed by a comma.
+fn earlier_members(alloc: Global, headers: &HeaderMap) -> Result<String, AllocError>
+    ensures { IfOk result (λ text. string_bytes text
+        ≡ earlier_members (values (headers_of headers.now) (codes "cache-status"))) }
+{
+    let mut text = String::new(alloc);
+    for value in headers.get_all(CACHE_STATUS).iter() {
+        push_member(&mut text, value)?;
+    }
+    Ok(text)
+}
+
+fn value_of(cache_status: String) -> Result<HeaderValue, AllocError>
+    ensures { IfOk result (λ value. value.bytes ≡ string_bytes cache_status) }
+{
     match HeaderValue::from_string(cache_status) {
         Ok(value) => Ok(value),
         Err(HeaderValueError::OutOfMemory | HeaderValueError::Invalid) => Err(AllocError),
@@ -115,7 +131,10 @@ pub fn cache_status_of(
     alloc: Global,
     headers: &HeaderMap,
     member: &Member<'_>,
-) -> Result<HeaderValue, AllocError> {
+) -> Result<HeaderValue, AllocError>
+    ensures { IfOk result (λ value. value.bytes
+        ≡ cache_status (headers_of headers.now) (member_seen member.now)) }
+{
     let text = or_out_of_memory(member.text(alloc))?;
     let mut cache_status = earlier_members(alloc, headers)?;
     if cache_status.is_empty() {
@@ -142,7 +161,7 @@ pub fn marked(
     mut head: response::Parts,
     cache_status: HeaderValue,
 ) -> Result<response::Parts, AllocError>
-    ensures { IfOk result (IsMarked head) }
+    ensures { IfOk result (IsMarkedAs cache_status.bytes head) }
 {
     set_cache_status(&mut head.headers, cache_status)?;
     Ok(head)
@@ -168,6 +187,8 @@ pub fn answer_of(
 ) -> Result<Response<Bytes>, AllocError>
     ensures status { IfOk result (λ answer. (head_of answer).status ≡ head.status) }
     ensures head { IfOk result (λ answer. IsMarked head (head_of answer)) }
+    ensures reported { IfOk result (λ answer.
+        IsReported (member_seen member.now) head (head_of answer)) }
     ensures body { IfOk result (λ answer. body_of answer ≡ body) }
 {
     let cache_status = cache_status_of(alloc, &head.headers, member)?;
