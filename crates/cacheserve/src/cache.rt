@@ -5,7 +5,7 @@ ghost use Rattle.http_cache_session.specs.State.{next_token};
 
 use http_cache_client::Client;
 use http_cache_disk_store::DiskStore;
-use http_cache_frames::{Answers, Frame, Lost, Turn};
+use http_cache_frames::{Answers, Frame, Lost, Reply};
 use http_cache_memory_store::{MemoryStore, Store};
 use http_cache_session::{Session, Settings, Stored};
 use std::alloc::Global;
@@ -80,10 +80,10 @@ impl<S: Store + Counted + Drop> Answers for Cache<S> {
     ghost is_reply = { λ before frame reply after. GivesNext (given_token reply)
         (next_token before.session) (next_token after.session) };
 
-    fn answer(&mut self, alloc: Global, frame: Frame) -> Result<Turn, Lost> {
+    fn answer(&mut self, alloc: Global, frame: Frame) -> Result<Reply, Lost> {
         let stored = self.session.store().stored();
-        let turn = self.session.answer(alloc, frame, stored);
+        let reply = self.session.answer(alloc, frame, stored);
         report(&self.rt, stored, self.session.store().stored());
-        turn
+        reply
     }
 }

@@ -1,11 +1,11 @@
 -- What was taken and written, call after call.
-use Rattle.std.proofs.Common.{arith, ◌≡◌, ℕ, ◌+◌, List, [], ◌++◌, Option, Result, Ok, Err, IfErr, length, take, drop, take-append-drop}
+use Rattle.std.proofs.Common.{arith, ◌≡◌, ℕ, ◌+◌, List, [], ◌++◌, Option, Some, None, Result, Ok, Err, IfErr, length, take, drop, take-append-drop}
 use Rattle.std.proofs.Common.{refl, sym, ap, subst, ◌∙◌, append_assoc, append-nil, length-append}
-use Rattle.std.proofs.lemmas.List.{take-append-le, length-take-le}
+use Rattle.std.proofs.lemmas.List.{nil_from_length, take-append-le, length-take-le}
 use Rattle.std.proofs.Math.Seq.{take-append-add, drop-append_seam}
 use Rattle.std.proofs.KnownBytes.{Appends-nil, Appends-trans, Consumes-nil, Consumes-trans, Consumes-kept}
-use Rattle.std.specs.Io.KnownBytes.{Appends, Consumes, Keeps}
-use Rattle.http_cache_frames.specs.Served.{HasTaken, Takes, TakesNothing, TakesContent, TakesFrame, HasContent, HasWritten, IsCut, PutsNothing, EndsWith, FailsToPut, KeepsText}
+use Rattle.std.specs.Io.KnownBytes.{Appends, Consumes, IsAtEnd, Keeps}
+use Rattle.http_cache_frames.specs.Served.{HasTaken, IsAllOf, Takes, TakesNothing, TakesContent, TakesFrame, HasContent, HasWritten, IsCut, PutsNothing, EndsWith, FailsToPut, KeepsText}
 use Rattle.http_cache_frames.proofs.LineEndLemmas.{line_in_front, line_there}
 use Rattle.http_cache_frames.specs.Front.{IsLine}
 use Rattle.http_cache_frames.specs.declared.front.Announced.{Announced}
@@ -128,3 +128,12 @@ frame_taken (next.Frame f) a left ahead left_now ahead_now left_then ahead_then 
     )
 frame_taken next.End a left ahead left_now ahead_now left_then ahead_then nothing line content = tt
 frame_taken (next.Broken cause) a left ahead left_now ahead_now left_then ahead_then nothing line content = tt
+
+-- nothing is left, and nothing is ahead: all bytes were taken
+pub all_taken : (base left : Option (List ℕ)) (ahead taken : List ℕ) → HasTaken base left ahead taken → IsAtEnd left
+    → length ahead ≡ 0 → IsAllOf base taken
+all_taken None left ahead taken has end none = tt
+all_taken (Some bytes) None ahead taken has end none = elim has.consumed [ ]
+all_taken (Some bytes) (Some rest) ahead taken has end none =
+    has.consumed ∙ ap (λ (l : List ℕ). has.read ++ l) end ∙ append-nil has.read ∙ has.split
+    ∙ ap (λ (l : List ℕ). taken ++ l) (nil_from_length ahead none) ∙ append-nil taken

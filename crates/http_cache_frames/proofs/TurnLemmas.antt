@@ -3,7 +3,7 @@ use Rattle.std.proofs.Common.{◌≡◌, ℕ, List, [], ◌∷◌, ◌++◌, Opt
 use Rattle.std.proofs.Common.{refl, sym, ap, subst, ◌∙◌, append_assoc, append-nil}
 use Rattle.http_cache_frames.specs.Reply.{reply_text}
 use Rattle.http_cache_frames.proofs.ServedLemmas.{cut_longer, nothing_written}
-use Rattle.http_cache_frames.specs.Served.{AreReplies, AreServed, AreFrameTexts, BeginsWith, IsFrameText, IsTakenOf, HasTaken, HasWritten, Cuts, IsCut, EndsWith, FailsToPut, IsReported, IsFurther, IsWrittenAt, replies_text, greeting, broken_reply, reason_of}
+use Rattle.http_cache_frames.specs.Served.{AreReplies, AreServed, AreFrameTexts, BeginsWith, EndsInQuit, IsAllOf, IsEnd, IsFrameText, IsTakenOf, HasTaken, HasWritten, Cuts, IsCut, EndsWith, FailsToPut, IsReported, IsFurther, IsWrittenAt, replies_text, greeting, broken_reply, reason_of}
 use Rattle.http_cache_frames.specs.declared.ended.Ended.{Ended}
 use Rattle.http_cache_frames.specs.declared.ended.Ended.TheVariants.{Well, Broken, NotReadable, NotWritten, NoMemory}
 use Rattle.http_cache_frames.specs.declared.front.NoFrame.{NoFrame}
@@ -27,13 +27,13 @@ no_further : (replies : List Reply) → replies_text (greeting ∷ replies) ≡ 
 no_further replies = ap (λ l. replies_text (greeting ∷ l)) (sym (append-nil replies))
 
 -- the taken frames are at the front of what the reader had
-taken_of : (base left : Option (List ℕ)) (ahead taken : List ℕ) → HasTaken base left ahead taken → IsTakenOf base taken
+abbrev pub taken_of : (base left : Option (List ℕ)) (ahead taken : List ℕ) → HasTaken base left ahead taken → IsTakenOf base taken
 taken_of None left ahead taken before = tt
 taken_of (Some bytes) None ahead taken before = elim before.consumed [ ]
 taken_of (Some bytes) (Some rest) ahead taken before =
     (ahead ++ rest, before.consumed ∙ ap (λ l. l ++ rest) before.split ∙ append_assoc taken ahead rest)
 
-pub begins_with : (base left : Option (List ℕ)) (ahead taken : List ℕ) (frames : List Frame)
+abbrev pub begins_with : (base left : Option (List ℕ)) (ahead taken : List ℕ) (frames : List Frame)
     → AreFrameTexts frames taken → HasTaken base left ahead taken → BeginsWith base frames
 begins_with base left ahead taken frames texts before = record {
   taken = taken;
@@ -59,16 +59,18 @@ one_text_more (x ∷ frames) taken text f (first, rest, whole, is_first, texts) 
   one_text_more frames rest text f texts is,
 )
 
--- all was written, and no more is due
+-- all was written, and no more is due, at the end of the input or after `quit`
 pub ends_well : {S : Type 0} (Step : S → Frame → Reply → S → Type 0) (s m : S) (left base held : Option (List ℕ)) (waiting : List ℕ) (frames : List Frame) (replies : List Reply)
-    → AreReplies Step s frames replies m → BeginsWith left frames → HasWritten base held waiting (replies_text (greeting ∷ replies))
+    → AreReplies Step s frames replies m → (input : BeginsWith left frames) → IsAllOf left input.taken ⊎ EndsInQuit replies
+    → HasWritten base held waiting (replies_text (greeting ∷ replies))
     → AreServed Step s left base held waiting Well
-ends_well Step s m left base held waiting frames replies each input written = record {
+ends_well Step s m left base held waiting frames replies each input until written = record {
   frames = frames;
   replies = replies;
   further = [];
   last = m;
   input = input;
+  until = until;
   each = each;
   after = refl;
   written = subst (HasWritten base held waiting) (no_further replies) written;
@@ -83,12 +85,13 @@ ends_without_memory Step s m left base held waiting frames replies each input wr
   further = [];
   last = m;
   input = input;
+  until = tt;
   each = each;
   after = refl;
   written = inl (subst (HasWritten base held waiting) (no_further replies) written);
 }
 
-ends_unreadable : {S : Type 0} (Step : S → Frame → Reply → S → Type 0) (s m : S) (left base held : Option (List ℕ)) (waiting : List ℕ) (frames : List Frame) (replies : List Reply)
+pub ends_unreadable : {S : Type 0} (Step : S → Frame → Reply → S → Type 0) (s m : S) (left base held : Option (List ℕ)) (waiting : List ℕ) (frames : List Frame) (replies : List Reply)
     → AreReplies Step s frames replies m → BeginsWith left frames → HasWritten base held waiting (replies_text (greeting ∷ replies))
     → AreServed Step s left base held waiting NotReadable
 ends_unreadable Step s m left base held waiting frames replies each input written = record {
@@ -97,6 +100,7 @@ ends_unreadable Step s m left base held waiting frames replies each input writte
   further = [];
   last = m;
   input = input;
+  until = tt;
   each = each;
   after = refl;
   written = subst (HasWritten base held waiting) (no_further replies) written;
@@ -111,6 +115,7 @@ ends_cut Step s m left base held waiting frames replies each input cut = record 
   further = [];
   last = m;
   input = input;
+  until = tt;
   each = each;
   after = inl refl;
   written = subst (IsCut base held) (no_further replies) cut;
@@ -165,6 +170,7 @@ ends_greeting Step s left base held waiting held_then waiting_then NoMemory writ
   further = [];
   last = s;
   input = begins_with_none left;
+  until = tt;
   each = refl;
   after = refl;
   written = inr (fails base [] written, refl);
@@ -186,6 +192,7 @@ ends_broken Step s m left base held waiting held_then waiting_then frames replie
       further = last ∷ [];
       last = m;
       input = input;
+      until = tt;
       each = each;
       after = ap (λ it. broken_reply (reason_of it) ∷ []) (sym reported.0);
       written = subst (HasWritten base held_then waiting_then) (sym (text_of_one_more (greeting ∷ replies) last))
@@ -199,6 +206,7 @@ ends_broken Step s m left base held waiting held_then waiting_then frames replie
       further = last ∷ [];
       last = m;
       input = input;
+      until = tt;
       each = each;
       after = inr (cause, refl);
       written = subst (IsCut base held_then) (sym (text_of_one_more (greeting ∷ replies) last)) (reported base _ written);
@@ -219,6 +227,7 @@ nothing_served Step s left base = record {
   further = [];
   last = s;
   input = begins_with_none left;
+  until = tt;
   each = refl;
   after = refl;
   written = inr (nothing_written base, refl);
@@ -258,6 +267,10 @@ served_to Step s left base held waiting held_then ended ended_then before so wri
   further = before.further;
   last = before.last;
   input = before.input;
+  until = elim so [
+    | inl same ↦ subst (λ it. IsEnd it left before.input.taken before.replies) (sym same) before.until
+    | inr failed ↦ subst (λ it. IsEnd it left before.input.taken before.replies) (sym failed) tt
+  ];
   each = before.each;
   after = elim so [
     | inl same ↦ subst (λ it. IsFurther it before.further) (sym same) before.after

@@ -54,6 +54,11 @@ pub record HasTaken (base left : Option (List ℕ)) (ahead taken : List ℕ) : T
   pub consumed : Consumes base left read
   pub split : read ≡ taken ++ ahead
 
+-- all that a reader has left is these bytes, if it is known
+abbrev pub IsAllOf : Option (List ℕ) → List ℕ → Type 0
+IsAllOf None taken = ⊤
+IsAllOf (Some bytes) taken = bytes ≡ taken
+
 -- a call takes these bytes of what a reader has left
 abbrev pub Takes : Option (List ℕ) → List ℕ → Option (List ℕ) → List ℕ → List ℕ → Type 0
 Takes left ahead left_then ahead_then bytes =
@@ -87,6 +92,10 @@ TakesContent (next.Frame f) a left ahead left_then ahead_then =
     × Takes left ahead left_then ahead_then after
 TakesContent next.End a left ahead left_then ahead_then = ⊤
 TakesContent (next.Broken cause) a left ahead left_then ahead_then = ⊤
+
+-- a reader and the bytes ahead have nothing left: all bytes were taken
+abbrev pub TakesAll : Option (List ℕ) → List ℕ → Type 0
+TakesAll left ahead = (base : Option (List ℕ)) → (taken : List ℕ) → HasTaken base left ahead taken → IsAllOf base taken
 
 abbrev pub TakesFrame : Next → Option (List ℕ) → List ℕ → Option (List ℕ) → List ℕ → Type 0
 TakesFrame (next.Frame f) left ahead left_then ahead_then =
@@ -201,20 +210,35 @@ abbrev pub IsTakenOf : Option (List ℕ) → List ℕ → Type 0
 IsTakenOf None taken = ⊤
 IsTakenOf (Some bytes) taken = (rest : List ℕ) × (bytes ≡ taken ++ rest)
 
+abbrev pub IsQuit : Reply → Type 0
+IsQuit r = (id : ℕ) × (r ≡ reply.Notice (notice.Quit id))
+
+abbrev pub EndsInQuit : List Reply → Type 0
+EndsInQuit replies = (before : List Reply) × (last : Reply) × (replies ≡ before ++ (last ∷ [])) × IsQuit last
+
+-- an end without a fault is the end of the input, or comes after the reply to `quit`
+abbrev pub IsEnd : Ended → Option (List ℕ) → List ℕ → List Reply → Type 0
+IsEnd Well left taken replies = IsAllOf left taken ⊎ EndsInQuit replies
+IsEnd (Broken cause) left taken replies = ⊤
+IsEnd NotReadable left taken replies = ⊤
+IsEnd NotWritten left taken replies = ⊤
+IsEnd NoMemory left taken replies = ⊤
+
 -- what a reader has left begins with these frames
 pub record BeginsWith (left : Option (List ℕ)) (frames : List Frame) : Type 0 where
   pub taken : List ℕ
   pub texts : AreFrameTexts frames taken
   pub front : IsTakenOf left taken
 
--- the frames that the reader begins with were answered one by one; the greeting, their replies and
--- any further reply were written
+-- the frames that the reader begins with were answered one by one, to its end or to `quit` unless there
+-- was a fault; the greeting, their replies and any further reply were written
 pub record AreServed {S : Type 0} (Step : S → Frame → Reply → S → Type 0) (state : S) (left base held : Option (List ℕ)) (waiting : List ℕ) (ended : Ended) : Type 0 where
   pub frames : List Frame
   pub replies : List Reply
   pub further : List Reply
   pub last : S
   pub input : BeginsWith left frames
+  pub until : IsEnd ended left input.taken replies
   pub each : AreReplies Step state frames replies last
   pub after : IsFurther ended further
   pub written : IsWrittenAt ended base held waiting replies (replies_text (greeting ∷ (replies ++ further)))

@@ -1,6 +1,7 @@
 //! Reads frames. All replies are written before each read that may block.
-ghost use Rattle.std.specs.Prelude.{◌≡◌, ◌++◌, [], length, true, IfOk, IfErr, IfSome, OnOk};
-ghost use Rattle.http_cache_frames.specs.Served.{KeepsText, IsAhead, IsRead, TakesNothing, TakesBytes, TakesContent, TakesFrame};
+ghost use Rattle.std.specs.Prelude.{◌≡◌, ◌≢◌, ◌<◌, ◌++◌, [], length, true, false, Some, IfOk, IfErr, IfSome, OnOk};
+ghost use Rattle.std.specs.Io.KnownBytes.{IsAtEnd};
+ghost use Rattle.http_cache_frames.specs.Served.{KeepsText, IsAhead, IsRead, TakesNothing, TakesAll, TakesBytes, TakesContent, TakesFrame};
 ghost use Rattle.http_cache_frames.specs.declared.ended.Ended.TheVariants.{NotReadable};
 
 use crate::ended::Ended;
@@ -39,6 +40,7 @@ pub(crate) struct Input<R: Drop> {
     piece: Vec<u8>,
     // The bytes that were read and belong to no frame yet.
     ahead: BytesMut,
+    ghost has_room: { 0 < length piece.items },
 }
 
 // Reads once, which may block, so no reply may be waiting. Returns None if it is interrupted.
@@ -51,6 +53,8 @@ fn read_some<R: Read, W: Write + Drop>(
     ensures ended { IfErr result (λ ended. ended ≡ NotReadable) }
     ensures read { IfOk result (λ read. IsRead (R.remaining from.old) (R.remaining from.new)
         read into.new) }
+    ensures end { 0 < length into.new
+        → IfOk result (λ read. read ≡ Some 0 → IsAtEnd (R.remaining from.new)) }
 {
     match from.read(into) {
         Ok(count) => Ok(Some(count)),
@@ -79,6 +83,7 @@ impl<R: Read + Drop> Input<R> {
             (W.contents out.new.to) out.new.waiting.items }
         ensures taken { OnOk result (TakesNothing (R.remaining self.old.from) self.old.ahead.items
             (R.remaining self.new.from) self.new.ahead.items) }
+        ensures end { IfOk result (λ more. more ≡ false → IsAtEnd (R.remaining self.new.from)) }
     {
         out.flush()?;
         let Some(count) = read_some(&mut self.from, self.piece.as_mut_slice(), out)? else {
@@ -164,6 +169,7 @@ impl<R: Read + Drop> Input<R> {
         ensures taken { IfOk result (λ next. TakesContent next announced
             (R.remaining self.old.from) self.old.ahead.items
             (R.remaining self.new.from) self.new.ahead.items) }
+        ensures begun { IfOk result (λ next. next ≢ Next.End) }
     {
         let Announced {
             line,
@@ -203,11 +209,14 @@ impl<R: Read + Drop> Input<R> {
         ensures ahead { IfOk result (λ front. IsAhead front self.new.ahead.items) }
         ensures taken { OnOk result (TakesNothing (R.remaining self.old.from) self.old.ahead.items
             (R.remaining self.new.from) self.new.ahead.items) }
+        ensures end { IfOk result (λ front. front ≡ Front.Partial
+            → IsAtEnd (R.remaining self.new.from)) }
     {
         for _ in 0..u64::MAX {
             match front_of(self.alloc, self.ahead.as_slice()) {
                 Ok(Front::Partial) => {}
-                Ok(front) => return Ok(front),
+                Ok(Front::Line(announced)) => return Ok(Front::Line(announced)),
+                Ok(Front::Broken(cause)) => return Ok(Front::Broken(cause)),
                 Err(_) => return Err(Ended::NoMemory),
             }
             match self.read_on(out) {
@@ -225,6 +234,8 @@ impl<R: Read + Drop> Input<R> {
         ensures taken { IfOk result (λ next. TakesFrame next
             (R.remaining self.old.from) self.old.ahead.items
             (R.remaining self.new.from) self.new.ahead.items) }
+        ensures end { IfOk result (λ next. next ≡ Next.End → TakesAll
+            (R.remaining self.old.from) self.old.ahead.items) }
     {
         match self.line(out)? {
             Front::Line(announced) => {

@@ -20,4 +20,4 @@ pub use front::{Announced, Front, NoFrame, front_of};
 pub use input::Longest;
 pub use line::{has_member, is_true_under, length_under, number_under, text_under};
 pub use reply::{Counts, Notice, Reason, Reply};
-pub use serving::{Answers, Lost, Served, Turn, serve};
+pub use serving::{Answers, Lost, Served, serve};

@@ -1,8 +1,9 @@
 //! The replies of the process: one frame for each frame that it reads.
-ghost use Rattle.std.specs.Prelude.{◌≡◌, ◌++◌, option_map, OnOk};
+ghost use Rattle.std.specs.Prelude.{◌≡◌, ◌++◌, true, option_map, OnOk};
 ghost use Rattle.http_cache_frames.specs.Reply.{word_text, end_text, member_text, optional_text, reason_text, reason_code, stored_text, done_text};
 ghost use Rattle.http_cache_frames.specs.Reply.{error_text, pair_text, message_text, lengths_text, stale_text};
 ghost use Rattle.http_cache_frames.specs.Reply.{notice_text, reply_text};
+ghost use Rattle.http_cache_frames.specs.Served.{IsQuit};
 
 use bytes::Bytes;
 use itoa::Buffer;
@@ -550,6 +551,13 @@ impl Notice {
 }
 
 impl Reply {
+    /// Returns whether it is the reply to `quit`.
+    pub(crate) fn is_quit(&self) -> bool
+        ensures { result ≡ true → IsQuit self.now }
+    {
+        matches!(self, Reply::Notice(Notice::Quit { .. }))
+    }
+
     /// Appends the text of a reply.
     ///
     /// # Errors

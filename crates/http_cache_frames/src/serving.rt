@@ -14,15 +14,6 @@ use crate::reply::{Notice, Reason, Reply};
 use std::alloc::Global;
 use std::io::{Read, Write};
 
-/// The reply to a frame.
-#[derive(Drop)]
-pub struct Turn {
-    /// The reply.
-    pub reply: Reply,
-    /// Whether it is the last reply.
-    pub is_last: bool,
-}
-
 /// There is no memory for a reply after a change, so no reply can report the change.
 #[derive(Clone, Copy, Debug, PartialEq, Eq)]
 pub struct Lost;
@@ -37,8 +28,8 @@ pub trait Answers {
     /// # Errors
     ///
     /// `Lost` if something was changed and there is no memory for a reply that reports it.
-    fn answer(&mut self, alloc: Global, frame: Frame) -> Result<Turn, Lost>
-        ensures is_reply { IfOk result (λ turn. is_reply self.old frame turn.reply self.new) };
+    fn answer(&mut self, alloc: Global, frame: Frame) -> Result<Reply, Lost>
+        ensures is_reply { IfOk result (λ reply. is_reply self.old frame reply self.new) };
 }
 
 impl NoFrame {
@@ -94,17 +85,17 @@ fn turns<A: Answers, R: Read + Drop, W: Write + Drop>(
             Ok(Next::Broken(cause)) => return report(cause, out),
             Err(ended) => return ended,
         };
-        let Ok(turn) = answers.answer(alloc, frame) else {
+        let Ok(reply) = answers.answer(alloc, frame) else {
             return Ended::NoMemory;
         };
-        if let Err(ended) = out.put(&turn.reply) {
+        if let Err(ended) = out.put(&reply) {
             return ended;
         }
-        if turn.is_last {
+        if reply.is_quit() {
             return Ended::Well;
         }
     }
-    Ended::Well
+    Ended::NotReadable
 }
 
 // Writes the collected replies, unless writing has failed, and returns the end.

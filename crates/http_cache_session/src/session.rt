@@ -15,7 +15,7 @@ ghost use Rattle.http_cache_session.specs.State.{is_being_validated, is_outdated
 use http::{Method, Response};
 use http_cache_client::{Body, Client};
 use http_cache_errands::{Invalidations, UnderWays};
-use http_cache_frames::{Counts, Frame, Lost, Notice, Reason, Reply, Turn, text_under};
+use http_cache_frames::{Counts, Frame, Lost, Notice, Reason, Reply, text_under};
 use http_cache_intermediary::Intermediary;
 use http_cache_store::Store;
 use http_cache_wire::fault::Fault;
@@ -203,19 +203,16 @@ impl<S: Store + Drop> Session<S> {
         }
     }
 
-    fn error(&mut self, reason: Reason, id: Option<u64>, token: Option<u64>) -> Turn
+    fn error(&mut self, reason: Reason, id: Option<u64>, token: Option<u64>) -> Reply
         ensures client { self.new.client ≡ self.old.client }
         ensures under_way { self.new.under_way ≡ self.old.under_way }
-        ensures none { given_token result.reply ≡ None }
-        ensures id { reply_id result.reply ≡ id }
-        ensures plain { IsPlain result.reply }
-        ensures refusal { IsRefusal result.reply }
+        ensures none { given_token result ≡ None }
+        ensures id { reply_id result ≡ id }
+        ensures plain { IsPlain result }
+        ensures refusal { IsRefusal result }
     {
         more(&mut self.counts.errors);
-        Turn {
-            reply: Reply::Notice(Notice::Error { reason, id, token }),
-            is_last: false,
-        }
+        Reply::Notice(Notice::Error { reason, id, token })
     }
 
     /// Returns the store.
@@ -235,26 +232,26 @@ impl<S: Store + Drop> Session<S> {
     ///
     /// `Lost` if something was changed and there is no memory for a reply that reports it. The
     /// session is then unusable, since its caller doesn't know what is under way.
-    pub fn answer(&mut self, alloc: Global, frame: Frame, stored: Stored) -> Result<Turn, Lost>
-        ensures given { IfOk result (λ turn. GivesNext (given_token turn.reply)
+    pub fn answer(&mut self, alloc: Global, frame: Frame, stored: Stored) -> Result<Reply, Lost>
+        ensures given { IfOk result (λ reply. GivesNext (given_token reply)
             (next_token self.old) (next_token self.new)) }
-        ensures kept { IfOk result (λ turn. IsRefusal turn.reply
+        ensures kept { IfOk result (λ reply. IsRefusal reply
             → KeepsAll (S.stored (store_of self.old)) (S.next_id (store_of self.old))
             (S.stored (store_of self.new)) (S.next_id (store_of self.new))) }
-        ensures under_way { IfOk result (λ turn. IsRefusal turn.reply → (token : ℕ)
+        ensures under_way { IfOk result (λ reply. IsRefusal reply → (token : ℕ)
             → id_under_way self.new token ≡ id_under_way self.old token) }
-        ensures over { IfOk result (λ turn. ¬ (IsRefusal turn.reply) → (token : ℕ)
-            → HandsOver (view frame.line) token → asks_for_body turn.reply ≡ false
-            → Ends token turn.reply (id_under_way self.old) (id_under_way self.new)) }
-        ensures id { IfOk result (λ turn. (id : ℕ)
+        ensures over { IfOk result (λ reply. ¬ (IsRefusal reply) → (token : ℕ)
+            → HandsOver (view frame.line) token → asks_for_body reply ≡ false
+            → Ends token reply (id_under_way self.old) (id_under_way self.new)) }
+        ensures id { IfOk result (λ reply. (id : ℕ)
             → number_under (codes "ask") (view frame.line) ≡ Some id
-            → reply_id turn.reply ≡ Some id) }
-        ensures waits { IfOk result (λ turn. (id : ℕ)
+            → reply_id reply ≡ Some id) }
+        ensures waits { IfOk result (λ reply. (id : ℕ)
             → number_under (codes "ask") (view frame.line) ≡ Some id
-            → NamesUnderWay turn.reply (id_under_way self.old)) }
-        ensures only { IfOk result (λ turn. (id : ℕ)
+            → NamesUnderWay reply (id_under_way self.old)) }
+        ensures only { IfOk result (λ reply. (id : ℕ)
             → number_under (codes "ask") (view frame.line) ≡ Some id
-            → IsOnlyCheck turn.reply (is_being_validated self.old)
+            → IsOnlyCheck reply (is_being_validated self.old)
             (validated_under_way self.new)) }
         ensures rest { HasRest (view frame.line)
             → S.next_id (store_of self.new) ≡ S.next_id (store_of self.old) }
@@ -272,10 +269,7 @@ impl<S: Store + Drop> Session<S> {
             return Ok(self.error(Reason::NoSuchFrame, id, token));
         };
         match self.reply_to(alloc, operation, frame, stored) {
-            Ok(reply) => Ok(Turn {
-                reply,
-                is_last: matches!(operation, Operation::Quit(_)),
-            }),
+            Ok(reply) => Ok(reply),
             Err(Fault::Refused(reason)) => Ok(self.error(reason, id, token)),
             Err(Fault::Lost) => Err(Lost),
         }

@@ -1,9 +1,9 @@
 -- One more frame has its reply, whether the loop continues or ends.
-use Rattle.std.proofs.Common.{[], ◌∷◌, ◌++◌, refl, sym, subst, append-nil}
+use Rattle.std.proofs.Common.{[], ◌∷◌, ◌++◌, inl, inr, refl, sym, subst, append-nil}
 use Rattle.http_cache_frames.specs.Served.{HasWritten, TakesFrame, greeting}
 use Rattle.http_cache_frames.specs.declared.input.Next.TheVariants as next
 use Rattle.http_cache_frames.specs.Reply.{reply_text}
-use Rattle.http_cache_frames.proofs.TurnLemmas.{one_more, one_text_more, text_of_one_more, begins_with, ends_well, ends_without_memory, ends_reading, ends_putting, ends_greeting, ends_broken}
+use Rattle.http_cache_frames.proofs.TurnLemmas.{one_more, one_text_more, text_of_one_more, begins_with, ends_well, ends_unreadable, ends_without_memory, ends_reading, ends_putting, ends_greeting, ends_broken}
 use Rattle.http_cache_frames.proofs.serving.turns.Goals as goal
 
 pub returns-in-Err : goal.returns-in-Err
@@ -25,7 +25,8 @@ pub returns-in-Ok-End : goal.returns-in-Ok-End
 returns-in-Ok-End g c = λ left base had before.
     let (frames, replies, taken, each, texts, has, written) = c.loop.invariant left base had before in
     ends_well g.A.Answers.is_reply c.args.answers.now c.loop.answers left base _ _ frames replies each
-    (begins_with left _ _ taken frames texts has) (c.in-Ok-End.ensures.text base _ written)
+    (begins_with left _ _ taken frames texts has) (inl (c.in-Ok-End.ensures.end c.in-Ok-End.field-0-is left taken has))
+    (c.in-Ok-End.ensures.text base _ written)
 
 pub returns-in-Ok-Broken : goal.returns-in-Ok-Broken
 returns-in-Ok-Broken g c = λ left base had before.
@@ -55,13 +56,13 @@ returns-in-Err-put g c = λ left base had before.
     (g.R.Read.remaining c.next.new.self.from) c.next.new.self.ahead.items) c.in-Ok-Frame.field-0-is c.in-Ok-Frame.ensures.taken in
     let (text, is, takes) = got in
     ends_putting g.A.Answers.is_reply c.args.answers.now c.loop.answers c.answer.new.self left base _ _ _ _ frames replies
-    f c.in-Ok.turn.reply c.in-Err-put.ended each (begins_with left _ _ taken frames texts has)
+    f c.in-Ok.reply c.in-Err-put.ended each (begins_with left _ _ taken frames texts has)
     (c.in-Ok-Frame.ensures.text base _ written) c.in-Ok.ensures.is_reply
     (begins_with left _ _ (taken ++ text) (frames ++ f ∷ []) (one_text_more frames taken text f texts is) (takes left taken has))
     c.in-Err-put.ensures.ended
 
-pub returns-then-turn : goal.returns-then-turn
-returns-then-turn g c = λ left base had before.
+pub returns-then-is_quit : goal.returns-then-is_quit
+returns-then-is_quit g c = λ left base had before.
     let (frames, replies, taken, each, texts, has, written) = c.loop.invariant left base had before in
     let f = c.in-Ok-Frame.frame in
     let got : TakesFrame (next.Frame f) (g.R.Read.remaining c.loop.input.from) c.loop.input.ahead.items
@@ -69,10 +70,11 @@ returns-then-turn g c = λ left base had before.
     subst (λ it. TakesFrame it (g.R.Read.remaining c.loop.input.from) c.loop.input.ahead.items
     (g.R.Read.remaining c.next.new.self.from) c.next.new.self.ahead.items) c.in-Ok-Frame.field-0-is c.in-Ok-Frame.ensures.taken in
     let (text, is, takes) = got in
-    let r = c.in-Ok.turn.reply in
+    let r = c.in-Ok.reply in
     ends_well g.A.Answers.is_reply c.args.answers.now c.answer.new.self left base _ _ (frames ++ f ∷ []) (replies ++ r ∷ [])
     (one_more g.A.Answers.is_reply c.args.answers.now c.loop.answers c.answer.new.self frames replies f r each c.in-Ok.ensures.is_reply)
     (begins_with left _ _ (taken ++ text) (frames ++ f ∷ []) (one_text_more frames taken text f texts is) (takes left taken has))
+    (inr (replies, r, refl, c.is_quit.ensures c.if-is_quit.true))
     (subst (HasWritten base _ _) (sym (text_of_one_more (greeting ∷ replies) r))
     (c.in_default-put.ensures.ok base _ (c.in-Ok-Frame.ensures.text base _ written)))
 
@@ -85,7 +87,7 @@ loop-preserved g c = λ left base had before.
     subst (λ it. TakesFrame it (g.R.Read.remaining c.loop.input.from) c.loop.input.ahead.items
     (g.R.Read.remaining c.next.new.self.from) c.next.new.self.ahead.items) c.in-Ok-Frame.field-0-is c.in-Ok-Frame.ensures.taken in
     let (text, is, takes) = got in
-    let r = c.in-Ok.turn.reply in (
+    let r = c.in-Ok.reply in (
       frames ++ f ∷ [],
       replies ++ r ∷ [],
       taken ++ text,
@@ -100,5 +102,5 @@ loop-preserved g c = λ left base had before.
 pub returns : goal.returns
 returns g c = λ left base had before.
     let (frames, replies, taken, each, texts, has, written) = c.loop.invariant left base had before in
-    ends_well g.A.Answers.is_reply c.args.answers.now c.loop.answers left base _ _ frames replies each
+    ends_unreadable g.A.Answers.is_reply c.args.answers.now c.loop.answers left base _ _ frames replies each
     (begins_with left _ _ taken frames texts has) written

@@ -1,10 +1,11 @@
 -- The line ahead and what follows it are taken.
-use Rattle.std.proofs.Common.{arith, ◌≡◌, ◌∙◌, ap, subst, drop}
+use Rattle.std.proofs.Common.{arith, ◌≡◌, ◌∙◌, ap, subst, drop, length}
+use Rattle.std.proofs.lemmas.Bool.Decides.{nat_tests}
 use Rattle.std.proofs.lemmas.Result.{IfOk-weaker}
 use Rattle.http_cache_frames.specs.Front.{IsLine}
 use Rattle.http_cache_frames.specs.Served.{IsAhead, TakesContent}
 use Rattle.http_cache_frames.proofs.LineEndLemmas.{line_there}
-use Rattle.http_cache_frames.proofs.ServedLemmas.{frame_taken}
+use Rattle.http_cache_frames.proofs.ServedLemmas.{all_taken, frame_taken}
 use Rattle.http_cache_frames.proofs.input.Input.next.Goals as goal
 
 pub returns-in-Line-clause-taken : goal.returns-in-Line-clause-taken
@@ -25,3 +26,13 @@ returns-in-Line-clause-taken g c =
     c.in_ok-announced.ensures.taken line
     (subst (λ it_ahead. TakesContent it a left it_ahead left_then ahead_then) rest taken))
     c.after_line.ensures.taken
+
+pub returns-in-Line-clause-end : goal.returns-in-Line-clause-end
+returns-in-Line-clause-end g c =
+    IfOk-weaker c.after_line.result _ _ (λ it begun is. absurd (begun is)) c.after_line.ensures.begun
+
+pub returns-in-Partial-clause-end : goal.returns-in-Partial-clause-end
+returns-in-Partial-clause-end g c = λ _ base taken has.
+    let empty : length c.line.new.self.ahead.items ≡ 0 = grind (arith, nat_tests) in
+    all_taken base (g.R.Read.remaining c.line.new.self.from) c.line.new.self.ahead.items taken
+    (c.in_ok-announced.ensures.taken base taken has) (c.in_ok-announced.ensures.end c.in-Partial.is) empty
