@@ -76,7 +76,7 @@ class Proxy(Cache):
 
     def receive(self, line, token, response):
         if is_cut(token.request.method, response):
-            return self.lose(line, token, response.received, "invalid")
+            return self.lose({}, token, response.received, "invalid")
         return super().receive(line, token, response)
 
     def passed_on(self, line, token, response, **said):
