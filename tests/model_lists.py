@@ -221,7 +221,7 @@ class List:
     # Other frames
 
     def rare(self):
-        target = self.random.choice(["http://a.test/1", "https://A.test/2", "http://b.test/1"])
+        target = self.random.choice(["http://a.test/1", "http://a.test:80/1", "https://A.test/2", "http://b.test/1"])
         return self.random.choice([
             ({"remove": self.number(), "target": target}, b"", b""),
             ({"sweep": self.number(), "at": self.now}, b"", b""),
@@ -231,9 +231,6 @@ class List:
     def wrong(self):
         """Returns a frame that is refused, or an outcome of a token that may not be under way."""
         number = self.random.randint(0, self.cache.next_token + 1)
-        # What a `received` after an `answer` with `store` does isn't compared.
-        if number in self.cache.under_way and self.cache.under_way[number].state == "collect":
-            number = 0
         asked = head_text("GET /1 HTTP/1.1", [("Host", "a.test")])
         sent = [token.number for token in self.cache.under_way.values() if token.state in ("sent", "more")]
         return self.random.choice([

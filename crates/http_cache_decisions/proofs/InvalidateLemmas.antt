@@ -10,7 +10,7 @@ use Rattle.http_cache_decisions.specs.Invalidate.{IsNamedInField, AreInvalidated
 
 module _ (request : Request (List ℕ)) (head : Parts) where
   -- a field adds the target that it names to the old ones
-  pub abbrev AddsNamed : List ℕ → List Target → List Target → Type 0
+  abbrev pub AddsNamed : List ℕ → List Target → List Target → Type 0
   AddsNamed field old new =
       (named : Option (List ℕ)) × IsNamedInField request (first_text (headers_of head.headers) field) named
       × (map text_of new ≡ map text_of old ++ list_of named)

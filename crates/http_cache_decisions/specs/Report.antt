@@ -1,5 +1,5 @@
 -- An answer with the client's member of Cache-Status (RFC 9211, section 2).
-use Rattle.std.specs.Prelude.{◌≡◌, ◌⊎◌, ◌==◌, ◌&&◌, ℕ, not, List, [], ◌++◌, length, codes, if◌then◌else◌}
+use Rattle.std.specs.Prelude.{◌≡◌, ◌⊎◌, ◌&&◌, ℕ, nat_lt, List, [], ◌++◌, length, codes, if◌then◌else◌}
 use Rattle.std.specs.List.{flat_map}
 use Rattle.http.specs.declared.response.Parts.{Parts}
 use Rattle.http_cache_fields.specs.Headers.{Headers, headers_of, set, values, RefusesName}
@@ -8,7 +8,7 @@ use Rattle.http_cache_reasons.specs.Member.{MemberSeen, member_text}
 
 -- the members on a line of Cache-Status, and a comma; a line that is empty or isn't text has none
 abbrev pub earlier_member : List ℕ → List ℕ
-earlier_member line = if is_text line && not (length line == 0) then line ++ codes ", " else []
+earlier_member line = if is_text line && nat_lt 0 (length line) then line ++ codes ", " else []
 
 -- the members of earlier caches
 abbrev pub earlier_members : List (List ℕ) → List ℕ

@@ -102,7 +102,8 @@ fn push_member(text: &mut String, value: &HeaderValue) -> Result<(), AllocError>
         return Ok(());
     }
     text.push_str(line)?;
-    text.push_str(", ")
+    text.push_str(", ")?;
+    Ok(())
 }
 
 // Returns the members of earlier caches, each followed by a comma.

@@ -89,6 +89,8 @@ pub struct Coming {
     pub times: Times,
     /// The body so far.
     pub body: Vec<u8>,
+    /// Whether the head has answered the request, so that no other response can.
+    pub is_answer: bool,
 }
 
 impl Coming {
@@ -137,6 +139,14 @@ pub struct UnderWay {
 }
 
 impl UnderWay {
+    /// Returns whether the request has been answered by a head whose body is on its way.
+    pub fn has_answer_coming(&self) -> bool {
+        match &self.coming {
+            Some(coming) => coming.is_answer,
+            None => false,
+        }
+    }
+
     /// Returns whether a stored response is validated.
     pub fn validates(&self, id: ResponseId) -> bool
         ensures { result ≡ validates id.0 self.now }

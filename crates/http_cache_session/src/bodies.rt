@@ -122,6 +122,7 @@ impl<S: Store + Drop> Session<S> {
             head,
             times: *times,
             body: Vec::new(alloc),
+            is_answer,
         });
         Ok(Some(reply))
     }

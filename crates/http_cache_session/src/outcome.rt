@@ -112,7 +112,8 @@ impl<S: Store + Drop> Session<S> {
         self.invalidations.add_all(alloc, targets, next_token);
     }
 
-    // Returns the times of a response.
+    // Returns the times of a response. The request may not have been answered by another one, whose
+    // body is on its way.
     fn times_of(
         &self,
         token: u64,
@@ -120,11 +121,11 @@ impl<S: Store + Drop> Session<S> {
         received: Timestamp,
     ) -> Result<Times, Fault> {
         match self.under_way.by_token.get(&token) {
-            Some(under_way) => Ok(Times {
+            Some(under_way) if !under_way.has_answer_coming() => Ok(Times {
                 sent: sent.unwrap_or(under_way.sent),
                 received,
             }),
-            None => Err(Fault::Refused(Reason::UnknownToken)),
+            _ => Err(Fault::Refused(Reason::UnknownToken)),
         }
     }
 

@@ -7,6 +7,17 @@ use http_cache_store::Target;
 use http_uri::UriError;
 use std::alloc::Global;
 
+// Returns an authority without the default port of its scheme, as a Host has it (RFC 9110, section
+// 4.2.3).
+fn host_of<'a>(scheme: &str, authority: &'a str) -> &'a str {
+    let port = match scheme {
+        "http" => ":80",
+        "https" => ":443",
+        _ => "",
+    };
+    authority.strip_suffix(port).unwrap_or(authority)
+}
+
 /// Returns the targets of requests for a URI. One has the whole URI as its request target, the
 /// other only the path, with the host in Host.
 pub fn targets_of(alloc: Global, text: &str) -> Result<[Target; 2], Fault> {
@@ -16,10 +27,8 @@ pub fn targets_of(alloc: Global, text: &str) -> Result<[Target; 2], Fault> {
     };
     let mut headers = HeaderMap::new(alloc);
     let whole = Target::of(alloc, &uri, &headers)?;
-    if headers
-        .append(HOST, host_from(alloc, authority.as_str())?)
-        .is_err()
-    {
+    let host = host_of(uri.scheme_str().unwrap_or(""), authority.as_str());
+    if headers.append(HOST, host_from(alloc, host)?).is_err() {
         return Err(Fault::Refused(Reason::Memory));
     }
     let path = uri_from(alloc, path.as_str())?;

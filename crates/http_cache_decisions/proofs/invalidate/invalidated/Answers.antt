@@ -1,6 +1,6 @@
 -- The own target is the first of the removed ones, and the fields add theirs.
 use Rattle.std.proofs.Common.{◌≡◌, rules, subst}
-use Rattle.std.specs.Prelude.{List, ℕ, Option, map, ◌++◌, [], ◌∷◌, codes}
+use Rattle.std.specs.Prelude.{List, ℕ, Option, map, option_copied, ◌++◌, [], ◌∷◌, codes}
 use Rattle.http_cache_store.specs.Target.{text_of}
 use Rattle.http_cache_store.specs.declared.target.Target.{Target}
 use Rattle.http_cache_decisions.specs.Invalidate.{IsNamedInField, list_of, requested}
