@@ -142,15 +142,15 @@ module _ (mark : List ℕ → List ℕ) (may_fail : Type 0) (options : Options) 
             (subst (λ (e : Exchange). selects e (response_seen (head_of response)) ≡ false) same
             (subst (λ (h : Parts). selects one.policy (response_seen h) ≡ false) of.head other))
         | inr (inl old) ↦ inr (inl (record {
-            arrived = a;
-            of = of;
-            cause = inl (subst (λ (e : Exchange). CannotBeRenewed a e) same old);
-          }))
+          arrived = a;
+          of = of;
+          cause = inl (subst (λ (e : Exchange). CannotBeRenewed a e) same old);
+        }))
         | inr (inr sent) ↦ inr (inl (record {
-            arrived = a;
-            of = of;
-            cause = inr (subst (λ (e : Exchange). CannotAnswer a e options) same sent);
-          }))
+          arrived = a;
+          of = of;
+          cause = inr (subst (λ (e : Exchange). CannotAnswer a e options) same sent);
+        }))
       ])
 
   unconfirmed_in : (last : StoredByTarget) (a : Arrived) → IsArrival request response (Some id) times a

@@ -42,9 +42,9 @@ before_last-at s i j inside h =
     let suffix : suffix_len (λ b. not (b == 47)) s ≡ length s - (i + 1) =
     suffix_len_is (λ b. not (b == 47)) s (i + 1) 0 (omega (arith, ends, inside))
     (λ k from below.
-        let other = NoCharPasses-char 47 (drop j s) (k - j) h.0 (lit< tt) (grind (arith, common_steps)) in
-        let same : slice_index_or (drop j s) (k - j) 0 ≡ slice_index_or s k 0 = grind (arith, common_steps) in
-        grind (arith, nat_tests))
+    let other = NoCharPasses-char 47 (drop j s) (k - j) h.0 (lit< tt) (grind (arith, common_steps)) in
+    let same : slice_index_or (drop j s) (k - j) 0 ≡ slice_index_or s k 0 = grind (arith, common_steps) in
+    grind (arith, nat_tests))
     (λ _. grind (arith, nat_tests)) in
     ap (λ (n : ℕ). take n s) (omega (arith, suffix, ends, inside))
 

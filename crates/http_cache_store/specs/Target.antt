@@ -79,7 +79,7 @@ module _ (uri : Uri) (headers : Headers) where
       IsNamedByText (scheme_of uri) (authority_of uri headers) (with_scheme (scheme_of uri) reference) named
   IsNamedIn false reference named =
       named ≡ Some (text_after (origin_text uri headers) (resolved_path (uri_path uri) (path_of reference))
-          (resolved_query (uri_query uri) (path_of reference) (query_of reference)))
+      (resolved_query (uri_query uri) (path_of reference) (query_of reference)))
 
   -- the text of the target that a reference names, if it names one with the request's origin
   abbrev pub IsNamed : List ℕ → Option (List ℕ) → Type 0

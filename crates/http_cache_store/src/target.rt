@@ -9,7 +9,9 @@ ghost use Rattle.http_cache_store.specs.Target.{text_of, target_text, without_en
 ghost use Rattle.http_cache_store.specs.Target.{scheme_of, authority_of, text_after, is_same_origin, named_by, IsNamedByText, IsNamed};
 ghost use Rattle.http_cache_store.specs.Reference.{path_of, query_of, resolved_path, resolved_query, with_scheme, without_dots};
 
-use crate::reference::{merged, names_host, split_query, with_scheme, without_dots, without_fragment};
+use crate::reference::{
+    merged, names_host, split_query, with_scheme, without_dots, without_fragment,
+};
 use http::header::HOST;
 use http::{HeaderMap, Uri};
 use http_cache_fields::headers::first_text;

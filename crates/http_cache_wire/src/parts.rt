@@ -5,11 +5,11 @@ ghost use Rattle.http_cache_wire.specs.Wire.{later_check, waits_for};
 
 use bytes::Bytes;
 use http::{Method, Request, Response, StatusCode, request, response};
+use http_cache_decisions::Body;
 use http_cache_fields::CacheError;
 use http_cache_frames::{Notice, Reply};
 use http_cache_intermediary::length::has_content;
 use http_cache_intermediary::{Content, Intermediary};
-use http_cache_decisions::Body;
 use http_heads::{bytes_of_request, bytes_of_response};
 use jiff::Timestamp;
 use std::alloc::{AllocError, Global};
